@@ -352,7 +352,7 @@ print("""\
 /// then six records of the last tag, 16, and then datagrams of the kinds 30 to 37 and records of the tags 12 to 15, four of each,
 /// in hexadecimal. A semicolon ends an entry. A mark `_` stands where a basic field of the body begins, as the other
 /// implementation says where it meets a cut.
-pub const ENTRIES: &str = "\
+pub const VECTORS: &str = "\
 """)
 for entry in [*datagrams(), *records(), *floors(), *renewed(), *sessions(), *turns(), *replacing()]:
     entry += ";"

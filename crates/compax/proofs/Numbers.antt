@@ -8,7 +8,7 @@ use Rattle.clap.specs.declared.parser.matches.Found.{Found}
 use Rattle.clap.specs.declared.builder.value_parser.ValueParser.TheVariants as parser
 use Rattle.clap.proofs.WalkLemmas.{one_text-rows}
 use Rattle.clap.proofs.ValueTestLemmas.{accepts-Accepts, Accepts-accepts}
-use Rattle.compax.specs.Words.{number_of, number_at}
+use Rattle.compax.specs.Words.{text_number, number_at}
 
 -- the getter of a number at a type of `bits` bits
 pub number_at-read : {E : Type 0} (bits most : ℕ) (G : List ℕ → Result ℕ E → Type 0) (f : Found) (id : Text) (r : Option ℕ) → most + 1 ≡ 2 ^ bits → 2 ^ bits ≤ 2 ^ 64
@@ -16,7 +16,7 @@ pub number_at-read : {E : Type 0} (bits most : ℕ) (G : List ℕ → Result ℕ
     → (one_text f id ≡ None → r ≡ None) → ((t : Text) → one_text f id ≡ Some t → ReadsOne G t r) → r ≡ number_at most id (rows_of f)
 number_at-read {E} bits most G f id r top within parses none value = rw (← one_text-rows f id) (go (one_text f id) refl)
   where
-    found : (t : Text) (q : Option ℕ) → ReadsOne G t q → q ≡ number_of most t
+    found : (t : Text) (q : Option ℕ) → ReadsOne G t q → q ≡ text_number most t
     found t (Some n) g =
         let h = parses t (Ok n) g in
         let in_range : is_unsigned_in 0 most t ≡ true = Accepts-accepts false (parser.Unsigned 0 most) t (h.0.0, omega arith, omega arith, omega arith) in
@@ -29,6 +29,6 @@ number_at-read {E} bits most G f id r top within parses none value = rw (← one
           | inr refused ↦ rw refused refl
         ]
 
-    go : (o : Option Text) → one_text f id ≡ o → r ≡ option_and_then (number_of most) o
+    go : (o : Option Text) → one_text f id ≡ o → r ≡ option_and_then (text_number most) o
     go None is = none is
     go (Some t) is = found t r (value t is)

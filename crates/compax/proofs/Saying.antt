@@ -7,13 +7,13 @@ use Rattle.std.proofs.Math.Seq.{take-append_seam, take-append-add}
 use Rattle.std.specs.Io.KnownBytes.{Appends}
 use Rattle.std.proofs.KnownBytes.{Appends-trans}
 use Rattle.cx_base.specs.Faults.{Rises}
-use Rattle.cx_edge.specs.Sink.{AppendsPart, Says}
+use Rattle.cx_edge.specs.Sink.{AppendsPart, SaysText}
 
 rises_later : (m n k : ℕ) → m ≤ n → Rises n k → Rises m k
 rises_later m n k later rises = grind (arith)
 
 -- a part of the first text was written
-pub says_part : (a b : Option (List ℕ)) (m n : ℕ) (text more : List ℕ) → AppendsPart a b text → Rises m n → Says a b m n (text ++ more)
+pub says_part : (a b : Option (List ℕ)) (m n : ℕ) (text more : List ℕ) → AppendsPart a b text → Rises m n → SaysText a b m n (text ++ more)
 says_part a b m n text more part rises =
     let k = part.0 in
     let front = take k text in
@@ -23,7 +23,7 @@ says_part a b m n text more part rises =
     inr ((length front, subst (Appends a b) (sym taken) part.1), rises)
 
 -- the first text was written, and then the rest
-pub says_more : (a b c : Option (List ℕ)) (m n k : ℕ) (text more : List ℕ) → Appends a b text → n ≡ m → Says b c n k more → Says a c m k (text ++ more)
+pub says_more : (a b c : Option (List ℕ)) (m n k : ℕ) (text more : List ℕ) → Appends a b text → n ≡ m → SaysText b c n k more → SaysText a c m k (text ++ more)
 says_more a b c m n k text more first still (inl rest) = inl (Appends-trans a b c text more first rest)
 says_more a b c m n k text more first still (inr (part, rises)) =
     let taken = take-append-add text more part.0 in
@@ -53,9 +53,9 @@ module _ {X : Type 0} (text : X → List ℕ) where
 
   -- the parts before a place were written, and a part of the one there
   pub parts_end : (a b c : Option (List ℕ)) (m n k : ℕ) (parts : List X) (i : ℕ) (d : X) → i < length parts → Appends a b (concat (map text (take i parts)))
-      → n ≡ m → AppendsPart b c (text (get_or parts i d)) → Rises n k → Says a c m k (concat (map text parts))
+      → n ≡ m → AppendsPart b c (text (get_or parts i d)) → Rises n k → SaysText a c m k (concat (map text parts))
   parts_end a b c m n k parts i d lt first still part rises =
-      subst (Says a c m k) (concat_at parts i d lt)
+      subst (SaysText a c m k) (concat_at parts i d lt)
       (says_more a b c m n k _ _ first still (says_part b c n k (text (get_or parts i d)) (concat (map text (drop (suc i) parts))) part rises))
 
 -- ---- a role's text among parts

@@ -6,7 +6,7 @@ use Rattle.clap.specs.Words.{Row, Text, fault_of, subcommand_of}
 use Rattle.cx_base.specs.declared.role.RoleId.{RoleId}
 use Rattle.compax.specs.declared.words.Invocation.{Invocation}
 use Rattle.compax.specs.declared.words.Invocation.TheVariants.{Replay, Generate, Node}
-use Rattle.compax.specs.Words.{asked_by, command, generated, has_no_kind, hosted, is_set, most_seed, most_u8, most_u32, node_with, number_at, roles_at, said, window_of}
+use Rattle.compax.specs.Words.{asked_by, compax_app, generated, has_no_kind, hosted, is_set, most_seed, most_u8, most_u32, node_with, number_at, roles_at, said, window_of}
 
 -- what is asked for is no node, or one whose window fits
 abbrev Fits : Option Invocation → Type 0
@@ -54,7 +54,7 @@ asked_fits (Some (name, rows)) =
 
 said_fits : (words : List Text) → Fits (said words)
 unfolding said
-said_fits words = either (has_no_kind (fault_of command words)) (option_and_then asked_by (subcommand_of command words)) None (asked_fits (subcommand_of command words)) tt
+said_fits words = either (has_no_kind (fault_of compax_app words)) (option_and_then asked_by (subcommand_of compax_app words)) None (asked_fits (subcommand_of compax_app words)) tt
 
 -- the window of a node that words ask for
 pub window_fits : (words : List Text) (turns : ℕ) (tend : Option ℕ) (window : ℕ) (recording : Bool) (roles : List RoleId) → said words ≡ Some (Node turns tend window recording roles) → (1 ≤ window) × (window ≤ 64)

@@ -54,8 +54,8 @@ record_rule = record (new_rule (codes "record")) { long = Some (codes "record");
 abbrev pub roles_rule : Rule
 roles_rule = record (new_rule (codes "ROLE")) { required = true; range = Some (record { start_inclusive = 1; end_inclusive = usize_max }) }
 
-abbrev pub replay : App
-replay = new_app (codes "replay")
+abbrev pub replay_app : App
+replay_app = new_app (codes "replay")
 
 abbrev pub generate : App
 generate = with_rule (with_rule (new_app (codes "gen")) seed_rule) count_rule
@@ -70,18 +70,18 @@ node = with_rule node_options roles_rule
 abbrev pub requires_subcommand : App → App
 requires_subcommand a = record a { top = record a.top { subcommand_required = true } }
 
-abbrev pub command : App
-command = with_subcommand (with_subcommand (with_subcommand (requires_subcommand (new_app (codes "compax"))) replay.top) generate.top) node.top
+abbrev pub compax_app : App
+compax_app = with_subcommand (with_subcommand (with_subcommand (requires_subcommand (new_app (codes "compax"))) replay_app.top) generate.top) node.top
 
 -- ---- what the words say
 
 -- the number up to `most` that a text reads as
-abbrev pub number_of : ℕ → Text → Option ℕ
-number_of most text = if is_unsigned_in 0 most text then Some (digits_value 10 (without_leading_plus text)) else None
+abbrev pub text_number : ℕ → Text → Option ℕ
+text_number most text = if is_unsigned_in 0 most text then Some (digits_value 10 (without_leading_plus text)) else None
 
 -- the number under an id
 abbrev pub number_at : ℕ → Text → List Row → Option ℕ
-number_at most id rows = option_and_then (number_of most) (one_of id rows)
+number_at most id rows = option_and_then (text_number most) (one_of id rows)
 
 abbrev pub generated : List Row → Option Invocation
 generated rows = option_and_then (λ seed. option_map (Generate seed) (number_at most_count (codes "COUNT") rows)) (number_at most_seed (codes "SEED") rows)
@@ -123,9 +123,9 @@ has_no_kind (kind ∷ kinds) = false
 
 -- the subcommand and its values, none where the words give a fault
 unfoldable pub said : List Text → Option Invocation
-said words = if has_no_kind (fault_of command words) then option_and_then asked_by (subcommand_of command words) else None
+said words = if has_no_kind (fault_of compax_app words) then option_and_then asked_by (subcommand_of compax_app words) else None
 
 -- these are the matches of words, or they give a fault
 abbrev pub IsMatch : List Text → Option ArgMatches → Type 0
-IsMatch words None = has_no_kind (fault_of command words) ≡ false
-IsMatch words (Some matches) = (has_no_kind (fault_of command words) ≡ true) × (subcommand_rows_of matches ≡ subcommand_of command words)
+IsMatch words None = has_no_kind (fault_of compax_app words) ≡ false
+IsMatch words (Some matches) = (has_no_kind (fault_of compax_app words) ≡ true) × (subcommand_rows_of matches ≡ subcommand_of compax_app words)

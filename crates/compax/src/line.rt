@@ -3,7 +3,7 @@
 ghost use Rattle.std.specs.Prelude.{◌≡◌, ◌≤◌, ◌++◌, ◌∷◌, [], codes, decimal, map};
 ghost use Rattle.std.specs.List.{concat};
 ghost use Rattle.cx_base.specs.Role.{role_text};
-ghost use Rattle.cx_edge.specs.Sink.{Says};
+ghost use Rattle.cx_edge.specs.Sink.{SaysText};
 ghost use Rattle.compax.specs.Line.{line_of};
 
 use cx_base::{RoleId, Status};
@@ -11,14 +11,14 @@ use cx_edge::{Sink, write_all};
 use itoa::Buffer;
 
 fn write<E: Sink>(err: &mut E, text: &[u8])
-    ensures { Says (E.taken err.old) (E.taken err.new) (E.faults err.old) (E.faults err.new) text.now }
+    ensures { SaysText (E.taken err.old) (E.taken err.new) (E.faults err.old) (E.faults err.new) text.now }
 {
     let _written = write_all(err, text);
 }
 
 // Writes a text in parts, up to a write that fails.
 fn write_parts<E: Sink>(err: &mut E, parts: &[&[u8]])
-    ensures { Says (E.taken err.old) (E.taken err.new) (E.faults err.old) (E.faults err.new)
+    ensures { SaysText (E.taken err.old) (E.taken err.new) (E.faults err.old) (E.faults err.new)
         (concat (map (λ part. part.now) parts.now)) }
 {
     for part in parts {
@@ -29,7 +29,7 @@ fn write_parts<E: Sink>(err: &mut E, parts: &[&[u8]])
 }
 
 fn write_bad_input<E: Sink>(err: &mut E, line: u64)
-    ensures { Says (E.taken err.old) (E.taken err.new) (E.faults err.old) (E.faults err.new)
+    ensures { SaysText (E.taken err.old) (E.taken err.new) (E.faults err.old) (E.faults err.new)
         (codes "bad input at line " ++ decimal line ++ codes "\n") }
 {
     let mut buffer = Buffer::new();
@@ -38,7 +38,7 @@ fn write_bad_input<E: Sink>(err: &mut E, line: u64)
 }
 
 fn write_store_fault<E: Sink>(err: &mut E, role: RoleId)
-    ensures { Says (E.taken err.old) (E.taken err.new) (E.faults err.old) (E.faults err.new)
+    ensures { SaysText (E.taken err.old) (E.taken err.new) (E.faults err.old) (E.faults err.new)
         (codes "store failed: " ++ role_text role ++ codes "\n") }
 {
     let kind = role.kind.text().as_bytes();
@@ -48,7 +48,7 @@ fn write_store_fault<E: Sink>(err: &mut E, role: RoleId)
 }
 
 fn write_not_fresh<E: Sink>(err: &mut E, role: RoleId)
-    ensures { Says (E.taken err.old) (E.taken err.new) (E.faults err.old) (E.faults err.new)
+    ensures { SaysText (E.taken err.old) (E.taken err.new) (E.faults err.old) (E.faults err.new)
         (codes "store not empty: " ++ role_text role ++ codes "\n") }
 {
     let kind = role.kind.text().as_bytes();
@@ -58,7 +58,7 @@ fn write_not_fresh<E: Sink>(err: &mut E, role: RoleId)
 }
 
 fn write_bad_store<E: Sink>(err: &mut E, role: RoleId, at: u64)
-    ensures { Says (E.taken err.old) (E.taken err.new) (E.faults err.old) (E.faults err.new)
+    ensures { SaysText (E.taken err.old) (E.taken err.new) (E.faults err.old) (E.faults err.new)
         (codes "bad store: " ++ role_text role ++ codes " at " ++ decimal at ++ codes "\n") }
 {
     let kind = role.kind.text().as_bytes();
@@ -72,9 +72,9 @@ fn write_bad_store<E: Sink>(err: &mut E, role: RoleId, at: u64)
     );
 }
 
-/// Writes the line of a status, which is empty where all went well. It takes no memory.
+/// Writes the line of a status, which is empty where all went well.
 pub fn write_line<E: Sink>(err: &mut E, status: &Status)
-    ensures { Says (E.taken err.old) (E.taken err.new) (E.faults err.old) (E.faults err.new) (line_of status.now) }
+    ensures { SaysText (E.taken err.old) (E.taken err.new) (E.faults err.old) (E.faults err.new) (line_of status.now) }
 {
     match status {
         Status::Done => write(err, b""),

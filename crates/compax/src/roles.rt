@@ -28,11 +28,11 @@ const KINDS: [Kind; 10] = [
 
 /// Roles of which none is named twice, in the order in which they were named.
 #[derive(Drop)]
-pub struct Roles {
+pub struct NamedRoles {
     list: Vec<RoleId>,
 }
 
-impl Model for Roles {
+impl Model for NamedRoles {
     ghost use Rattle.std.specs.Prelude.{◌≡◌, List, true};
     ghost use Rattle.cx_base.specs.declared.role.RoleId.{RoleId};
     ghost use Rattle.compax.specs.Roles.{stand_once};
@@ -116,13 +116,13 @@ fn stand_once(roles: &[RoleId]) -> bool
     true
 }
 
-impl Roles {
+impl NamedRoles {
     /// The roles that words name, in their order. None exactly where a word names no role, or one is named twice.
     pub fn named(alloc: Global, words: &[&str]) -> Result<Option<Self>, AllocError>
         ensures { IfOk result (λ roles. roles ≡ roles_of (map (λ word. word.now) words.now)) }
     {
         match all_roles(alloc, words)? {
-            Some(list) if stand_once(&list) => Ok(Some(Roles { list })),
+            Some(list) if stand_once(&list) => Ok(Some(NamedRoles { list })),
             _ => Ok(None),
         }
     }

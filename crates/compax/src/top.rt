@@ -1,9 +1,9 @@
 //! All that the program does, over what it is handed.
 
 ghost use Rattle.std.specs.Prelude.{◌≡◌, [], map, string_bytes};
-ghost use Rattle.cx_edge.specs.Sink.{Says};
+ghost use Rattle.cx_edge.specs.Sink.{SaysText};
 ghost use Rattle.cx_node.specs.Serving.{outside};
-ghost use Rattle.compax.specs.Answer.{Answered, IsLawfulAnswer};
+ghost use Rattle.compax.specs.Answer.{IsTopAnswer, IsLawfulAnswer};
 ghost use Rattle.compax.specs.Line.{line_of};
 ghost use Rattle.compax.specs.Words.{said};
 
@@ -25,7 +25,7 @@ fn answer<S: Source, W: Sink, L: Link, D: Depot>(
     depot: &mut D,
 ) -> Status
     requires lent { D.out depot.old ≡ [] }
-    ensures answered { Answered (said (map string_bytes words.now))
+    ensures answered { IsTopAnswer (said (map string_bytes words.now))
         (outside S.Source L.Link D.Depot W.Sink input.old link.old depot.old out.old)
         (outside S.Source L.Link D.Depot W.Sink input.new link.new depot.new out.new) result }
     ensures given_back { D.out depot.new ≡ [] }
@@ -80,12 +80,12 @@ pub fn top<S: Source, W: Sink, E: Sink, L: Link, D: Depot>(
     depot: &mut D,
 ) -> Status
     requires lent { D.out depot.old ≡ [] }
-    ensures answered { Answered (said (map string_bytes words.now))
+    ensures answered { IsTopAnswer (said (map string_bytes words.now))
         (outside S.Source L.Link D.Depot W.Sink input.old link.old depot.old out.old)
         (outside S.Source L.Link D.Depot W.Sink input.new link.new depot.new out.new) result }
     ensures given_back { D.out depot.new ≡ [] }
     ensures lawful { IsLawfulAnswer (said (map string_bytes words.now)) (S.left input.old) (S.left input.new) }
-    ensures line { Says (E.taken err.old) (E.taken err.new) (E.faults err.old) (E.faults err.new) (line_of result) }
+    ensures line { SaysText (E.taken err.old) (E.taken err.new) (E.faults err.old) (E.faults err.new) (line_of result) }
 {
     let status = answer(alloc, words, input, out, link, depot);
     write_line(err, &status);

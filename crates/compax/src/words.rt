@@ -6,9 +6,9 @@ ghost use Rattle.clap.specs.declared.builder.command.Command.TheViews.{out-Comma
 ghost use Rattle.cx_base.specs.declared.role.Kind.TheVariants.{Batcher, Client};
 ghost use Rattle.cx_base.specs.Role.{role};
 ghost use Rattle.compax.specs.declared.words.Invocation.TheVariants.{Generate as Gen, Node as Host, Replay};
-ghost use Rattle.compax.specs.Words.{IsMatch, asked_by, command, count_rule, generate, generated, hosted, is_set, most_count, most_seed, most_u32, most_u8, node, node_options, number_at, record_rule, roles_at, roles_rule, said, seed_rule, tend_rule, turns_rule, window_at, window_rule};
+ghost use Rattle.compax.specs.Words.{IsMatch, asked_by, compax_app, count_rule, generate, generated, hosted, is_set, most_count, most_seed, most_u32, most_u8, node, node_options, number_at, record_rule, roles_at, roles_rule, said, seed_rule, tend_rule, turns_rule, window_at, window_rule};
 
-use crate::roles::Roles;
+use crate::roles::NamedRoles;
 use clap::error::ErrorKind;
 use clap::{Arg, ArgAction, ArgMatches, Command, value_parser};
 use std::alloc::{AllocError, Global};
@@ -30,7 +30,7 @@ pub enum Invocation {
         tend: Option<u32>,
         window: u8,
         recording: bool,
-        roles: Roles,
+        roles: NamedRoles,
     },
 }
 
@@ -126,7 +126,7 @@ fn node<'a>(alloc: Global) -> Result<Command<'a>, AllocError>
 }
 
 fn command<'a>(alloc: Global) -> Result<Command<'a>, AllocError>
-    ensures { IfOk result (λ c. app_of c ≡ command) }
+    ensures { IfOk result (λ c. app_of c ≡ compax_app) }
 {
     Command::new(alloc, "compax")
         .subcommand_required(true)
@@ -193,11 +193,11 @@ fn recording_given(matches: &ArgMatches) -> bool
     matches.get_one::<bool>("record").unwrap_or(false)
 }
 
-fn roles_given(alloc: Global, matches: &ArgMatches) -> Result<Option<Roles>, AllocError>
+fn roles_given(alloc: Global, matches: &ArgMatches) -> Result<Option<NamedRoles>, AllocError>
     ensures { IfOk result (λ roles. roles ≡ roles_at (codes "ROLE") (rows_of (found_of matches.now))) }
 {
     match matches.get_raw("ROLE") {
-        Some(words) => Roles::named(alloc, words),
+        Some(words) => NamedRoles::named(alloc, words),
         None => Ok(None),
     }
 }

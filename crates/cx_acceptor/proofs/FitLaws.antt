@@ -6,7 +6,7 @@ use Rattle.cx_role.proofs.Common.msg
 use Rattle.cx_role.proofs.Named.{body_named}
 use Rattle.std.proofs.lemmas.Bool.{ltb-false}
 use Rattle.cx_msg.specs.LetterParts.{PartsFit}
-use Rattle.cx_model.specs.Acceptor.{AcceptorDurable, acceptor_rules, is_of, phase2a_row, vote_at}
+use Rattle.cx_model.specs.Acceptor.{AcceptorDurable, acceptor_rules, is_of_round, phase2a_row, vote_at}
 
 module _ (s : Running AcceptorDurable (Unit {0})) (i : Round) (n cw : ℕ) (v : Value) where
   phase2a_fit : (from : RoleId) → names_round s.cluster i ≡ true → names_value s.cluster v ≡ true
@@ -15,7 +15,7 @@ module _ (s : Running AcceptorDurable (Unit {0})) (i : Round) (n cw : ℕ) (v : 
       let Fits = MayKeep acceptor_rules s in
       by_test Fits (is_before i s.durable.promise) _ _ (λ _. tt) (λ high.
       by_test Fits (nat_lt n s.durable.cw) _ _ (λ _. tt) (λ low.
-      by_test Fits (is_of i (vote_at n s.durable.votes)) _ _ (λ _. tt) (λ new.
+      by_test Fits (is_of_round i (vote_at n s.durable.votes)) _ _ (λ _. tt) (λ new.
       (rw (named, values, high, le-leb s.durable.cw n (ltb-false n s.durable.cw low), inside, new) refl, refl))))
 
   -- the record of a vote that was asked for is one that the acceptor may append

@@ -9,7 +9,7 @@ use Rattle.cx_field.specs.Fields.{mark, round, round0, slot, value}
 use Rattle.cx_field.specs.Ranges.{slots_rise, vote_in_range}
 use Rattle.cx_msg.specs.Records.{fits, kept_record}
 use Rattle.cx_field.proofs.Rising.{rises-filter}
-use Rattle.cx_model.specs.Acceptor.{AcceptorDurable, acceptor_after, acceptor_fits, votes_from, vote_at, is_of}
+use Rattle.cx_model.specs.Acceptor.{AcceptorDurable, acceptor_after, acceptor_fits, votes_from_slot, vote_at, is_of_round}
 use Rattle.cx_acceptor.specs.Sound.{IsSound}
 use Rattle.cx_acceptor.proofs.VoteLaws.{all_in, all_with, rising_with}
 
@@ -21,11 +21,11 @@ window_of_both : (a b s : ℕ) → nat_le a s ≡ true → in_window b s ≡ tru
 window_of_both a b s from inside = grind (arith, nat_tests)
 
 -- the votes from a later watermark on are in its window
-from_kept : (cw low : ℕ) (vs : List Vote) → cw ≤ low → all_in cw vs ≡ true → all_in low (votes_from low vs) ≡ true
+from_kept : (cw low : ℕ) (vs : List Vote) → cw ≤ low → all_in cw vs ≡ true → all_in low (votes_from_slot low vs) ≡ true
 from_kept cw low [] below all = refl
 from_kept cw low (v ∷ vs) below all = grind (arith, nat_tests, from_kept cw low vs)
 
-from_rising : (low : ℕ) (vs : List Vote) → slots_rise vs ≡ true → slots_rise (votes_from low vs) ≡ true
+from_rising : (low : ℕ) (vs : List Vote) → slots_rise vs ≡ true → slots_rise (votes_from_slot low vs) ≡ true
 from_rising low vs h =
     rises-filter (λ (v : Vote). nat_le low v.slot) (λ (v : Vote) (later : Vote). nat_lt v.slot later.slot) vs h
 
@@ -48,14 +48,14 @@ module _ (me : RoleId) (d : AcceptorDurable) (sound : IsSound me d) (i : Round) 
       let new : Vote = record { round = i; slot = s; value = v } in
       let below : d.cw ≤ low = omega arith in
       let own : vote_in_range low new ≡ true = rw (real, in_slots, window_of_both d.cw cw s from inside, fit) refl in
-      let kept = from_kept d.cw low d.votes below sound.votes in
+      let earlier = from_kept d.cw low d.votes below sound.votes in
       record {
         who = sound.who;
         promise = real_or_none i real;
         cw = max_fits d.cw cw sound.cw in_marks;
         top = max_fits d.top (s + 1) sound.top (next_fits s in_slots);
-        votes = all_with (λ (w : Vote). vote_in_range low w) new (votes_from low d.votes) own kept;
-        rising = rising_with new (votes_from low d.votes) (from_rising low d.votes sound.rising);
+        votes = all_with (λ (w : Vote). vote_in_range low w) new (votes_from_slot low d.votes) own earlier;
+        rising = rising_with new (votes_from_slot low d.votes) (from_rising low d.votes sound.rising);
       }
 
   pub sound_water : (cw : ℕ) → mark.fits cw ≡ true → IsSound me (acceptor_after d (kept.Water i cw))
@@ -87,7 +87,7 @@ after_sound c me d (kept.Promise i) sound fit takes = sound_promise me d sound i
 after_sound c me d (kept.Vote i s cw v) sound fit takes =
     let p = vote_parts i s cw v fit in
     let window = fourth_and_fifth (names_round c i) (names_value c v) (not (is_before i d.promise)) (nat_le d.cw s)
-    (in_window cw s) (not (is_of i (vote_at s d.votes))) takes in
+    (in_window cw s) (not (is_of_round i (vote_at s d.votes))) takes in
     sound_vote me d sound i p.0 s cw v p.1 p.2 p.3 window.0 window.1
 after_sound c me d (kept.Water i cw) sound fit takes =
     let a = and_parts (round.fits i) (mark.fits cw) fit in sound_water me d sound i a.0 cw a.1

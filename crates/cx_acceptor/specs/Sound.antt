@@ -5,8 +5,8 @@ use Rattle.cx_field.specs.Fields.{mark, round0}
 use Rattle.cx_field.specs.Ranges.{slots_rise, vote_in_range}
 use Rattle.cx_model.specs.Acceptor.{AcceptorDurable}
 
--- it is an acceptor, its promise is a round or none, its watermark and top are numbers of slots, and its votes are in
--- the window from the watermark on, by rising slot
+-- it is an acceptor, its promise is a round or none, its chosen watermark and top are numbers of slots, and its votes are in
+-- the window from the chosen watermark on, by rising slot
 pub record IsSound (me : RoleId) (d : AcceptorDurable) : Type 0 where
   pub who : me ≡ role Acceptor me.index
   pub promise : IsTrue (round0.fits d.promise)

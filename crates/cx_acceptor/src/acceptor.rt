@@ -11,7 +11,7 @@ use std::alloc::Global;
 use std::marker::Model;
 
 /// An acceptor: the round that it promised, the chosen watermark, its last vote at each slot from there on by rising
-/// slot, and one more than the greatest slot that it ever voted at (VLDB 2021; the watermark is this project's own).
+/// slot, and one more than the greatest slot that it ever voted at (VLDB 2021; the chosen watermark is this project's own).
 #[derive(Drop)]
 pub struct Acceptor {
     pub(crate) alloc: Global,

@@ -13,7 +13,7 @@ use cx_msg::{Record, nack, phase1b};
 use cx_role::{Outbox, StepFault, keep};
 
 impl Acceptor {
-    /// A leader asks to promise its round, and for the votes from the watermark on; they are reported once the promise
+    /// A leader asks to promise its round, and for the votes from the chosen watermark on; they are reported once the promise
     /// is kept (VLDB 2021).
     pub(crate) fn phase1a<K: Keeper>(
         &mut self,

@@ -8,7 +8,7 @@ ghost use Rattle.cx_field.specs.Fields as field;
 ghost use Rattle.cx_msg.specs.Records.{fits as record_fits};
 
 use crate::Acceptor;
-use crate::votes::{has_vote, is_in_window, keep_from, place};
+use crate::votes::{has_vote_in_round, is_in_window, keep_from, place};
 use cx_base::{Cluster, Duplicate, NoMemory, RoleId, Round};
 use cx_field::Vote;
 use cx_msg::Record;
@@ -51,7 +51,7 @@ impl Acceptor {
                     && !round.is_before(&self.promise)
                     && self.cw <= *slot
                     && is_in_window(*cw, *slot)
-                    && !has_vote(&self.votes, *slot, *round)
+                    && !has_vote_in_round(&self.votes, *slot, *round)
             }
             Record::Water { round, mark } => {
                 names_round(&self.cluster, *round)

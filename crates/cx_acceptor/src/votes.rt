@@ -2,12 +2,12 @@
 
 ghost use Rattle.std.specs.Prelude.{◌≡◌, ◌≤◌, ◌<◌};
 ghost use Rattle.cx_role.specs.Prelude.{nat_le, position, vec_len, vec_capacity, Vote, in_window};
-ghost use Rattle.cx_model.specs.Acceptor.{is_of, vote_at, votes_from, with_vote};
+ghost use Rattle.cx_model.specs.Acceptor.{is_of_round, vote_at, votes_from_slot, with_vote};
 
 use cx_base::{Round, WINDOW};
 use cx_field::Vote;
 
-/// Whether a slot lies in the window that begins at a watermark.
+/// Whether a slot lies in the window that begins at a chosen watermark.
 pub fn is_in_window(cw: u64, slot: u64) -> bool
     ensures { result ≡ in_window cw slot }
 {
@@ -15,8 +15,8 @@ pub fn is_in_window(cw: u64, slot: u64) -> bool
 }
 
 /// Whether the vote at a slot, if there is one, is of this round.
-pub fn has_vote(votes: &[Vote], slot: u64, round: Round) -> bool
-    ensures { result ≡ is_of round (vote_at slot votes.now) }
+pub fn has_vote_in_round(votes: &[Vote], slot: u64, round: Round) -> bool
+    ensures { result ≡ is_of_round round (vote_at slot votes.now) }
 {
     for vote in votes {
         if vote.slot == slot {
@@ -28,7 +28,7 @@ pub fn has_vote(votes: &[Vote], slot: u64, round: Round) -> bool
 
 /// Forgets the votes below a slot.
 pub fn keep_from(votes: &mut Vec<Vote>, low: u64)
-    ensures items { votes.new.items ≡ votes_from low votes.old.items }
+    ensures items { votes.new.items ≡ votes_from_slot low votes.old.items }
     ensures fewer { vec_len votes.new ≤ vec_len votes.old }
     ensures room { vec_capacity votes.new ≡ vec_capacity votes.old }
 {

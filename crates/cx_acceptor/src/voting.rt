@@ -6,7 +6,7 @@ ghost use Rattle.cx_model.specs.Acceptor.{acceptor_rules, phase2a_row};
 ghost use Rattle.cx_field.specs.Fields as field;
 
 use crate::Acceptor;
-use crate::votes::{has_vote, keep_from, place};
+use crate::votes::{has_vote_in_round, keep_from, place};
 use cx_base::{Duplicate, RoleId, Round, Value, Why};
 use cx_field::Vote;
 use cx_keeper::Keeper;
@@ -43,7 +43,7 @@ impl Acceptor {
         if slot < self.cw {
             return Ok(Why::Past);
         }
-        if has_vote(&self.votes, slot, round) {
+        if has_vote_in_round(&self.votes, slot, round) {
             out.room(1)?;
             out.push(phase2b(self.me.index, from.index, round, slot));
             return Ok(Why::Same);

@@ -1,6 +1,6 @@
 -- Which numbers of clients a client table knows to be used.
 use Rattle.std.proofs.Common.{◌≡◌, ◌⊎◌, ℕ, ◌+◌, Bool, true, false, not, ◌&&◌, ◌||◌, List, [], ◌∷◌, ◌++◌, inl, inr, ap, sym, subst, ◌∙◌, refl, arith}
-use Rattle.std.specs.Prelude.{◌==◌, nat_le, nat_lt, max, if◌then◌else◌, Option, None, Some}
+use Rattle.std.specs.Prelude.{◌==◌, nat_le, nat_lt, max, None}
 use Rattle.std.specs.List.{list_any}
 use Rattle.std.proofs.lemmas.Bool.{cases_Bool, and_parts, eqb-true, both_ways}
 use Rattle.std.proofs.lemmas.Bool.Decides.{nat_tests}
@@ -10,7 +10,7 @@ use Rattle.cx_base.specs.declared.command.Command.{Command}
 use Rattle.cx_base.specs.declared.command.Floor.{Floor}
 use Rattle.cx_base.specs.declared.command.Reply.{Reply}
 use Rattle.cx_base.specs.Fold.{overtakes}
-use Rattle.cx_base.specs.Noted.{Table, are_rising, comes_before, floor_of, is_answer_of, is_done, is_settled, is_used, still_noted, with_answer, with_floor, with_note, with_told}
+use Rattle.cx_base.specs.Noted.{Table, are_rising, comes_before, floor_of, is_answer_of, is_done, is_answer_done, is_used, still_noted, with_answer, with_floor, with_note, with_told}
 
 -- Booleans
 
@@ -126,15 +126,15 @@ any_still : (client floor : ℕ) (notes : List Answered) (k n : ℕ)
     → list_any (is_answer_of k n) (still_noted client floor notes) ≡ (list_any (is_answer_of k n) notes && not (client == k && nat_le n floor))
 any_still client floor [] k n = refl
 any_still client floor (a ∷ notes) k n =
-    go (cases_Bool (is_answer_of k n a)) (cases_Bool (is_settled client floor a)) (any_still client floor notes k n)
+    go (cases_Bool (is_answer_of k n a)) (cases_Bool (is_answer_done client floor a)) (any_still client floor notes k n)
   where
     -- whether the client is done with an answer to this very number
-    own : is_answer_of k n a ≡ true → is_settled client floor a ≡ (client == k && nat_le n floor)
+    own : is_answer_of k n a ≡ true → is_answer_done client floor a ≡ (client == k && nat_le n floor)
     own e =
         let p = and_parts (a.client == k) (a.seq == n) e in
         rw (eqb-true a.client k p.0, eqb-true a.seq n p.1) (ap (λ b. b && nat_le n floor) (turned_test k client))
 
-    go : (is_answer_of k n a ≡ true) ⊎ (is_answer_of k n a ≡ false) → (is_settled client floor a ≡ true) ⊎ (is_settled client floor a ≡ false)
+    go : (is_answer_of k n a ≡ true) ⊎ (is_answer_of k n a ≡ false) → (is_answer_done client floor a ≡ true) ⊎ (is_answer_done client floor a ≡ false)
         → list_any (is_answer_of k n) (still_noted client floor notes) ≡ (list_any (is_answer_of k n) notes && not (client == k && nat_le n floor))
         → list_any (is_answer_of k n) (still_noted client floor (a ∷ notes)) ≡ ((is_answer_of k n a || list_any (is_answer_of k n) notes) && not (client == k && nat_le n floor))
     go (inl e) (inl s) h =

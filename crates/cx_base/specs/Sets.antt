@@ -8,8 +8,8 @@ is_rising [] = true
 is_rising (n ∷ ns) = list_all (λ m. nat_lt n m) ns && is_rising ns
 
 -- these ids, where they are a set
-abbrev pub set_of : List ℕ → Option (List ℕ)
-set_of ids = if nat_le (length ids) 7 && is_rising ids then Some ids else None
+abbrev pub set_from_ids : List ℕ → Option (List ℕ)
+set_from_ids ids = if nat_le (length ids) 7 && is_rising ids then Some ids else None
 
 -- whether every id of the one set is above every id of the other
 abbrev pub is_above : List ℕ → List ℕ → Bool

@@ -1,7 +1,7 @@
 //! The greatest number that each client has used, which shows at once that most numbers are new.
 
 ghost use Rattle.std.specs.Prelude.{◌≡◌, length, replicate};
-ghost use Rattle.cx_base.specs.Greatest.{is_above, raised};
+ghost use Rattle.cx_base.specs.Greatest.{is_above_greatest, raise_greatest};
 
 use crate::limits::CLIENTS;
 use std::marker::Model;
@@ -23,7 +23,7 @@ impl Model for Greatest {
 }
 
 impl Greatest {
-    /// No client has used a number. It takes no memory.
+    /// No client has used a number.
     pub fn new() -> Self
         ensures { result ≡ replicate 64 0 }
     {
@@ -32,18 +32,18 @@ impl Greatest {
         }
     }
 
-    /// Whether a number is above its client's greatest one. None is of a client that no cluster has. It takes no memory.
+    /// Whether a number is above its client's greatest one. None is of a client that no cluster has.
     pub fn is_above(&self, client: u16, seq: u64) -> bool
-        ensures above { result ≡ is_above self.now client seq }
+        ensures above { result ≡ is_above_greatest self.now client seq }
         ensures clients { length self.now ≡ 64 }
     {
         let client = usize::from(client);
         client < CLIENTS && self.numbers[client] < seq
     }
 
-    /// A client has used a number: it is the client's greatest if it is above the one before. It takes no memory.
+    /// A client has used a number: it is the client's greatest if it is above the one before.
     pub fn raise(&mut self, client: u16, seq: u64)
-        ensures { self.new ≡ raised self.old client seq }
+        ensures { self.new ≡ raise_greatest self.old client seq }
     {
         if self.is_above(client, seq) {
             self.numbers[usize::from(client)] = seq;

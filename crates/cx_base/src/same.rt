@@ -5,7 +5,7 @@ ghost use Rattle.cx_base.specs.Same.{same_op, same_command, same_commands, same_
 
 use crate::command::{Command, Op, Value};
 
-/// Whether two operations are the same. It takes no memory.
+/// Whether two operations are the same.
 pub fn same_op(a: &Op, b: &Op) -> bool
     ensures { result ≡ same_op a.now b.now }
 {
@@ -17,7 +17,7 @@ pub fn same_op(a: &Op, b: &Op) -> bool
     }
 }
 
-/// Whether two commands are the same. It takes no memory.
+/// Whether two commands are the same.
 pub fn same_command(a: &Command, b: &Command) -> bool
     ensures { result ≡ same_command a.now b.now }
 {
@@ -39,7 +39,7 @@ fn same_commands(a: &[Command], b: &[Command]) -> bool
     }
 }
 
-/// Whether two values are the same. It takes no memory.
+/// Whether two values are the same.
 pub fn same_value(a: &Value, b: &Value) -> bool
     ensures { result ≡ same_value a.now b.now }
 {

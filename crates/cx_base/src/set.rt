@@ -4,7 +4,7 @@ ghost use Rattle.std.specs.Prelude.{◌≡◌, ◌≤◌, ◌+◌, ◌*◌, nat_
 ghost use Rattle.std.specs.List.{list_all};
 ghost use Rattle.cx_base.specs.Grid.{is_in};
 ghost use Rattle.cx_base.specs.Lists.{below};
-ghost use Rattle.cx_base.specs.Sets.{is_above, is_rising, set_of};
+ghost use Rattle.cx_base.specs.Sets.{is_above, is_rising, set_from_ids};
 
 use crate::cluster::Cluster;
 use crate::limits::SET_LENGTH;
@@ -80,7 +80,7 @@ fn are_above(ids: &[u16], others: &[u16]) -> bool
 }
 
 impl Set {
-    /// No matchmaker. It takes no memory.
+    /// No matchmaker.
     pub fn empty() -> Self
         ensures { result ≡ [] }
     {
@@ -90,7 +90,7 @@ impl Set {
         }
     }
 
-    /// The set with which the cluster begins: its first 2f + 1 matchmakers. It takes no memory.
+    /// The set with which the cluster begins: its first 2f + 1 matchmakers.
     pub fn first(cluster: &Cluster) -> Self
         ensures { result ≡ below (2 * cluster.now.f + 1) }
     {
@@ -102,10 +102,9 @@ impl Set {
         }
     }
 
-    /// The set with these ids, or None where they are none: more than seven, or an id that isn't above the one before. It
-    /// takes no memory.
+    /// The set with these ids, or None where they are none: more than seven, or an id that isn't above the one before.
     pub fn from_ids(ids: &[u16]) -> Option<Self>
-        ensures { result ≡ set_of ids.now }
+        ensures { result ≡ set_from_ids ids.now }
     {
         if ids.len() > SET_LENGTH {
             return None;
@@ -116,7 +115,7 @@ impl Set {
         Some(Set::new(ids))
     }
 
-    /// The set with these ids. It takes no memory.
+    /// The set with these ids.
     pub fn new(ids: &[u16]) -> Self
         requires room { length ids.now ≤ 7 }
         requires rising { IsTrue (is_rising ids.now) }

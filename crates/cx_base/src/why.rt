@@ -133,7 +133,7 @@ pub enum Why {
 }
 
 impl Why {
-    /// The word as it is written in a trace. It takes no memory.
+    /// The word as it is written in a trace.
     pub fn text(self) -> &'static str
         ensures { result.now ≡ why_text self }
     {

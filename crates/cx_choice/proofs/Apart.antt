@@ -53,7 +53,7 @@ elsewhere_is_no_vote j s v (written.Record (kept.Tail values)) e = refl
 elsewhere_is_no_vote j s v (written.Record (kept.Ballot ballot)) e = refl
 elsewhere_is_no_vote j s v (written.Record (kept.Stop ballot)) e = refl
 elsewhere_is_no_vote j s v (written.Record (kept.Next ballot next)) e = refl
-elsewhere_is_no_vote j s v (written.Record (kept.Boot set mark entries)) e = refl
+elsewhere_is_no_vote j s v (written.Record (kept.Boot set watermark entries)) e = refl
 elsewhere_is_no_vote j s v (written.Record (kept.Turn turn)) e = refl
 elsewhere_is_no_vote j s v (written.Snap first) e = refl
 
@@ -80,7 +80,7 @@ by_record history s v (written.Record (kept.Tail values)) = refl
 by_record history s v (written.Record (kept.Ballot ballot)) = refl
 by_record history s v (written.Record (kept.Stop ballot)) = refl
 by_record history s v (written.Record (kept.Next ballot next)) = refl
-by_record history s v (written.Record (kept.Boot set mark entries)) = refl
+by_record history s v (written.Record (kept.Boot set watermark entries)) = refl
 by_record history s v (written.Record (kept.Turn turn)) = refl
 by_record history s v (written.Snap first) = refl
 
@@ -112,7 +112,7 @@ same_selects history rounds s (written.Record (kept.Tail values)) are = refl
 same_selects history rounds s (written.Record (kept.Ballot ballot)) are = refl
 same_selects history rounds s (written.Record (kept.Stop ballot)) are = refl
 same_selects history rounds s (written.Record (kept.Next ballot next)) are = refl
-same_selects history rounds s (written.Record (kept.Boot set mark entries)) are = refl
+same_selects history rounds s (written.Record (kept.Boot set watermark entries)) are = refl
 same_selects history rounds s (written.Record (kept.Turn turn)) are = refl
 same_selects history rounds s (written.Snap first) are = refl
 
@@ -131,7 +131,7 @@ no_vote_elsewhere history s (written.Record (kept.Tail values)) later e = refl
 no_vote_elsewhere history s (written.Record (kept.Ballot ballot)) later e = refl
 no_vote_elsewhere history s (written.Record (kept.Stop ballot)) later e = refl
 no_vote_elsewhere history s (written.Record (kept.Next ballot next)) later e = refl
-no_vote_elsewhere history s (written.Record (kept.Boot set mark entries)) later e = refl
+no_vote_elsewhere history s (written.Record (kept.Boot set watermark entries)) later e = refl
 no_vote_elsewhere history s (written.Record (kept.Turn turn)) later e = refl
 no_vote_elsewhere history s (written.Snap first) later e = refl
 

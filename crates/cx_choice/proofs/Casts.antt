@@ -22,7 +22,7 @@ use Rattle.cx_msg.specs.declared.input.Written.{Written}
 use Rattle.cx_msg.specs.declared.input.Written.TheVariants as written
 use Rattle.cx_choice.specs.Enough.{is_chosen_among, is_enough}
 use Rattle.cx_choice.specs.OfRound.{IsByRound, of_round}
-use Rattle.cx_choice.specs.Sorted.{AreCast, IsCast, casts_in, round_in}
+use Rattle.cx_choice.specs.Sorted.{AreCast, IsCast, casts_in, written_round}
 use Rattle.cx_choice.specs.declared.of_round.OfRound.{OfRound}
 
 -- one vote more is listed with its round
@@ -34,7 +34,7 @@ next_cast casts new one votes i there is more so_far =
     let added : casts_in new ≡ casts_in casts ++ one.item.now ∷ [] = ap casts_in more ∙ map-append (λ (c : OfRound (Bor KeptRecord)). c.item.now) casts (one ∷ []) in
     ap (λ (l : List KeptRecord). l ++ rest) added ∙ append_assoc (casts_in casts) (one.item.now ∷ []) rest ∙ ap (λ (l : List KeptRecord). casts_in casts ++ l) (sym next) ∙ so_far
 
-pub all_cast : (casts new : List (OfRound (Bor KeptRecord))) (one : OfRound (Bor KeptRecord)) → new ≡ casts ++ one ∷ [] → one.round ≡ round_in one.item.now.what
+pub all_cast : (casts new : List (OfRound (Bor KeptRecord))) (one : OfRound (Bor KeptRecord)) → new ≡ casts ++ one ∷ [] → one.round ≡ written_round one.item.now.what
     → All IsCast casts → All IsCast new
 all_cast casts new one more own cast = rw more (All-push IsCast casts one cast own)
 
@@ -47,7 +47,7 @@ differs : (i j k : Round) → same_round i k ≡ true → same_round j k ≡ fal
 differs i j k h l = grind (arith, nat_tests)
 
 -- a record of another round is no vote of this one
-of_another : (i j : Round) (s : ℕ) (v : Value) (what : Written) → same_round i j ≡ true → same_round (round_in what) j ≡ false → is_vote i s v what ≡ false
+of_another : (i j : Round) (s : ℕ) (v : Value) (what : Written) → same_round i j ≡ true → same_round (written_round what) j ≡ false → is_vote i s v what ≡ false
 of_another i j s v (written.Record (kept.Promise k)) same other = refl
 of_another i j s v (written.Record (kept.Vote k t cw u)) same other = let none : same_round k i ≡ false = differs i k j same other in rw none refl
 of_another i j s v (written.Record (kept.Water k mark)) same other = refl
@@ -62,7 +62,7 @@ of_another i j s v (written.Record (kept.Tail values)) same other = refl
 of_another i j s v (written.Record (kept.Ballot ballot)) same other = refl
 of_another i j s v (written.Record (kept.Stop ballot)) same other = refl
 of_another i j s v (written.Record (kept.Next ballot next)) same other = refl
-of_another i j s v (written.Record (kept.Boot set mark entries)) same other = refl
+of_another i j s v (written.Record (kept.Boot set watermark entries)) same other = refl
 of_another i j s v (written.Record (kept.Turn turn)) same other = refl
 of_another i j s v (written.Snap first) same other = refl
 
@@ -79,8 +79,8 @@ of_this i j (c ∷ cs) a s v same cast =
     elim (cases_Bool (same_round c.round j)) [
       | inl taken ↦ rw (taken, rest) refl
       | inr left ↦
-          let own : c.round ≡ round_in c.item.now.what = All-head IsCast c cs cast in
-          let other : same_round (round_in c.item.now.what) j ≡ false = ap (λ k. same_round k j) (sym own) ∙ left in
+          let own : c.round ≡ written_round c.item.now.what = All-head IsCast c cs cast in
+          let other : same_round (written_round c.item.now.what) j ≡ false = ap (λ k. same_round k j) (sym own) ∙ left in
           rw (left, and_none (same_role c.item.now.role (role Acceptor a)) (is_vote i s v c.item.now.what) (of_another i j s v c.item.now.what same other)) rest
     ]
 

@@ -8,7 +8,7 @@ use Rattle.cx_msg.specs.declared.input.KeptRecord.{KeptRecord}
 use Rattle.cx_choice.proofs.Numbered.{next_kept}
 use Rattle.cx_choice.specs.Chains.{HaveVotes, Puts, first_vote, vote_from}
 use Rattle.cx_choice.specs.Sorted.{is_vote_in, votes_of}
-use Rattle.cx_choice.specs.declared.chains.Votes.{Votes}
+use Rattle.cx_choice.specs.declared.chains.VoteChains.{VoteChains}
 
 -- the votes in a slot from a link of its chain on
 abbrev pub votes_on : ℕ → ℕ → List KeptRecord → List KeptRecord
@@ -71,7 +71,7 @@ pub record Leads (s here next : ℕ) (history : List KeptRecord) (one : KeptReco
   pub votes : votes_on s here history ≡ one ∷ votes_on s next history
   pub goes_on : IsVote s next history
 
-pub one_on : (votes : Votes) (history : List KeptRecord) (s here number next : ℕ) (one : KeptRecord) → HaveVotes votes history 0 → s < length history → here ≡ suc number
+pub one_on : (votes : VoteChains) (history : List KeptRecord) (s here number next : ℕ) (one : KeptRecord) → HaveVotes votes history 0 → s < length history → here ≡ suc number
     → IsVote s here history → slice_get history number ≡ Some one → next ≡ get_or votes.next.items number next → Leads s here next history one
 one_on votes history s here number next one have within e vote at is =
     let there : IsVote s (suc number) history = subst (λ h. IsVote s h history) e vote in
@@ -103,7 +103,7 @@ more_numbers history found new numbers more number one at is are so_far =
     rw (is, are, map-append (slice_get history) numbers (number ∷ []), map-append (λ (vote : KeptRecord). Some vote) found (one ∷ []), so_far, at) refl
 
 -- one record more
-pub more_votes : (old new : Votes) (kept : List KeptRecord) (from number : ℕ) (k : KeptRecord) → from ≡ number + 1 → slice_get kept number ≡ Some k
+pub more_votes : (old new : VoteChains) (kept : List KeptRecord) (from number : ℕ) (k : KeptRecord) → from ≡ number + 1 → slice_get kept number ≡ Some k
     → HaveVotes old kept from → Puts old new number k.what → HaveVotes new kept number
 more_votes old new kept from number k e at have puts =
     let begins = next_kept kept number k at in

@@ -9,7 +9,7 @@ use Rattle.std.specs.List.Sorted.{IsPartitionedBy}
 use Rattle.cx_base.specs.Round.{is_before, same_round}
 use Rattle.cx_base.specs.declared.round.Round.{Round}
 use Rattle.cx_choice.proofs.Order.{before_differs, behind_differs, chain, neither, one_way}
-use Rattle.cx_choice.specs.OfRound.{IsBegin, IsByRound, IsEnd, of_round}
+use Rattle.cx_choice.specs.OfRound.{IsBegin, IsByRound, IsEndOfRound, of_round}
 use Rattle.cx_choice.specs.declared.of_round.OfRound.{OfRound}
 
 weak : {T : Type 0} → IsStrictWeakOrder (λ (a b : OfRound T). is_before a.round b.round)
@@ -55,7 +55,7 @@ passing p (x ∷ xs) (suc begin) count before these behind =
     rw none (passing p xs begin count (λ k d h l. before (suc k) d (omega (arith, h)) (omega (arith, l))) (λ k d h l m. these (suc k) d (omega (arith, h)) (omega (arith, l)) (omega (arith, m))) (λ k d h l. behind (suc k) d (omega (arith, h)) (omega (arith, l))))
 
 -- none is both of an earlier round and of a later one
-pub begin_first : {T : Type 0} (round : Round) (list : List (OfRound T)) (begin end : ℕ) → IsBegin round list begin → IsEnd round list end → begin ≤ end
+pub begin_first : {T : Type 0} (round : Round) (list : List (OfRound T)) (begin end : ℕ) → IsBegin round list begin → IsEndOfRound round list end → begin ≤ end
 begin_first round [] begin end b e = omega (arith, b.inside)
 begin_first round (x ∷ list) begin end b e =
     elim (cases_Bool (nat_lt end begin)) [
@@ -67,7 +67,7 @@ begin_first round (x ∷ list) begin end b e =
       | inr more ↦ grind (arith, nat_tests)
     ]
 
-pub grouped : {T : Type 0} (round : Round) (list : List (OfRound T)) (begin end : ℕ) → IsBegin round list begin → IsEnd round list end
+pub grouped : {T : Type 0} (round : Round) (list : List (OfRound T)) (begin end : ℕ) → IsBegin round list begin → IsEndOfRound round list end
     → take (end - begin) (drop begin list) ≡ of_round round list
 grouped {T} round list begin end b e =
     let first = begin_first round list begin end b e in
@@ -82,7 +82,7 @@ not_false false e = cc
 
 pub is_end : {T : Type 0} (round : Round) (list : List (OfRound T)) (place : ℕ) → place ≤ length list
     → AllWithin (λ (one : OfRound T). not (is_before round one.round) ≡ true) list 0 place
-    → AllWithin (λ (one : OfRound T). not (is_before round one.round) ≡ false) list place (length list) → IsEnd round list place
+    → AllWithin (λ (one : OfRound T). not (is_before round one.round) ≡ false) list place (length list) → IsEndOfRound round list place
 is_end round list place inside before behind =
     record {
       inside = inside;

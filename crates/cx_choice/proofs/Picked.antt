@@ -13,12 +13,12 @@ use Rattle.cx_msg.specs.declared.input.Written.{Written}
 use Rattle.cx_msg.specs.declared.input.Written.TheVariants as written
 use Rattle.cx_choice.proofs.Apart.{chosen_by_votes, same_selects}
 use Rattle.cx_choice.specs.Enough.{selects}
-use Rattle.cx_choice.specs.Prefix.{IsChosenVote, IsVoteAt, chooses, has_value, value_at, value_of}
+use Rattle.cx_choice.specs.Prefix.{IsChosenVote, IsVoteAt, chooses, is_vote_written, vote_value_at, written_value}
 use Rattle.cx_choice.specs.Sorted.{AreRounds, votes_of}
 use Rattle.cx_choice.specs.declared.of_round.OfRound.{OfRound}
 
 choosing : (history : List KeptRecord) (s : ℕ) (what : Written) (later : Option Value) → chooses history s what ≡ true
-    → (chosen_vote history s what later ≡ Some (value_of what)) × (has_value what ≡ true)
+    → (chosen_vote history s what later ≡ Some (written_value what)) × (is_vote_written what ≡ true)
 choosing history s (written.Record (kept.Promise i)) later e = cc
 choosing history s (written.Record (kept.Vote j t cw v)) later e = rw e (refl, refl)
 choosing history s (written.Record (kept.Water i mark)) later e = cc
@@ -33,7 +33,7 @@ choosing history s (written.Record (kept.Tail values)) later e = cc
 choosing history s (written.Record (kept.Ballot ballot)) later e = cc
 choosing history s (written.Record (kept.Stop ballot)) later e = cc
 choosing history s (written.Record (kept.Next ballot next)) later e = cc
-choosing history s (written.Record (kept.Boot set mark entries)) later e = cc
+choosing history s (written.Record (kept.Boot set watermark entries)) later e = cc
 choosing history s (written.Record (kept.Turn turn)) later e = cc
 choosing history s (written.Snap first) later e = cc
 
@@ -52,7 +52,7 @@ passing history s (written.Record (kept.Tail values)) later e = refl
 passing history s (written.Record (kept.Ballot ballot)) later e = refl
 passing history s (written.Record (kept.Stop ballot)) later e = refl
 passing history s (written.Record (kept.Next ballot next)) later e = refl
-passing history s (written.Record (kept.Boot set mark entries)) later e = refl
+passing history s (written.Record (kept.Boot set watermark entries)) later e = refl
 passing history s (written.Record (kept.Turn turn)) later e = refl
 passing history s (written.Snap first) later e = refl
 
@@ -60,7 +60,7 @@ abbrev place_in : List KeptRecord → ℕ → List KeptRecord → ℕ
 place_in history s ks = position_or_len (λ (k : KeptRecord). chooses history s k.what) ks
 
 found : (history : List KeptRecord) (s : ℕ) (ks : List KeptRecord) → place_in history s ks < length ks
-    → (first_chosen history s ks ≡ Some (value_at ks (place_in history s ks))) × IsVoteAt ks (place_in history s ks)
+    → (first_chosen history s ks ≡ Some (vote_value_at ks (place_in history s ks))) × IsVoteAt ks (place_in history s ks)
 found history s [] h = absurd (omega arith)
 found history s (k ∷ ks) h =
     elim (cases_Bool (chooses history s k.what)) [

@@ -82,7 +82,7 @@ vote_parts rounds votes i s v (written.Record (kept.Tail values)) e enough = cc
 vote_parts rounds votes i s v (written.Record (kept.Ballot ballot)) e enough = cc
 vote_parts rounds votes i s v (written.Record (kept.Stop ballot)) e enough = cc
 vote_parts rounds votes i s v (written.Record (kept.Next ballot next)) e enough = cc
-vote_parts rounds votes i s v (written.Record (kept.Boot set mark entries)) e enough = cc
+vote_parts rounds votes i s v (written.Record (kept.Boot set watermark entries)) e enough = cc
 vote_parts rounds votes i s v (written.Record (kept.Turn turn)) e enough = cc
 vote_parts rounds votes i s v (written.Snap first) e enough = cc
 
@@ -117,7 +117,7 @@ whole_parts rounds votes s v (written.Record (kept.Tail values)) e = cc
 whole_parts rounds votes s v (written.Record (kept.Ballot ballot)) e = cc
 whole_parts rounds votes s v (written.Record (kept.Stop ballot)) e = cc
 whole_parts rounds votes s v (written.Record (kept.Next ballot next)) e = cc
-whole_parts rounds votes s v (written.Record (kept.Boot set mark entries)) e = cc
+whole_parts rounds votes s v (written.Record (kept.Boot set watermark entries)) e = cc
 whole_parts rounds votes s v (written.Record (kept.Turn turn)) e = cc
 whole_parts rounds votes s v (written.Snap first) e = cc
 

@@ -23,12 +23,12 @@ abbrev pub is_enough : List (OfRound Shape) → List KeptRecord → ℕ → Roun
 is_enough rounds votes s j v = is_chosen_among (of_round j rounds) votes s v
 
 -- a vote of a round, in a slot and for a value, is one for this value in this slot, and its round has enough votes for it
-abbrev pub is_whole : List (OfRound Shape) → List KeptRecord → ℕ → Value → Round → ℕ → Value → Bool
-is_whole rounds votes s v j t u = (t == s) && same_value u v && is_enough rounds votes s j v
+abbrev pub is_whole_vote_in : List (OfRound Shape) → List KeptRecord → ℕ → Value → Round → ℕ → Value → Bool
+is_whole_vote_in rounds votes s v j t u = (t == s) && same_value u v && is_enough rounds votes s j v
 
 -- a change is a record of such a vote
 abbrev pub is_whole_vote : List (OfRound Shape) → List KeptRecord → ℕ → Value → Written → Bool
-is_whole_vote rounds votes s v (written.Record (kept.Vote j t cw u)) = is_whole rounds votes s v j t u
+is_whole_vote rounds votes s v (written.Record (kept.Vote j t cw u)) = is_whole_vote_in rounds votes s v j t u
 is_whole_vote rounds votes s v other = false
 
 -- a value is chosen in a slot exactly where a vote for it is whole
@@ -41,10 +41,10 @@ abbrev pub selects : List (OfRound Shape) → List KeptRecord → ℕ → Writte
 selects rounds votes s (written.Record (kept.Vote j t cw v)) = (t == s) && is_chosen_among rounds votes s v
 selects rounds votes s other = false
 
-abbrev pub is_among : List (Bor Value) → Value → Bool
-is_among values v = list_any (λ (u : Bor Value). same_value u.now v) values
+abbrev pub is_value_among : List (Bor Value) → Value → Bool
+is_value_among values v = list_any (λ (u : Bor Value). same_value u.now v) values
 
 -- a change is a record of a vote in this slot for one of these values
-abbrev pub is_for : List (Bor Value) → ℕ → Written → Bool
-is_for values s (written.Record (kept.Vote j t cw v)) = (t == s) && is_among values v
-is_for values s other = false
+abbrev pub is_vote_for : List (Bor Value) → ℕ → Written → Bool
+is_vote_for values s (written.Record (kept.Vote j t cw v)) = (t == s) && is_value_among values v
+is_vote_for values s other = false

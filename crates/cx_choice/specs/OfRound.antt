@@ -21,7 +21,7 @@ pub record IsBegin {T : Type 0} (round : Round) (list : List (OfRound T)) (place
   pub behind : AllWithin (λ (one : OfRound T). is_before one.round round ≡ false) list place (length list)
 
 -- those before the place are of no later round, and those from it on are
-pub record IsEnd {T : Type 0} (round : Round) (list : List (OfRound T)) (place : ℕ) : Type 0 where
+pub record IsEndOfRound {T : Type 0} (round : Round) (list : List (OfRound T)) (place : ℕ) : Type 0 where
   pub inside : place ≤ length list
   pub before : AllWithin (λ (one : OfRound T). is_before round one.round ≡ false) list 0 place
   pub behind : AllWithin (λ (one : OfRound T). is_before round one.round ≡ true) list place (length list)

@@ -45,13 +45,13 @@ abbrev pub votes_of : ℕ → List KeptRecord → List KeptRecord
 votes_of s history = filter (λ (k : KeptRecord). is_vote_in s k.what) history
 
 -- the round of a vote; of another change no round, which nothing asks for
-abbrev pub round_in : Written → Round
-round_in (written.Record (kept.Vote j s cw v)) = j
-round_in other = no_round
+abbrev pub written_round : Written → Round
+written_round (written.Record (kept.Vote j s cw v)) = j
+written_round other = no_round
 
 -- a vote is listed with its own round
 abbrev pub IsCast : OfRound (Bor KeptRecord) → Type 0
-IsCast one = one.round ≡ round_in one.item.now.what
+IsCast one = one.round ≡ written_round one.item.now.what
 
 -- the votes that are listed with their rounds
 abbrev pub casts_in : List (OfRound (Bor KeptRecord)) → List KeptRecord

@@ -12,7 +12,7 @@ use std::alloc::Global;
 /// Of each slot the number of the first record with a vote in it, and of each record the number of the next one with a vote in
 /// the same slot. A number is held as one more than it is, and 0 where there is none.
 #[derive(Drop)]
-pub struct Votes {
+pub struct VoteChains {
     first: Vec<u32>,
     next: Vec<u32>,
 }
@@ -48,7 +48,7 @@ fn slot_voted(what: &Written) -> Option<u64>
 }
 
 // Puts a change before the later votes in its slot, if it is a vote in a slot below the number of changes.
-fn put(votes: &mut Votes, number: u32, one: KeptRecord) -> Result<(), NoMemory>
+fn put(votes: &mut VoteChains, number: u32, one: KeptRecord) -> Result<(), NoMemory>
     requires room { number < length votes.old.next.items }
     requires fits { number + 1 < 4294967296 }
     ensures { OnOk result (Puts votes.old votes.new number one.what) }
@@ -67,7 +67,7 @@ fn put(votes: &mut Votes, number: u32, one: KeptRecord) -> Result<(), NoMemory>
 }
 
 // No vote is known of `count` records.
-fn no_votes(alloc: Global, count: usize) -> Result<Votes, NoMemory>
+fn no_votes(alloc: Global, count: usize) -> Result<VoteChains, NoMemory>
     ensures first { IfOk result (λ votes. (s : ℕ) → get_or votes.first.items s 0 ≡ 0) }
     ensures count { IfOk result (λ votes. length votes.next.items ≡ count) }
 {
@@ -75,14 +75,14 @@ fn no_votes(alloc: Global, count: usize) -> Result<Votes, NoMemory>
     for _ in 0..count {
         next.push(0)?;
     }
-    Ok(Votes {
+    Ok(VoteChains {
         first: Vec::new(alloc),
         next,
     })
 }
 
 /// The votes of each slot below the number of records. It is out of memory also where a record's number has more than four bytes.
-pub fn votes_by_slot(alloc: Global, kept: &Kept) -> Result<Votes, NoMemory>
+pub fn votes_by_slot(alloc: Global, kept: &Kept) -> Result<VoteChains, NoMemory>
     ensures { IfOk result (λ votes. HaveVotes votes kept.now 0) }
 {
     if kept.len() >= u32::MAX as usize {
@@ -97,7 +97,7 @@ pub fn votes_by_slot(alloc: Global, kept: &Kept) -> Result<Votes, NoMemory>
     Ok(votes)
 }
 
-fn first_in(votes: &Votes, slot: usize) -> u32
+fn first_in(votes: &VoteChains, slot: usize) -> u32
     ensures { result ≡ get_or votes.now.first.items slot 0 }
 {
     if slot < votes.first.len() {
@@ -111,7 +111,7 @@ fn first_in(votes: &Votes, slot: usize) -> u32
 pub fn votes_in(
     alloc: Global,
     kept: &Kept,
-    votes: &Votes,
+    votes: &VoteChains,
     slot: usize,
 ) -> Result<SlotVotes, NoMemory>
     requires have { HaveVotes votes.now kept.now 0 }

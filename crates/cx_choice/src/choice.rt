@@ -4,10 +4,10 @@ ghost use Rattle.std.specs.Prelude.{◌≡◌, ◌<◌, IfOk, length, map};
 ghost use Rattle.std.specs.List.{All};
 ghost use Rattle.cx_model.specs.Chosen.{chosen_prefix};
 ghost use Rattle.cx_choice.specs.Chains.{HaveVotes};
-ghost use Rattle.cx_choice.specs.Prefix.{IsChosenVote, IsVoteAt, value_at};
+ghost use Rattle.cx_choice.specs.Prefix.{IsChosenVote, IsVoteAt, vote_value_at};
 ghost use Rattle.cx_choice.specs.Sorted.{AreRounds};
 
-use crate::chains::{Votes, votes_by_slot, votes_in};
+use crate::chains::{VoteChains, votes_by_slot, votes_in};
 use crate::of_round::OfRound;
 use crate::prefix::Chosen;
 use crate::rounds::rounds;
@@ -21,7 +21,7 @@ fn chosen_in(
     alloc: Global,
     kept: &Kept,
     rounds: &[OfRound<Grid>],
-    votes: &Votes,
+    votes: &VoteChains,
     slot: usize,
 ) -> Result<Option<u32>, NoMemory>
     requires rounds { AreRounds kept.now rounds.now }
@@ -38,7 +38,7 @@ fn chosen_in(
 
 // The numbers of the records with these votes, for slot 0, 1 and so on, up to the first slot without a chosen value.
 fn chosen_votes(alloc: Global, kept: &Kept) -> Result<Vec<u32>, NoMemory>
-    ensures values { IfOk result (λ numbers. map (value_at kept.now) numbers.items ≡ chosen_prefix kept.now) }
+    ensures values { IfOk result (λ numbers. map (vote_value_at kept.now) numbers.items ≡ chosen_prefix kept.now) }
     ensures votes { IfOk result (λ numbers. All (IsVoteAt kept.now) numbers.items) }
 {
     let rounds = rounds(alloc, kept)?;

@@ -2,7 +2,7 @@
 
 ghost use Rattle.std.specs.Prelude.{◌≡◌};
 ghost use Rattle.std.specs.List.Sorted.{IsPermutation};
-ghost use Rattle.cx_choice.specs.OfRound.{IsBegin, IsByRound, IsEnd, of_round};
+ghost use Rattle.cx_choice.specs.OfRound.{IsBegin, IsByRound, IsEndOfRound, of_round};
 
 use cx_base::Round;
 
@@ -32,7 +32,7 @@ fn begin_of<T>(list: &[OfRound<T>], round: &Round) -> usize
 // The place of the first one that is of a later round.
 fn end_of<T>(list: &[OfRound<T>], round: &Round) -> usize
     requires { IsByRound list.now }
-    ensures { IsEnd round.now list.now result }
+    ensures { IsEndOfRound round.now list.now result }
 {
     list.partition_point(|one| !round.is_before(&one.round))
 }

@@ -2,7 +2,7 @@
 
 ghost use Rattle.std.specs.Prelude.{◌≡◌, IfOk, length, map, slice_get, true};
 ghost use Rattle.std.specs.List.{All};
-ghost use Rattle.cx_choice.specs.Prefix.{IsVoteAt, has_value, value_at, value_of};
+ghost use Rattle.cx_choice.specs.Prefix.{IsVoteAt, is_vote_written, vote_value_at, written_value};
 
 use cx_base::{NoMemory, Value};
 use cx_history::Kept;
@@ -21,19 +21,19 @@ impl<'a> Model for Chosen<'a> {
     ghost use Rattle.std.specs.Prelude.{List, map};
     ghost use Rattle.std.specs.List.{All};
     ghost use Rattle.cx_base.specs.declared.command.Value.{Value as Held};
-    ghost use Rattle.cx_choice.specs.Prefix.{IsVoteAt, value_at};
+    ghost use Rattle.cx_choice.specs.Prefix.{IsVoteAt, vote_value_at};
 
     ghost Value = { List Held };
 
-    ghost view = { λ c. map (value_at c.kept.now) c.votes.items };
+    ghost view = { λ c. map (vote_value_at c.kept.now) c.votes.items };
 
     ghost invariant = { λ c. All (IsVoteAt c.kept.now) c.votes.items };
 }
 
 // The value of a vote.
-fn value_of(what: Written) -> Value
-    requires { has_value what ≡ true }
-    ensures { result ≡ value_of what }
+fn written_value(what: Written) -> Value
+    requires { is_vote_written what ≡ true }
+    ensures { result ≡ written_value what }
 {
     match what {
         Written::Record {
@@ -44,15 +44,15 @@ fn value_of(what: Written) -> Value
 }
 
 impl<'a> Chosen<'a> {
-    /// The values of the votes of these numbers. It takes no memory.
+    /// The values of the votes of these numbers.
     pub fn of_votes(kept: &'a Kept, votes: Vec<u32>) -> Chosen<'a>
         requires { All (IsVoteAt kept.now) votes.items }
-        ensures { result ≡ map (value_at kept.now) votes.items }
+        ensures { result ≡ map (vote_value_at kept.now) votes.items }
     {
         Chosen { kept, votes }
     }
 
-    /// How many there are. It takes no memory.
+    /// How many there are.
     pub fn len(&self) -> u64
         ensures { result ≡ length self.now }
     {
@@ -67,6 +67,6 @@ impl<'a> Chosen<'a> {
             return Ok(None);
         }
         let number = self.votes[slot as usize];
-        Ok(Some(value_of(self.kept.at(number as usize)?.what)))
+        Ok(Some(written_value(self.kept.at(number as usize)?.what)))
     }
 }

@@ -2,7 +2,7 @@
 
 ghost use Rattle.std.specs.Prelude.{◌≡◌, ◌++◌, IfOk, OnOk};
 ghost use Rattle.std.specs.List.{All};
-ghost use Rattle.cx_choice.specs.Sorted.{AreCast, AreRounds, IsCast, begun_by, casts_in, round_in, rounds_of};
+ghost use Rattle.cx_choice.specs.Sorted.{AreCast, AreRounds, IsCast, begun_by, casts_in, written_round, rounds_of};
 
 use crate::of_round::{OfRound, sort};
 use cx_base::{Grid, NoMemory, Round};
@@ -47,8 +47,8 @@ pub fn rounds(alloc: Global, kept: &Kept) -> Result<Vec<OfRound<Grid>>, NoMemory
 }
 
 // The round of a vote; of another change none.
-fn round_in(what: &Written) -> Round
-    ensures { result ≡ round_in what.now }
+fn written_round(what: &Written) -> Round
+    ensures { result ≡ written_round what.now }
 {
     match what {
         Written::Record {
@@ -69,7 +69,7 @@ fn casts<'a>(
     let mut casts = Vec::with_capacity(alloc, votes.len())?;
     for vote in votes {
         casts.push(OfRound {
-            round: round_in(&vote.what),
+            round: written_round(&vote.what),
             item: vote,
         })?;
     }

@@ -3,7 +3,7 @@
 ghost use Rattle.std.specs.Prelude.{◌≡◌, ◌||◌, ℕ, IfOk, OnOk};
 ghost use Rattle.std.specs.List.{All, list_any, position};
 ghost use Rattle.cx_base.specs.declared.command.Value.{Value};
-ghost use Rattle.cx_choice.specs.Enough.{is_among, is_chosen_among, is_for, is_whole, is_whole_vote, selects};
+ghost use Rattle.cx_choice.specs.Enough.{is_value_among, is_chosen_among, is_vote_for, is_whole_vote_in, is_whole_vote, selects};
 ghost use Rattle.cx_choice.specs.OfRound.{IsByRound};
 ghost use Rattle.cx_choice.specs.Sorted.{AreCast, IsCast, casts_in};
 
@@ -14,8 +14,8 @@ use cx_base::{Grid, NoMemory, Round, Value, same_value};
 use cx_msg::{KeptRecord, Record, Written};
 use std::alloc::Global;
 
-fn is_among(values: &[&Value], wanted: &Value) -> bool
-    ensures { result ≡ is_among values.now wanted.now }
+fn is_value_among(values: &[&Value], wanted: &Value) -> bool
+    ensures { result ≡ is_value_among values.now wanted.now }
 {
     values.iter().any(|value| same_value(value, wanted))
 }
@@ -33,14 +33,14 @@ fn add_value<'a>(
     requires rounds { IsByRound rounds.now }
     requires votes { IsByRound votes.now }
     requires cast { All IsCast votes.now }
-    ensures { OnOk result ((v : Value) → is_among chosen.new.items v
-        ≡ (is_among chosen.old.items v || is_whole rounds.now (casts_in votes.now) at v round slot
+    ensures { OnOk result ((v : Value) → is_value_among chosen.new.items v
+        ≡ (is_value_among chosen.old.items v || is_whole_vote_in rounds.now (casts_in votes.now) at v round slot
         value.now)) }
 {
     if slot != at {
         return Ok(());
     }
-    if is_among(chosen, value) {
+    if is_value_among(chosen, value) {
         return Ok(());
     }
     if !is_enough(rounds, votes, round, at, value) {
@@ -61,8 +61,8 @@ fn add_chosen<'a>(
     requires rounds { IsByRound rounds.now }
     requires votes { IsByRound votes.now }
     requires cast { All IsCast votes.now }
-    ensures { OnOk result ((v : Value) → is_among chosen.new.items v
-        ≡ (is_among chosen.old.items v
+    ensures { OnOk result ((v : Value) → is_value_among chosen.new.items v
+        ≡ (is_value_among chosen.old.items v
         || is_whole_vote rounds.now (casts_in votes.now) at v what.now)) }
 {
     match what {
@@ -89,7 +89,7 @@ fn chosen_values<'a>(
 ) -> Result<Vec<&'a Value>, NoMemory>
     requires rounds { IsByRound rounds.now }
     requires votes { AreCast votes.now by_round.now }
-    ensures { IfOk result (λ chosen. (v : Value) → is_among chosen.items v
+    ensures { IfOk result (λ chosen. (v : Value) → is_value_among chosen.items v
         ≡ is_chosen_among rounds.now votes.now at v) }
 {
     let mut chosen = Vec::new(alloc);
@@ -100,22 +100,24 @@ fn chosen_values<'a>(
 }
 
 // Whether this is a vote in this slot, for one of these values.
-fn is_for(values: &[&Value], at: u64, what: &Written) -> bool
-    ensures { result ≡ is_for values.now at what.now }
+fn is_vote_for(values: &[&Value], at: u64, what: &Written) -> bool
+    ensures { result ≡ is_vote_for values.now at what.now }
 {
     match what {
         Written::Record {
             what: Record::Vote { slot, value, .. },
-        } => *slot == at && is_among(values, value),
+        } => *slot == at && is_value_among(values, value),
         _ => false,
     }
 }
 
 // Which of some votes is the first for one of these values.
 fn first_for(values: &[&Value], at: u64, votes: &[KeptRecord]) -> Option<usize>
-    ensures { result ≡ position (λ vote. is_for values.now at vote.what) votes.now }
+    ensures { result ≡ position (λ vote. is_vote_for values.now at vote.what) votes.now }
 {
-    votes.iter().position(|vote| is_for(values, at, &vote.what))
+    votes
+        .iter()
+        .position(|vote| is_vote_for(values, at, &vote.what))
 }
 
 /// Which vote in a slot is the first for a value chosen there, by the rounds and the slot's votes.

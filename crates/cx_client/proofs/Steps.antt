@@ -25,9 +25,9 @@ use Rattle.cx_msg.specs.declared.message.Msg.{Msg}
 use Rattle.cx_msg.specs.declared.message.Msg.TheVariants as msg
 use Rattle.cx_script.specs.Names.{names_event}
 use Rattle.cx_script.specs.Requests.{IsScript, asks, number_of, rise_above}
-use Rattle.cx_client.specs.Client.{ClientMoved, ClientState, IsClient, Moves, answer_number, client_completes, client_hears, client_opened, client_start, client_takes, client_ticks, client_told, client_waits, completed, hearing, is_finished, left, stays}
-use Rattle.cx_client.specs.Completes.{Answers, Completes, IsOwn, IsSent, TellsFloor, TellsHeard, heard_after, tells, tells_heard}
-use Rattle.cx_client.specs.Window.{floor_for, has_number, is_outstanding, newly, outstanding, requests_of, telling, without}
+use Rattle.cx_client.specs.Client.{ClientMoved, ClientState, IsClient, Moves, answer_number, client_completes, client_hears, client_opened, client_start, client_takes, client_ticks, client_told, client_waits, after_completion, hearing, is_finished, left, client_stays}
+use Rattle.cx_client.specs.Completes.{IsAnswerToRequest, CompletesRequest, AreFromClient, IsSent, TellsFloor, TellsHeard, heard_after, msg_has_floor, tells_heard}
+use Rattle.cx_client.specs.Window.{floor_for, has_number, is_outstanding, newly, outstanding, request_letters, event_with_floor, without_request}
 use Rattle.cx_client.proofs.Windows.{all_above, all_below, at_place, filter_rises, first_is, is_left, last_or, newly_is, none_found, one_number, only_one, some_of, without_at}
 use Rattle.cx_base.specs.declared.why.Why.TheVariants.{Heard, Idle, Resent, Stranger}
 
@@ -37,13 +37,13 @@ abbrev Pass : (Letter → Bool) → List Letter → Type 0
 Pass p ds = list_all p ds ≡ true
 
 -- what requests send passes a test where the datagram of each does
-each_pass : (p : Letter → Bool) (heard floor : ℕ) (es : List Event) → ((e : Event) → Member e es → Pass p (request heard (telling floor e))) → Pass p (requests_of heard floor es)
+each_pass : (p : Letter → Bool) (heard floor : ℕ) (es : List Event) → ((e : Event) → Member e es → Pass p (request heard (event_with_floor floor e))) → Pass p (request_letters heard floor es)
 each_pass p heard floor [] each = refl
 each_pass p heard floor (e ∷ es) each =
-    list_all-append p (request heard (telling floor e)) (requests_of heard floor es)
-    ∙ and_from (list_all p (request heard (telling floor e))) (list_all p (requests_of heard floor es)) (each e (inl refl)) (each_pass p heard floor es (λ x m. each x (inr m)))
+    list_all-append p (request heard (event_with_floor floor e)) (request_letters heard floor es)
+    ∙ and_from (list_all p (request heard (event_with_floor floor e))) (list_all p (request_letters heard floor es)) (each e (inl refl)) (each_pass p heard floor es (λ x m. each x (inr m)))
 
-request_own : (index heard floor : ℕ) (e : Event) → asks index e ≡ true → Pass (λ (d : Letter). same_role d.from (role Client index)) (request heard (telling floor e))
+request_own : (index heard floor : ℕ) (e : Event) → asks index e ≡ true → Pass (λ (d : Letter). same_role d.from (role Client index)) (request heard (event_with_floor floor e))
 request_own index heard floor (event.Write command batcher) is = rw is refl
 request_own index heard floor (event.Read client seq before reader replica key) is = rw is refl
 request_own index heard floor (event.Session client seq before replica key) is = rw is refl
@@ -55,7 +55,7 @@ request_own index heard floor (event.Snap replica cut) is = refl
 request_own index heard floor (event.Crash r) is = refl
 request_own index heard floor (event.Restart r) is = refl
 
-request_named : (c : Cluster) (heard floor : ℕ) (e : Event) → names_event c e ≡ true → Pass (names c) (request heard (telling floor e))
+request_named : (c : Cluster) (heard floor : ℕ) (e : Event) → names_event c e ≡ true → Pass (names c) (request heard (event_with_floor floor e))
 request_named c heard floor (event.Write command batcher) is = (let parts = and_parts (nat_lt command.client c.clients) (nat_lt batcher c.batchers) is in rw (parts.0, parts.1) refl)
 request_named c heard floor (event.Read client seq before reader replica key) is = rw is refl
 request_named c heard floor (event.Session client seq before replica key) is = rw is refl
@@ -67,7 +67,7 @@ request_named c heard floor (event.Snap replica cut) is = refl
 request_named c heard floor (event.Crash r) is = refl
 request_named c heard floor (event.Restart r) is = refl
 
-request_told : (heard floor : ℕ) (e : Event) → Pass (λ (d : Letter). tells floor d.msg) (request heard (telling floor e))
+request_told : (heard floor : ℕ) (e : Event) → Pass (λ (d : Letter). msg_has_floor floor d.msg) (request heard (event_with_floor floor e))
 request_told heard floor (event.Write command batcher) = rw (number_itself floor) refl
 request_told heard floor (event.Read client seq before reader replica key) = refl
 request_told heard floor (event.Session client seq before replica key) = refl
@@ -79,7 +79,7 @@ request_told heard floor (event.Snap replica cut) = refl
 request_told heard floor (event.Crash r) = refl
 request_told heard floor (event.Restart r) = refl
 
-request_marked : (heard floor : ℕ) (e : Event) → Pass (λ (d : Letter). tells_heard heard d.msg) (request heard (telling floor e))
+request_marked : (heard floor : ℕ) (e : Event) → Pass (λ (d : Letter). tells_heard heard d.msg) (request heard (event_with_floor floor e))
 request_marked heard floor (event.Write command batcher) = refl
 request_marked heard floor (event.Read client seq before reader replica key) = refl
 request_marked heard floor (event.Session client seq before replica key) = rw (number_itself heard) refl
@@ -91,13 +91,13 @@ request_marked heard floor (event.Snap replica cut) = refl
 request_marked heard floor (event.Crash r) = refl
 request_marked heard floor (event.Restart r) = refl
 
-all_told : (heard floor : ℕ) (es : List Event) → Pass (λ (d : Letter). tells floor d.msg) (requests_of heard floor es)
-all_told heard floor es = each_pass (λ (d : Letter). tells floor d.msg) heard floor es (λ e m. request_told heard floor e)
+all_told : (heard floor : ℕ) (es : List Event) → Pass (λ (d : Letter). msg_has_floor floor d.msg) (request_letters heard floor es)
+all_told heard floor es = each_pass (λ (d : Letter). msg_has_floor floor d.msg) heard floor es (λ e m. request_told heard floor e)
 
-all_marked : (s : ClientState) (floor : ℕ) (es : List Event) → TellsHeard s (requests_of s.heard floor es)
+all_marked : (s : ClientState) (floor : ℕ) (es : List Event) → TellsHeard s (request_letters s.heard floor es)
 all_marked s floor es = each_pass (λ (d : Letter). tells_heard s.heard d.msg) s.heard floor es (λ e m. request_marked s.heard floor e)
 
-all_own : (s : ClientState) → IsClient s → (heard floor : ℕ) (es : List Event) → ((e : Event) → Member e es → Member e (left s)) → IsOwn s (requests_of heard floor es)
+all_own : (s : ClientState) → IsClient s → (heard floor : ℕ) (es : List Event) → ((e : Event) → Member e es → Member e (left s)) → AreFromClient s (request_letters heard floor es)
 all_own s is heard floor es here = record {
   own = rw is.me
       (each_pass (λ (d : Letter). same_role d.from (role Client s.me.index)) heard floor es
@@ -106,15 +106,15 @@ all_own s is heard floor es here = record {
       (λ e m. request_named s.cluster heard floor e (all-Member (names_event s.cluster) (left s) is.script.named e (here e m)));
 }
 
-nothing_own : (s : ClientState) → IsOwn s []
+nothing_own : (s : ClientState) → AreFromClient s []
 nothing_own s = record { own = refl; named = refl }
 
-all_sent : (heard floor : ℕ) (es : List Event) (e : Event) → Member e es → (d : Letter) → Member d (request heard (telling floor e)) → Member d (requests_of heard floor es)
+all_sent : (heard floor : ℕ) (es : List Event) (e : Event) → Member e es → (d : Letter) → Member d (request heard (event_with_floor floor e)) → Member d (request_letters heard floor es)
 all_sent heard floor [] e m d sent = absurd m
 all_sent heard floor (x ∷ es) e (inl same) d sent =
-    Member-first d (request heard (telling floor x)) (requests_of heard floor es) (subst (λ (y : Event). Member d (request heard (telling floor y))) same sent)
+    Member-first d (request heard (event_with_floor floor x)) (request_letters heard floor es) (subst (λ (y : Event). Member d (request heard (event_with_floor floor y))) same sent)
 all_sent heard floor (x ∷ es) e (inr m) d sent =
-    Member-second d (request heard (telling floor x)) (requests_of heard floor es) (all_sent heard floor es e m d sent)
+    Member-second d (request heard (event_with_floor floor x)) (request_letters heard floor es) (all_sent heard floor es e m d sent)
 
 -- ---- the steps, by cases
 
@@ -161,13 +161,13 @@ no_mark (msg.SessRead seq n key) none = refl
 
 -- What holds of a stranger's datagram, of an answer that completes nothing, and of one that completes an outstanding request, holds of a
 -- datagram's step.
-takes_by : (P : ClientMoved → Type 0) (s : ClientState) (d : Letter) → (heard_after s d ≡ s.heard → P (stays Stranger s))
-    → (heard_after s d ≡ max s.heard (mark_told d.msg) → P (stays Heard (hearing (mark_told d.msg) s)))
+takes_by : (P : ClientMoved → Type 0) (s : ClientState) (d : Letter) → (heard_after s d ≡ s.heard → P (client_stays Stranger s))
+    → (heard_after s d ≡ max s.heard (mark_told d.msg) → P (client_stays Heard (hearing (mark_told d.msg) s)))
     → ((n : ℕ) → same_role d.to s.me ≡ true → names s.cluster d ≡ true → answer_number d.msg ≡ Some n → is_outstanding s.window (left s) n ≡ true
     → P (client_completes n (hearing (mark_told d.msg) s)))
     → P (client_takes s d)
 takes_by P s d stay hear complete =
-    by_test P (same_role d.to s.me && names s.cluster d) (client_told s (mark_told d.msg) (answer_number d.msg)) (stays Stranger s)
+    by_test P (same_role d.to s.me && names s.cluster d) (client_told s (mark_told d.msg) (answer_number d.msg)) (client_stays Stranger s)
     (λ mine. (let parts = and_parts (same_role d.to s.me) (names s.cluster d) mine in told (answer_number d.msg) refl (rw mine refl) (complete_of parts.0 parts.1)))
     (λ other. stay (rw other refl))
   where
@@ -180,11 +180,11 @@ takes_by P s d stay hear complete =
         → P (client_told s (mark_told d.msg) o)
     told None is heard each = stay (heard ∙ (let none = no_mark d.msg is in omega (arith, none)))
     told (Some n) is heard each =
-        by_test P (is_outstanding s.window (left s) n) (client_completes n (hearing (mark_told d.msg) s)) (stays Heard (hearing (mark_told d.msg) s))
+        by_test P (is_outstanding s.window (left s) n) (client_completes n (hearing (mark_told d.msg) s)) (client_stays Heard (hearing (mark_told d.msg) s))
         (λ out. each n is out) (λ out. hear heard)
 
 -- what holds of a client that waits for nothing, and of one that sends what is outstanding, holds of a tick
-ticks_by : (P : ClientMoved → Type 0) (s : ClientState) → ((w : Why) → P (stays w s)) → ((w : Why) (es : List Event) → es ≡ outstanding s.window (left s) → P (record { why = w; state = s; sends = requests_of s.heard (floor_for (left s)) es; completes = false }))
+ticks_by : (P : ClientMoved → Type 0) (s : ClientState) → ((w : Why) → P (client_stays w s)) → ((w : Why) (es : List Event) → es ≡ outstanding s.window (left s) → P (record { why = w; state = s; sends = request_letters s.heard (floor_for (left s)) es; completes = false }))
     → P (client_ticks s)
 ticks_by P s stay send = go (outstanding s.window (left s)) refl
   where
@@ -194,20 +194,20 @@ ticks_by P s stay send = go (outstanding s.window (left s)) refl
 
 -- what is left once the uncompleted request of a number is completed
 pub record IsCompleted (n : ℕ) (e : Event) (s : ClientState) : Type 0 where
-  pub script : (completed n s).script ≡ take s.done s.script ++ e ∷ without n (left s)
-  pub front : take (s.done + 1) (completed n s).script ≡ take s.done s.script ++ e ∷ []
-  pub left : drop (s.done + 1) (completed n s).script ≡ without n (left s)
+  pub script : (after_completion n s).script ≡ take s.done s.script ++ e ∷ without_request n (left s)
+  pub front : take (s.done + 1) (after_completion n s).script ≡ take s.done s.script ++ e ∷ []
+  pub left : drop (s.done + 1) (after_completion n s).script ≡ without_request n (left s)
 
 is_completed : (s : ClientState) (n : ℕ) (e : Event) → IsClient s → Member e (left s) → number_of e ≡ n → IsCompleted n e s
 is_completed s n e is here number =
     let one : filter (has_number n) (left s) ≡ e ∷ [] = subst (λ (k : ℕ). filter (has_number k) (left s) ≡ e ∷ []) number (only_one 0 (left s) is.script.rising e here) in
-    let all : (completed n s).script ≡ take s.done s.script ++ e ∷ without n (left s) = ap (λ (es : List Event). take s.done s.script ++ (es ++ without n (left s))) one in
-    let parted : (completed n s).script ≡ (take s.done s.script ++ e ∷ []) ++ without n (left s) = all ∙ sym (append_assoc (take s.done s.script) (e ∷ []) (without n (left s))) in
+    let all : (after_completion n s).script ≡ take s.done s.script ++ e ∷ without_request n (left s) = ap (λ (es : List Event). take s.done s.script ++ (es ++ without_request n (left s))) one in
+    let parted : (after_completion n s).script ≡ (take s.done s.script ++ e ∷ []) ++ without_request n (left s) = all ∙ sym (append_assoc (take s.done s.script) (e ∷ []) (without_request n (left s))) in
     let long : length (take s.done s.script ++ e ∷ []) ≡ s.done + 1 = length_push (take s.done s.script) e ∙ ap (λ (k : ℕ). k + 1) (length-take-le s.done s.script is.done) in
     record {
       script = all;
-      front = ap (λ (es : List Event). take (s.done + 1) es) parted ∙ take_at (take s.done s.script ++ e ∷ []) (without n (left s)) (s.done + 1) long;
-      left = ap (λ (es : List Event). drop (s.done + 1) es) parted ∙ drop_at (take s.done s.script ++ e ∷ []) (without n (left s)) (s.done + 1) long;
+      front = ap (λ (es : List Event). take (s.done + 1) es) parted ∙ take_at (take s.done s.script ++ e ∷ []) (without_request n (left s)) (s.done + 1) long;
+      left = ap (λ (es : List Event). drop (s.done + 1) es) parted ∙ drop_at (take s.done s.script ++ e ∷ []) (without_request n (left s)) (s.done + 1) long;
     }
 
 -- an outstanding request of a number, and what is left once it is completed
@@ -246,27 +246,27 @@ hearing_is_client s at fits is = record {
 pub opened_is_client : (c : Cluster) (index : ℕ) (script : List Event) (window : ℕ) → IsScript c index script → 1 ≤ window → window ≤ 64 → IsClient (client_opened c (role Client index) script window)
 opened_is_client c index script window is some fits = record { me = refl; completed = refl; script = is; done = omega arith; some_window = some; window_fits = fits; heard = zero_fits }
 
-pub completed_is_client : (s : ClientState) (n : ℕ) (e : Event) → IsClient s → Member e (left s) → number_of e ≡ n → IsClient (completed n s)
+pub completed_is_client : (s : ClientState) (n : ℕ) (e : Event) → IsClient s → Member e (left s) → number_of e ≡ n → IsClient (after_completion n s)
 completed_is_client s n e is here number = go (is_completed s n e is here number)
   where
-    kept : (p : Event → Bool) → list_all p (left s) ≡ true → list_all p (without n (left s)) ≡ true
-    kept p all = Member-all p (without n (left s)) (λ x m. all-Member p (left s) all x (Member-filter (λ (y : Event). not (has_number n y)) x (left s) m).0)
+    all_without : (p : Event → Bool) → list_all p (left s) ≡ true → list_all p (without_request n (left s)) ≡ true
+    all_without p all = Member-all p (without_request n (left s)) (λ x m. all-Member p (left s) all x (Member-filter (λ (y : Event). not (has_number n y)) x (left s) m).0)
 
-    script_without : IsScript s.cluster s.me.index (left s) → IsScript s.cluster s.me.index (without n (left s))
+    script_without : IsScript s.cluster s.me.index (left s) → IsScript s.cluster s.me.index (without_request n (left s))
     script_without is = record {
-      own = kept (asks s.me.index) is.own;
-      named = kept (names_event s.cluster) is.named;
+      own = all_without (asks s.me.index) is.own;
+      named = all_without (names_event s.cluster) is.named;
       rising = filter_rises (λ (y : Event). not (has_number n y)) 0 (left s) is.rising;
     }
 
-    go : IsCompleted n e s → IsClient (completed n s)
+    go : IsCompleted n e s → IsClient (after_completion n s)
     go i =
         let own : asks s.me.index e ≡ true = all-Member (asks s.me.index) (left s) is.script.own e here in
         let before : list_all (asks s.me.index) (take s.done s.script ++ e ∷ []) ≡ true =
         list_all-append (asks s.me.index) (take s.done s.script) (e ∷ [])
         ∙ and_from (list_all (asks s.me.index) (take s.done s.script)) (list_all (asks s.me.index) (e ∷ [])) is.completed (rw own refl) in
-        let count : length (completed n s).script ≡ length (take s.done s.script) + length (e ∷ without n (left s)) =
-        ap length i.script ∙ length-append (take s.done s.script) (e ∷ without n (left s)) in
+        let count : length (after_completion n s).script ≡ length (take s.done s.script) + length (e ∷ without_request n (left s)) =
+        ap length i.script ∙ length-append (take s.done s.script) (e ∷ without_request n (left s)) in
         let front : length (take s.done s.script) ≡ s.done = length-take-le s.done s.script is.done in
         record {
           me = is.me;
@@ -278,7 +278,7 @@ completed_is_client s n e is here number = go (is_completed s n e is here number
           heard = is.heard;
         }
 
-heard_is_client : (s : ClientState) (n : ℕ) → IsClient s → is_outstanding s.window (left s) n ≡ true → IsClient (completed n s)
+heard_is_client : (s : ClientState) (n : ℕ) → IsClient s → is_outstanding s.window (left s) n ≡ true → IsClient (after_completion n s)
 heard_is_client s n is out = (let f = found s n is out in completed_is_client s n f.0 is (is_left s.window (left s) f.0 f.1) f.2)
 
 pub takes_stays : (s : ClientState) (d : Letter) → mark.fits (mark_told d.msg) ≡ true → IsClient s → IsClient (client_takes s d).state
@@ -289,35 +289,35 @@ takes_stays s d fits is =
 
 -- ---- a client sends requests of its own, with their names in the cluster
 
-pub starts_own : (s : ClientState) → IsClient s → IsOwn s (client_start s)
+pub starts_own : (s : ClientState) → IsClient s → AreFromClient s (client_start s)
 starts_own s is = all_own s is s.heard (floor_for (left s)) (outstanding s.window (left s)) (is_left s.window (left s))
 
-pub ticks_own : (s : ClientState) → IsClient s → IsOwn s (client_ticks s).sends
-ticks_own s is = ticks_by (λ (m : ClientMoved). IsOwn s m.sends) s (λ w. nothing_own s) (λ w es same. subst (λ (xs : List Event). IsOwn s (requests_of s.heard (floor_for (left s)) xs)) (sym same) (starts_own s is))
+pub ticks_own : (s : ClientState) → IsClient s → AreFromClient s (client_ticks s).sends
+ticks_own s is = ticks_by (λ (m : ClientMoved). AreFromClient s m.sends) s (λ w. nothing_own s) (λ w es same. subst (λ (xs : List Event). AreFromClient s (request_letters s.heard (floor_for (left s)) xs)) (sym same) (starts_own s is))
 
-pub takes_own : (s : ClientState) (d : Letter) → IsClient s → IsOwn s (client_takes s d).sends
+pub takes_own : (s : ClientState) (d : Letter) → IsClient s → AreFromClient s (client_takes s d).sends
 takes_own s d is =
-    takes_by (λ (m : ClientMoved). IsOwn s m.sends) s d (λ h. nothing_own s) (λ h. nothing_own s)
-    (λ n mine known number out. all_own s is (max s.heard (mark_told d.msg)) (floor_for (without n (left s))) (newly s.window n (left s)) (λ e m. newly_left n e m))
+    takes_by (λ (m : ClientMoved). AreFromClient s m.sends) s d (λ h. nothing_own s) (λ h. nothing_own s)
+    (λ n mine known number out. all_own s is (max s.heard (mark_told d.msg)) (floor_for (without_request n (left s))) (newly s.window n (left s)) (λ e m. newly_left n e m))
   where
     newly_left : (n : ℕ) (e : Event) → Member e (newly s.window n (left s)) → Member e (left s)
     newly_left n e m =
-        let after = Member-filter (λ (x : Event). not (is_outstanding s.window (left s) (number_of x))) e (outstanding s.window (without n (left s))) m in
-        (Member-filter (λ (x : Event). not (has_number n x)) e (left s) (is_left s.window (without n (left s)) e after.0)).0
+        let after = Member-filter (λ (x : Event). not (is_outstanding s.window (left s) (number_of x))) e (outstanding s.window (without_request n (left s))) m in
+        (Member-filter (λ (x : Event). not (has_number n x)) e (left s) (is_left s.window (without_request n (left s)) e after.0)).0
 
 -- ---- a datagram completes the request that it answers
 
-pub takes_one : (s : ClientState) (d : Letter) → IsClient s → (client_takes s d).completes ≡ true → Completes s d (client_takes s d).state
+pub takes_one : (s : ClientState) (d : Letter) → IsClient s → (client_takes s d).completes ≡ true → CompletesRequest s d (client_takes s d).state
 takes_one s d is =
-    takes_by (λ (m : ClientMoved). m.completes ≡ true → Completes s d m.state) s d (λ heard h. cc) (λ heard h. cc)
+    takes_by (λ (m : ClientMoved). m.completes ≡ true → CompletesRequest s d m.state) s d (λ heard h. cc) (λ heard h. cc)
     (λ n mine known number out h. go n mine known number (found s n is out))
   where
     go : (n : ℕ) → same_role d.to s.me ≡ true → names s.cluster d ≡ true → answer_number d.msg ≡ Some n
-        → (e : Event) × Member e (outstanding s.window (left s)) × (number_of e ≡ n) × IsCompleted n e s → Completes s d (completed n (hearing (mark_told d.msg) s))
+        → (e : Event) × Member e (outstanding s.window (left s)) × (number_of e ≡ n) × IsCompleted n e s → CompletesRequest s d (after_completion n (hearing (mark_told d.msg) s))
     go n mine known number (e, here, of_number, i) =
         let heard : max s.heard (mark_told d.msg) ≡ heard_after s d = rw (mine, known) refl in
-        let script : (completed n s).script ≡ take s.done s.script ++ e ∷ without (number_of e) (left s) =
-        subst (λ (k : ℕ). (completed n s).script ≡ take s.done s.script ++ e ∷ without k (left s)) (sym of_number) i.script in
+        let script : (after_completion n s).script ≡ take s.done s.script ++ e ∷ without_request (number_of e) (left s) =
+        subst (λ (k : ℕ). (after_completion n s).script ≡ take s.done s.script ++ e ∷ without_request k (left s)) (sym of_number) i.script in
         record {
           answers = record { request = e; outstanding = here; number = number ∙ ap (λ (k : ℕ). Some k) (sym of_number); received = mine; named = known };
           state = λ j. record s { script = script j; done = s.done + 1; heard = heard j };
@@ -328,7 +328,7 @@ takes_none s d =
     takes_by (λ (m : ClientMoved). m.completes ≡ false → m.state ≡ record s { heard = heard_after s d }) s d
     (λ heard h. ap (λ (n : ℕ). record s { heard = n }) (sym heard)) (λ heard h. ap (λ (n : ℕ). record s { heard = n }) (sym heard)) (λ n mine known number out h. cc)
 
-pub answer_completes : (s : ClientState) (d : Letter) → Answers s d → (client_takes s d).completes ≡ true
+pub answer_completes : (s : ClientState) (d : Letter) → IsAnswerToRequest s d → (client_takes s d).completes ≡ true
 answer_completes s d a =
     let out : is_outstanding s.window (left s) (number_of a.request) ≡ true =
     Member-any (has_number (number_of a.request)) a.request (outstanding s.window (left s)) a.outstanding (number_itself (number_of a.request)) in
@@ -339,7 +339,7 @@ ticks_same s = ticks_by (λ (m : ClientMoved). m.state ≡ s) s (λ w. refl) (λ
 
 -- ---- the floors that are sent
 
-tells_of : (s : ClientState) → rise_above 0 (left s) ≡ true → (heard : ℕ) (es : List Event) → TellsFloor s (requests_of heard (floor_for (left s)) es)
+tells_of : (s : ClientState) → rise_above 0 (left s) ≡ true → (heard : ℕ) (es : List Event) → TellsFloor s (request_letters heard (floor_for (left s)) es)
 tells_of s rising heard es = record { told = all_told heard (floor_for (left s)) es; below = all_below (left s) rising }
 
 nothing_tells : (s : ClientState) → rise_above 0 (left s) ≡ true → TellsFloor s []
@@ -357,12 +357,12 @@ takes_tell s d is =
     takes_by (λ (m : ClientMoved). TellsFloor m.state m.sends) s d (λ h. nothing_tells s is.script.rising)
     (λ h. nothing_tells (hearing (mark_told d.msg) s) is.script.rising) (λ n mine known number out. go n (found s n is out).3.left (heard_is_client s n is out).script.rising)
   where
-    go : (n : ℕ) → left (completed n s) ≡ without n (left s) → rise_above 0 (left (completed n s)) ≡ true
-        → TellsFloor (completed n (hearing (mark_told d.msg) s)) (client_completes n (hearing (mark_told d.msg) s)).sends
+    go : (n : ℕ) → left (after_completion n s) ≡ without_request n (left s) → rise_above 0 (left (after_completion n s)) ≡ true
+        → TellsFloor (after_completion n (hearing (mark_told d.msg) s)) (client_completes n (hearing (mark_told d.msg) s)).sends
     go n gone rising =
         let t = hearing (mark_told d.msg) s in
-        subst (λ (es : List Event). TellsFloor (completed n t) (requests_of t.heard (floor_for es) (newly s.window n (left s)))) gone
-        (tells_of (completed n t) rising t.heard (newly s.window n (left s)))
+        subst (λ (es : List Event). TellsFloor (after_completion n t) (request_letters t.heard (floor_for es) (newly s.window n (left s)))) gone
+        (tells_of (after_completion n t) rising t.heard (newly s.window n (left s)))
 
 -- ---- what sessions tell
 
@@ -380,7 +380,7 @@ pub takes_marked : (s : ClientState) (d : Letter) → TellsHeard (client_takes s
 takes_marked s d =
     takes_by (λ (m : ClientMoved). TellsHeard m.state m.sends) s d (λ h. refl) (λ h. refl)
     (λ n mine known number out.
-    all_marked (hearing (mark_told d.msg) s) (floor_for (without n (left s))) (newly s.window n (left s)))
+    all_marked (hearing (mark_told d.msg) s) (floor_for (without_request n (left s))) (newly s.window n (left s)))
 
 -- ---- what becomes outstanding is sent
 
@@ -390,39 +390,39 @@ takes_sent s d e is =
     takes_by (λ (m : ClientMoved). Member e (outstanding s.window (left m.state)) → Member e (outstanding s.window (left s)) ⊎ IsSent m.state m.sends e) s d (λ h m. inl m)
     (λ h m. inl m) (λ n mine known number out m. go (mark_told d.msg) n out (found s n is out) m)
   where
-    was_out : (n : ℕ) → Member e (outstanding s.window (without n (left s))) → (o : Event) × Member o (outstanding s.window (left s)) × (has_number (number_of e) o ≡ true)
+    was_out : (n : ℕ) → Member e (outstanding s.window (without_request n (left s))) → (o : Event) × Member o (outstanding s.window (left s)) × (has_number (number_of e) o ≡ true)
         → Member e (outstanding s.window (left s))
     was_out n after (o, here, same) =
-        let e_left : Member e (left s) = (Member-filter (λ (x : Event). not (has_number n x)) e (left s) (is_left s.window (without n (left s)) e after)).0 in
+        let e_left : Member e (left s) = (Member-filter (λ (x : Event). not (has_number n x)) e (left s) (is_left s.window (without_request n (left s)) e after)).0 in
         let number : number_of o ≡ number_of e = eqb-true (number_of o) (number_of e) same in
         subst (λ (x : Event). Member x (outstanding s.window (left s))) (one_number 0 (left s) is.script.rising o e (is_left s.window (left s) o here) e_left number) here
 
     go : (at n : ℕ) → is_outstanding s.window (left s) n ≡ true → (o : Event) × Member o (outstanding s.window (left s)) × (number_of o ≡ n) × IsCompleted n o s
-        → Member e (outstanding s.window (left (completed n (hearing at s))))
-        → Member e (outstanding s.window (left s)) ⊎ IsSent (completed n (hearing at s)) (client_completes n (hearing at s)).sends e
+        → Member e (outstanding s.window (left (after_completion n (hearing at s))))
+        → Member e (outstanding s.window (left s)) ⊎ IsSent (after_completion n (hearing at s)) (client_completes n (hearing at s)).sends e
     go at n out (o, here, of_number, i) m =
         let t = hearing at s in
-        let after : Member e (outstanding s.window (without n (left s))) = subst (λ (es : List Event). Member e (outstanding s.window es)) i.left m in
+        let after : Member e (outstanding s.window (without_request n (left s))) = subst (λ (es : List Event). Member e (outstanding s.window es)) i.left m in
         elim (cases_Bool (is_outstanding s.window (left s) (number_of e))) [
           | inl was ↦ inl (was_out n after (any-Member (has_number (number_of e)) (outstanding s.window (left s)) was))
           | inr new ↦
               let test : not (is_outstanding s.window (left s) (number_of e)) ≡ true = rw new refl in
               let here : Member e (newly s.window n (left s)) =
-              filter-Member (λ (x : Event). not (is_outstanding s.window (left s) (number_of x))) e (outstanding s.window (without n (left s))) after test in
-              inr (subst (λ (es : List Event). (x : Letter) → Member x (request t.heard (telling (floor_for es) e)) → Member x (client_completes n t).sends) (sym i.left)
-              (all_sent t.heard (floor_for (without n (left s))) (newly s.window n (left s)) e here))
+              filter-Member (λ (x : Event). not (is_outstanding s.window (left s) (number_of x))) e (outstanding s.window (without_request n (left s))) after test in
+              inr (subst (λ (es : List Event). (x : Letter) → Member x (request t.heard (event_with_floor (floor_for es) e)) → Member x (client_completes n t).sends) (sym i.left)
+              (all_sent t.heard (floor_for (without_request n (left s))) (newly s.window n (left s)) e here))
         ]
 
 -- ---- the steps of the code
 
 -- all outstanding requests went out
 pub sent_all : (s : ClientState) (before sent : List Letter) → IsClient s → before ≡ []
-    → sent ≡ before ++ requests_of s.heard (floor_for (left s)) (filter (λ (e : Event). nat_lt 0 (number_of e)) (outstanding s.window (left s))) → sent ≡ client_start s
+    → sent ≡ before ++ request_letters s.heard (floor_for (left s)) (filter (λ (e : Event). nat_lt 0 (number_of e)) (outstanding s.window (left s))) → sent ≡ client_start s
 sent_all s before sent is none sends =
-    sends ∙ ap (λ (ds : List Letter). ds ++ requests_of s.heard (floor_for (left s)) (filter (λ (e : Event). nat_lt 0 (number_of e)) (outstanding s.window (left s)))) none
-    ∙ ap (requests_of s.heard (floor_for (left s))) (all_above s.window (left s) is.script.rising)
+    sends ∙ ap (λ (ds : List Letter). ds ++ request_letters s.heard (floor_for (left s)) (filter (λ (e : Event). nat_lt 0 (number_of e)) (outstanding s.window (left s)))) none
+    ∙ ap (request_letters s.heard (floor_for (left s))) (all_above s.window (left s) is.script.rising)
 
-waits_again : (s : ClientState) (es : List Event) (e : Event) (sent : List Letter) → Member e es → sent ≡ requests_of s.heard (floor_for (left s)) es
+waits_again : (s : ClientState) (es : List Event) (e : Event) (sent : List Letter) → Member e es → sent ≡ request_letters s.heard (floor_for (left s)) es
     → Moves (client_waits s es) Resent false s sent
 waits_again s [] e sent m is = absurd m
 waits_again s (x ∷ es) e sent m is = record { why = refl; completes = refl; state = refl; sends = is }
@@ -449,36 +449,36 @@ hears_none s n after sent state is none =
     rw out (record { why = refl; completes = refl; state = state; sends = none })
 
 -- one has it
-pub hears_one : (s : ClientState) (n last : ℕ) (after : ClientState) (before sent : List Letter) → IsClient s → is_outstanding s.window (left s) n ≡ true → after ≡ completed n s
+pub hears_one : (s : ClientState) (n last : ℕ) (after : ClientState) (before sent : List Letter) → IsClient s → is_outstanding s.window (left s) n ≡ true → after ≡ after_completion n s
     → last ≡ last_or 0 (outstanding s.window (left s)) → before ≡ []
-    → sent ≡ before ++ requests_of after.heard (floor_for (left after)) (filter (λ (e : Event). nat_lt last (number_of e)) (outstanding after.window (left after)))
+    → sent ≡ before ++ request_letters after.heard (floor_for (left after)) (filter (λ (e : Event). nat_lt last (number_of e)) (outstanding after.window (left after)))
     → Moves (client_hears s n) Heard true after sent
 hears_one s n last after before sent is out state end none sends =
-    let gone : left (completed n s) ≡ without n (left s) = (found s n is out).3.left in
-    let news : filter (λ (e : Event). nat_lt last (number_of e)) (outstanding s.window (without n (left s))) ≡ newly s.window n (left s) = newly_is s.window n (left s) last is.script.rising end in
+    let gone : left (after_completion n s) ≡ without_request n (left s) = (found s n is out).3.left in
+    let news : filter (λ (e : Event). nat_lt last (number_of e)) (outstanding s.window (without_request n (left s))) ≡ newly s.window n (left s) = newly_is s.window n (left s) last is.script.rising end in
     let all : sent ≡ (client_completes n s).sends =
     sends
-    ∙ ap (λ (ds : List Letter). ds ++ requests_of after.heard (floor_for (left after)) (filter (λ (e : Event). nat_lt last (number_of e)) (outstanding after.window (left after)))) none
-    ∙ ap (λ (t : ClientState). requests_of t.heard (floor_for (left t)) (filter (λ (e : Event). nat_lt last (number_of e)) (outstanding t.window (left t)))) state
-    ∙ ap (λ (es : List Event). requests_of s.heard (floor_for es) (filter (λ (e : Event). nat_lt last (number_of e)) (outstanding s.window es))) gone
-    ∙ ap (requests_of s.heard (floor_for (without n (left s)))) news in
+    ∙ ap (λ (ds : List Letter). ds ++ request_letters after.heard (floor_for (left after)) (filter (λ (e : Event). nat_lt last (number_of e)) (outstanding after.window (left after)))) none
+    ∙ ap (λ (t : ClientState). request_letters t.heard (floor_for (left t)) (filter (λ (e : Event). nat_lt last (number_of e)) (outstanding t.window (left t)))) state
+    ∙ ap (λ (es : List Event). request_letters s.heard (floor_for es) (filter (λ (e : Event). nat_lt last (number_of e)) (outstanding s.window es))) gone
+    ∙ ap (request_letters s.heard (floor_for (without_request n (left s)))) news in
     rw out (record { why = refl; completes = refl; state = state; sends = all })
 
 -- the request at a place of those that are left was brought forward
 pub brought_is : (s : ClientState) (place : ℕ) (d : Event) (script : List Event) → IsClient s → place < length (left s)
     → script ≡ take s.done s.script ++ get_or s.script (s.done + place) d ∷ (take place (left s) ++ drop (s.done + place + 1) s.script)
-    → script ≡ (completed (number_of (get_or (left s) place d)) s).script
+    → script ≡ (after_completion (number_of (get_or (left s) place d)) s).script
 brought_is s place d script is inside brought =
     let e = get_or (left s) place d in
     let here : get_or s.script (s.done + place) d ≡ e = sym (get_or-drop s.done s.script place d) in
     let rest : drop (s.done + place + 1) s.script ≡ drop (suc place) (left s) = (let n : s.done + place + 1 ≡ s.done + suc place = omega arith in rw n (sym (drop-drop (suc place) s.done s.script))) in
     let one : filter (has_number (number_of e)) (left s) ≡ e ∷ [] = only_one 0 (left s) is.script.rising e (at_place place (left s) d inside) in
-    let others : without (number_of e) (left s) ≡ take place (left s) ++ drop (suc place) (left s) = without_at 0 (left s) is.script.rising place d inside in
+    let others : without_request (number_of e) (left s) ≡ take place (left s) ++ drop (suc place) (left s) = without_at 0 (left s) is.script.rising place d inside in
     rw brought (rw (here, rest, one, others) refl)
 
 pub completed_state : (s : ClientState) (place : ℕ) (d : Event) (script : List Event) → IsClient s → place < length (left s)
     → script ≡ take s.done s.script ++ get_or s.script (s.done + place) d ∷ (take place (left s) ++ drop (s.done + place + 1) s.script)
-    → record s { script = script; done = s.done + 1 } ≡ completed (number_of (get_or (left s) place d)) s
+    → record s { script = script; done = s.done + 1 } ≡ after_completion (number_of (get_or (left s) place d)) s
 completed_state s place d script is inside brought = ap (λ (es : List Event). record s { script = es; done = s.done + 1 }) (brought_is s place d script is inside brought)
 
 pub completed_client : (s : ClientState) (place : ℕ) (script : List Event) → IsClient s → place < length (left s)

@@ -16,7 +16,7 @@ use Rattle.cx_base.specs.declared.event.Event.TheVariants as event
 use Rattle.cx_inv_run.proofs.Members.{Member-all, Member-filter, filter-Member}
 use Rattle.cx_model.specs.Member.{Member}
 use Rattle.cx_script.specs.Requests.{number_of, rise_above}
-use Rattle.cx_client.specs.Window.{first_of, floor_for, has_number, is_near, is_outstanding, newly, outstanding, telling, without}
+use Rattle.cx_client.specs.Window.{first_of, floor_for, has_number, is_near, is_outstanding, newly, outstanding, event_with_floor, without_request}
 
 -- ---- numbers that rise
 
@@ -43,8 +43,8 @@ filter_rises p n (e ∷ es) rising = by_own (p e) (both n e es rising) (filter_r
   where
     by_own : (test : Bool) → (n < number_of e) × (rise_above (number_of e) es ≡ true) → (rise_above (number_of e) es ≡ true → rise_above (number_of e) (filter p es) ≡ true)
         → rise_above n (filter p es) ≡ true → rise_above n (cond test (e ∷ filter p es) (filter p es)) ≡ true
-    by_own true parts kept rest = begins n e (filter p es) parts.0 (kept parts.1)
-    by_own false parts kept rest = rest
+    by_own true parts selected rest = begins n e (filter p es) parts.0 (selected parts.1)
+    by_own false parts selected rest = rest
 
 pub take_rises : (k n : ℕ) (es : List Event) → rise_above n es ≡ true → rise_above n (take k es) ≡ true
 take_rises zero n es rising = refl
@@ -161,7 +161,7 @@ first_is (suc n) e left some =
 
 -- ---- which floor may be told
 
-valid_telling : (floor : ℕ) (e : Event) → floor_fits (number_of e) floor ≡ true → is_valid_event (telling floor e) ≡ true
+valid_telling : (floor : ℕ) (e : Event) → floor_fits (number_of e) floor ≡ true → is_valid_event (event_with_floor floor e) ≡ true
 valid_telling floor (event.Write command batcher) fits = fits
 valid_telling floor (event.Read client seq before reader replica key) fits = fits
 valid_telling floor (event.Session client seq before replica key) fits = fits
@@ -183,9 +183,9 @@ fits window left rising e m =
     let b : nat_le (number_of e) (floor_for left + 64) ≡ true = grind (arith, nat_tests, near) in
     and_from (nat_lt (floor_for left) (number_of e)) (nat_le (number_of e) (floor_for left + 64)) a b
 
-pub all_valid : (window : ℕ) (left : List Event) → rise_above 0 left ≡ true → list_all (λ (e : Event). is_valid_event (telling (floor_for left) e)) (outstanding window left) ≡ true
+pub all_valid : (window : ℕ) (left : List Event) → rise_above 0 left ≡ true → list_all (λ (e : Event). is_valid_event (event_with_floor (floor_for left) e)) (outstanding window left) ≡ true
 all_valid window left rising =
-    Member-all (λ (e : Event). is_valid_event (telling (floor_for left) e)) (outstanding window left) (λ e m. valid_telling (floor_for left) e (fits window left rising e m))
+    Member-all (λ (e : Event). is_valid_event (event_with_floor (floor_for left) e)) (outstanding window left) (λ e m. valid_telling (floor_for left) e (fits window left rising e m))
 
 -- no uncompleted number is at or below it
 pub all_below : (left : List Event) → rise_above 0 left ≡ true → list_all (λ (e : Event). nat_lt (floor_for left) (number_of e)) left ≡ true
@@ -195,10 +195,10 @@ all_below left rising =
 -- ---- once a number is completed
 
 -- no number that rises above another is that one
-none_has : (n : ℕ) (es : List Event) → rise_above n es ≡ true → (filter (has_number n) es ≡ []) × (without n es ≡ es)
+none_has : (n : ℕ) (es : List Event) → rise_above n es ≡ true → (filter (has_number n) es ≡ []) × (without_request n es ≡ es)
 none_has n es rising = go n es (λ e m. above n es rising e m)
   where
-    go : (n : ℕ) (es : List Event) → ((e : Event) → Member e es → n < number_of e) → (filter (has_number n) es ≡ []) × (without n es ≡ es)
+    go : (n : ℕ) (es : List Event) → ((e : Event) → Member e es → n < number_of e) → (filter (has_number n) es ≡ []) × (without_request n es ≡ es)
     go n [] all = (refl, refl)
     go n (e ∷ es) all =
         let more : n < number_of e = all e (inl refl) in
@@ -225,7 +225,7 @@ at_place zero (e ∷ es) d inside = inl refl
 at_place (suc i) (e ∷ es) d inside = inr (at_place i es d (omega (arith, inside)))
 
 -- without the request at a place those before it and those behind it are left
-pub without_at : (m : ℕ) (es : List Event) → rise_above m es ≡ true → (i : ℕ) (d : Event) → i < length es → without (number_of (get_or es i d)) es ≡ take i es ++ drop (suc i) es
+pub without_at : (m : ℕ) (es : List Event) → rise_above m es ≡ true → (i : ℕ) (d : Event) → i < length es → without_request (number_of (get_or es i d)) es ≡ take i es ++ drop (suc i) es
 without_at m [] rising i d inside = absurd (omega (arith, inside))
 without_at m (e ∷ es) rising zero d inside =
     let none = none_has (number_of e) es (both m e es rising).1 in
@@ -328,15 +328,15 @@ filter_where p q (e ∷ es) same = rw (same e (inl refl), filter_where p q es (�
 
 -- what becomes outstanding is above all that was
 pub newly_is : (window n : ℕ) (left : List Event) (sent : ℕ) → rise_above 0 left ≡ true → sent ≡ last_or 0 (outstanding window left)
-    → filter (λ (e : Event). nat_lt sent (number_of e)) (outstanding window (without n left)) ≡ newly window n left
+    → filter (λ (e : Event). nat_lt sent (number_of e)) (outstanding window (without_request n left)) ≡ newly window n left
 newly_is window n left sent rising is = go (front window left rising)
   where
-    go : (k : ℕ) × (outstanding window left ≡ take k left) → filter (λ (e : Event). nat_lt sent (number_of e)) (outstanding window (without n left)) ≡ newly window n left
+    go : (k : ℕ) × (outstanding window left ≡ take k left) → filter (λ (e : Event). nat_lt sent (number_of e)) (outstanding window (without_request n left)) ≡ newly window n left
     go (k, same) =
         let last : sent ≡ last_or 0 (take k left) = is ∙ ap (last_or 0) same in
-        filter_where (λ (e : Event). nat_lt sent (number_of e)) (λ (e : Event). not (is_outstanding window left (number_of e))) (outstanding window (without n left))
+        filter_where (λ (e : Event). nat_lt sent (number_of e)) (λ (e : Event). not (is_outstanding window left (number_of e))) (outstanding window (without_request n left))
         (λ e m.
-        let here : Member e left = (Member-filter (λ (x : Event). not (has_number n x)) e left (is_left window (without n left) e m)).0 in
+        let here : Member e left = (Member-filter (λ (x : Event). not (has_number n x)) e left (is_left window (without_request n left) e m)).0 in
         rw (last, same) (behind_front 0 k left rising e here))
 
 -- all are above 0
@@ -356,9 +356,9 @@ filter_least p es = (let all = length-filter_both p (λ e. not (p e)) (λ e. ref
 -- no more are outstanding than the window has room for
 pub at_most : (window : ℕ) (left : List Event) → length (outstanding window left) ≤ window
 at_most window left =
-    let kept : length (outstanding window left) ≤ length (take window left) = filter_least (is_near (first_of left)) (take window left) in
+    let fewer : length (outstanding window left) ≤ length (take window left) = filter_least (is_near (first_of left)) (take window left) in
     let long : length (take window left) ≡ min window (length left) = length-take window left in
-    omega (arith, kept, long)
+    omega (arith, fewer, long)
 
 -- ---- a request that is brought forward
 

@@ -8,7 +8,7 @@ use Rattle.cx_base.specs.declared.role.RoleId.{RoleId}
 use Rattle.cx_base.specs.declared.why.Why.{Why}
 use Rattle.cx_base.specs.declared.why.Why.TheVariants.{Heard, Idle, Resent, Stranger}
 use Rattle.cx_base.specs.Role.{role, same_role}
-use Rattle.cx_client.specs.Window.{floor_for, has_number, is_outstanding, newly, outstanding, requests_of, without}
+use Rattle.cx_client.specs.Window.{floor_for, has_number, is_outstanding, newly, outstanding, request_letters, without_request}
 use Rattle.cx_field.specs.Fields.{mark}
 use Rattle.cx_model.specs.Heard.{mark_told}
 use Rattle.cx_model.specs.Names.{names}
@@ -57,24 +57,24 @@ pub record ClientMoved : Type 0 where
   pub completes : Bool
 
 -- nothing changes, and nothing is sent
-abbrev pub stays : Why → ClientState → ClientMoved
-stays w s = record { why = w; state = s; sends = []; completes = false }
+abbrev pub client_stays : Why → ClientState → ClientMoved
+client_stays w s = record { why = w; state = s; sends = []; completes = false }
 
 -- what is sent first: the outstanding requests
 abbrev pub client_start : ClientState → List Letter
-client_start s = requests_of s.heard (floor_for (left s)) (outstanding s.window (left s))
+client_start s = request_letters s.heard (floor_for (left s)) (outstanding s.window (left s))
 
 -- the client once the request of this number is completed
-abbrev pub completed : ℕ → ClientState → ClientState
-completed n s = record s { script = take s.done s.script ++ (filter (has_number n) (left s) ++ without n (left s)); done = s.done + 1 }
+abbrev pub after_completion : ℕ → ClientState → ClientState
+after_completion n s = record s { script = take s.done s.script ++ (filter (has_number n) (left s) ++ without_request n (left s)); done = s.done + 1 }
 
 -- the request of this number is completed, and those that become outstanding are sent
 abbrev pub client_completes : ℕ → ClientState → ClientMoved
 client_completes n s =
     record {
       why = Heard;
-      state = completed n s;
-      sends = requests_of s.heard (floor_for (without n (left s))) (newly s.window n (left s));
+      state = after_completion n s;
+      sends = request_letters s.heard (floor_for (without_request n (left s))) (newly s.window n (left s));
       completes = true;
     }
 
@@ -84,7 +84,7 @@ hearing at s = record s { heard = max s.heard at }
 
 -- an answer to the request of this number, of which the client has heard
 abbrev pub client_hears : ClientState → ℕ → ClientMoved
-client_hears s n = if is_outstanding s.window (left s) n then client_completes n s else stays Heard s
+client_hears s n = if is_outstanding s.window (left s) n then client_completes n s else client_stays Heard s
 
 -- the number of an answer's request, none of another message
 abbrev pub answer_number : Msg → Option ℕ
@@ -94,17 +94,17 @@ answer_number other = None
 
 -- a message that tells this number, of which the client hears where it is an answer, whether or not that completes a request
 abbrev pub client_told : ClientState → ℕ → Option ℕ → ClientMoved
-client_told s at None = stays Stranger s
+client_told s at None = client_stays Stranger s
 client_told s at (Some n) = client_hears (hearing at s) n
 
 -- a datagram; it is a stranger's where it isn't to this client, is no answer, or names what lies outside the cluster
 abbrev pub client_takes : ClientState → Letter → ClientMoved
-client_takes s d = if same_role d.to s.me && names s.cluster d then client_told s (mark_told d.msg) (answer_number d.msg) else stays Stranger s
+client_takes s d = if same_role d.to s.me && names s.cluster d then client_told s (mark_told d.msg) (answer_number d.msg) else client_stays Stranger s
 
 -- a tick sends the outstanding requests again
 abbrev pub client_waits : ClientState → List Event → ClientMoved
-client_waits s [] = stays Idle s
-client_waits s (e ∷ es) = record { why = Resent; state = s; sends = requests_of s.heard (floor_for (left s)) (e ∷ es); completes = false }
+client_waits s [] = client_stays Idle s
+client_waits s (e ∷ es) = record { why = Resent; state = s; sends = request_letters s.heard (floor_for (left s)) (e ∷ es); completes = false }
 
 abbrev pub client_ticks : ClientState → ClientMoved
 client_ticks s = client_waits s (outstanding s.window (left s))

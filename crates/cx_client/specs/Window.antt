@@ -32,26 +32,26 @@ abbrev pub is_outstanding : ℕ → List Event → ℕ → Bool
 is_outstanding window left n = list_any (has_number n) (outstanding window left)
 
 -- those that are left once a number is completed
-abbrev pub without : ℕ → List Event → List Event
-without n left = filter (λ (e : Event). not (has_number n e)) left
+abbrev pub without_request : ℕ → List Event → List Event
+without_request n left = filter (λ (e : Event). not (has_number n e)) left
 
 -- those that become outstanding then
 abbrev pub newly : ℕ → ℕ → List Event → List Event
-newly window n left = filter (λ (e : Event). not (is_outstanding window left (number_of e))) (outstanding window (without n left))
+newly window n left = filter (λ (e : Event). not (is_outstanding window left (number_of e))) (outstanding window (without_request n left))
 
 -- the same request, with this floor
-abbrev pub telling : ℕ → Event → Event
-telling floor (event.Write command batcher) = event.Write (record command { floor = floor }) batcher
-telling floor (event.Read client seq before reader replica key) = event.Read client seq floor reader replica key
-telling floor (event.Session client seq before replica key) = event.Session client seq floor replica key
-telling floor (event.Deliver number cut) = event.Deliver number cut
-telling floor (event.Tick r) = event.Tick r
-telling floor (event.Order leader order cut) = event.Order leader order cut
-telling floor (event.Replace replacer set cut) = event.Replace replacer set cut
-telling floor (event.Snap replica cut) = event.Snap replica cut
-telling floor (event.Crash r) = event.Crash r
-telling floor (event.Restart r) = event.Restart r
+abbrev pub event_with_floor : ℕ → Event → Event
+event_with_floor floor (event.Write command batcher) = event.Write (record command { floor = floor }) batcher
+event_with_floor floor (event.Read client seq before reader replica key) = event.Read client seq floor reader replica key
+event_with_floor floor (event.Session client seq before replica key) = event.Session client seq floor replica key
+event_with_floor floor (event.Deliver number cut) = event.Deliver number cut
+event_with_floor floor (event.Tick r) = event.Tick r
+event_with_floor floor (event.Order leader order cut) = event.Order leader order cut
+event_with_floor floor (event.Replace replacer set cut) = event.Replace replacer set cut
+event_with_floor floor (event.Snap replica cut) = event.Snap replica cut
+event_with_floor floor (event.Crash r) = event.Crash r
+event_with_floor floor (event.Restart r) = event.Restart r
 
 -- the datagrams of requests of a client that has heard of so many values, each telling this floor, one after the other
-abbrev pub requests_of : ℕ → ℕ → List Event → List Letter
-requests_of heard floor es = flat_map (λ (e : Event). request heard (telling floor e)) es
+abbrev pub request_letters : ℕ → ℕ → List Event → List Letter
+request_letters heard floor es = flat_map (λ (e : Event). request heard (event_with_floor floor e)) es

@@ -3,14 +3,14 @@
 ghost use Rattle.std.specs.Prelude.{◌≡◌, ◌≤◌, ◌<◌, ◌+◌, ◌-◌, ◌++◌, ◌∷◌, [], drop, filter, get_or, length, nat_lt, slice_get, take, IfOk, IfSome, OnErr, OnOk, IsTrue, false};
 ghost use Rattle.cx_base.specs.declared.event.Event.{Event as Happening};
 ghost use Rattle.cx_base.specs.declared.role.Kind.TheVariants as kind;
-ghost use Rattle.cx_client.specs.Client.{Moves, completed, client_hears, client_opened, client_start, client_takes, client_ticks, hearing, is_finished, left};
-ghost use Rattle.cx_client.specs.Window.{floor_for, outstanding, requests_of};
+ghost use Rattle.cx_client.specs.Client.{Moves, after_completion, client_hears, client_opened, client_start, client_takes, client_ticks, hearing, is_finished, left};
+ghost use Rattle.cx_client.specs.Window.{floor_for, outstanding, request_letters};
 ghost use Rattle.cx_field.specs.Fields as field;
 ghost use Rattle.cx_model.specs.Names.{names_role};
 ghost use Rattle.cx_script.specs.Requests.{IsScript, number_of};
 
 use crate::sending::send_outstanding;
-use crate::window::{first_of, number_of, outstanding, place_of};
+use crate::window::{first_of, number_of, outstanding, request_place};
 use cx_base::{Cluster, Event, Kind, NoMemory, RoleId, Why};
 use cx_msg::{Datagram, Msg};
 use cx_role::{Outbox, is_for};
@@ -18,7 +18,7 @@ use std::marker::Model;
 
 /// The result of a datagram, and whether it completed an outstanding request.
 #[derive(Clone, Copy, Debug, PartialEq, Eq)]
-pub struct Taken {
+pub struct ClientOutcome {
     pub why: Why,
     pub completes: bool,
 }
@@ -92,7 +92,7 @@ fn last_number(requests: &[Event]) -> u64
 
 impl Client {
     /// A client of the cluster and its script, nothing sent. The script has requests of this client alone, with their names in the
-    /// cluster and rising numbers from 1 on; 1 to 64 of them may be outstanding at a time. It takes no memory.
+    /// cluster and rising numbers from 1 on; 1 to 64 of them may be outstanding at a time.
     pub fn open(cluster: &Cluster, me: RoleId, script: Vec<Event>, window: u8) -> Self
         requires kind { me.kind ≡ kind.Client }
         requires named { IsTrue (names_role cluster.now me) }
@@ -118,10 +118,10 @@ impl Client {
         outstanding(&self.script[self.done..], self.window as usize)
     }
 
-    // The outstanding requests whose numbers are above `sent` go out. It takes no memory.
+    // The outstanding requests whose numbers are above `sent` go out.
     fn send_above(&self, sent: u64, out: &mut Outbox)
         requires room { self.now.window ≤ out.old.spare }
-        ensures { out.new.list ≡ out.old.list ++ requests_of self.now.heard (floor_for (left self.now))
+        ensures { out.new.list ≡ out.old.list ++ request_letters self.now.heard (floor_for (left self.now))
             (filter (λ (e : Happening). nat_lt sent (number_of e))
             (outstanding self.now.window (left self.now))) }
     {
@@ -148,7 +148,7 @@ impl Client {
     // The request at this place of those that are left is completed.
     fn complete(&mut self, place: usize)
         requires { place < length (left self.old) }
-        ensures { (d : Happening) → self.new ≡ completed (number_of (get_or (left self.old) place d)) self.old }
+        ensures { (d : Happening) → self.new ≡ after_completion (number_of (get_or (left self.old) place d)) self.old }
     {
         bring_forward(&mut self.script, self.done, place);
         self.done += 1;
@@ -163,7 +163,7 @@ impl Client {
     }
 
     // An answer to the request of this number tells the number `at`.
-    fn hear(&mut self, number: u64, at: u64, out: &mut Outbox) -> Result<Taken, NoMemory>
+    fn hear(&mut self, number: u64, at: u64, out: &mut Outbox) -> Result<ClientOutcome, NoMemory>
         requires at { IsTrue (field.mark.fits at) }
         requires empty { out.old.list ≡ [] }
         ensures ok { IfOk result
@@ -174,9 +174,9 @@ impl Client {
     {
         let why = Why::Heard;
         let outstanding = self.outstanding();
-        let Some(place) = place_of(outstanding, number) else {
+        let Some(place) = request_place(outstanding, number) else {
             self.raise(at);
-            return Ok(Taken {
+            return Ok(ClientOutcome {
                 why,
                 completes: false,
             });
@@ -186,7 +186,7 @@ impl Client {
         self.raise(at);
         self.complete(place);
         self.send_above(sent, out);
-        Ok(Taken {
+        Ok(ClientOutcome {
             why,
             completes: true,
         })
@@ -195,7 +195,7 @@ impl Client {
     /// One datagram. It is a stranger's, and nothing changes, where it isn't to this client, is no answer, or a name in it lies
     /// outside the cluster; any other is heard, and raises the number that sessions tell. An answer with the number of an
     /// outstanding request completes that one, and the requests that become outstanding are sent. Out of memory, nothing changes.
-    pub fn take(&mut self, datagram: &Datagram, out: &mut Outbox) -> Result<Taken, NoMemory>
+    pub fn take(&mut self, datagram: &Datagram, out: &mut Outbox) -> Result<ClientOutcome, NoMemory>
         requires empty { out.old.list ≡ [] }
         ensures ok { IfOk result
             (λ taken. Moves (client_takes self.old datagram.now) taken.why taken.completes self.new
@@ -203,7 +203,7 @@ impl Client {
         ensures no_memory { OnErr result (self.new ≡ self.old) }
         ensures nothing { OnErr result (out.new.list ≡ []) }
     {
-        let stranger = Taken {
+        let stranger = ClientOutcome {
             why: Why::Stranger,
             completes: false,
         };
@@ -233,21 +233,21 @@ impl Client {
     }
 
     /// The number below which the client is done with all: that of its first uncompleted request, less 1; 0 where all are
-    /// completed. A request that is sent now tells it as its floor. It takes no memory.
+    /// completed. A request that is sent now tells it as its floor.
     pub fn floor(&self) -> u64
         ensures { result ≡ floor_for (left self.now) }
     {
         first_of(&self.script[self.done..]).saturating_sub(1)
     }
 
-    /// How many requests are completed. It takes no memory.
+    /// How many requests are completed.
     pub fn completed(&self) -> u64
         ensures { result ≡ self.now.done }
     {
         self.done as u64
     }
 
-    /// Whether all requests are completed. It takes no memory.
+    /// Whether all requests are completed.
     pub fn finished(&self) -> bool
         ensures { result ≡ is_finished self.now }
     {

@@ -7,7 +7,7 @@ ghost use Rattle.cx_base.specs.declared.event.Event.{Event};
 ghost use Rattle.cx_base.specs.declared.role.Kind.TheVariants as kind;
 ghost use Rattle.cx_base.specs.Role.{role};
 ghost use Rattle.cx_client.specs.Client.{ClientState, IsClient, client_opened, client_start, client_takes, client_ticks, left};
-ghost use Rattle.cx_client.specs.Completes.{Answers, Completes, IsOwn, IsSent, TellsFloor, TellsHeard, heard_after};
+ghost use Rattle.cx_client.specs.Completes.{IsAnswerToRequest, CompletesRequest, AreFromClient, IsSent, TellsFloor, TellsHeard, heard_after};
 ghost use Rattle.cx_client.specs.Window.{floor_for, outstanding};
 ghost use Rattle.cx_field.specs.Fields as field;
 ghost use Rattle.cx_model.specs.Heard.{mark_told};
@@ -26,19 +26,19 @@ pub fn clients_stay()
 
 /// A law: whatever a client sends is from itself, and each name in it lies in the cluster.
 pub fn sends_are_own()
-    ensures starts { (s : ClientState) → IsClient s → IsOwn s (client_start s) }
-    ensures takes { (s : ClientState) (letter : Letter) → IsClient s → IsOwn s (client_takes s letter).sends }
-    ensures ticks { (s : ClientState) → IsClient s → IsOwn s (client_ticks s).sends }
+    ensures starts { (s : ClientState) → IsClient s → AreFromClient s (client_start s) }
+    ensures takes { (s : ClientState) (letter : Letter) → IsClient s → AreFromClient s (client_takes s letter).sends }
+    ensures ticks { (s : ClientState) → IsClient s → AreFromClient s (client_ticks s).sends }
 {}
 
 /// A law: a datagram completes one request or none: an outstanding one, exactly where it answers that one. One that completes none changes
 /// at most what the client has heard. A tick completes none.
 pub fn completes_once()
     ensures one { (s : ClientState) (letter : Letter) → IsClient s
-        → (client_takes s letter).completes ≡ true → Completes s letter (client_takes s letter).state }
+        → (client_takes s letter).completes ≡ true → CompletesRequest s letter (client_takes s letter).state }
     ensures none { (s : ClientState) (letter : Letter) → (client_takes s letter).completes ≡ false
         → (client_takes s letter).state ≡ record s { heard = heard_after s letter } }
-    ensures answered { (s : ClientState) (letter : Letter) → Answers s letter
+    ensures answered { (s : ClientState) (letter : Letter) → IsAnswerToRequest s letter
         → (client_takes s letter).completes ≡ true }
     ensures ticks { (s : ClientState) → (client_ticks s).state ≡ s }
 {}

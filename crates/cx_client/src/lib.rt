@@ -14,7 +14,7 @@ mod law;
 mod sending;
 mod window;
 
-pub use client::{Client, Taken};
+pub use client::{Client, ClientOutcome};
 pub use examples::worked;
 pub use law::{
     clients_stay, completes_once, floors_are_below, sends_are_own, sessions_tell_what_was_heard,

@@ -6,7 +6,7 @@ ghost use Rattle.cx_base.specs.Asked.{floor_fits, is_valid_event};
 ghost use Rattle.cx_base.specs.Role.{role};
 ghost use Rattle.cx_base.specs.declared.event.Event.{Event as Happening};
 ghost use Rattle.cx_base.specs.declared.role.Kind.TheVariants as kind;
-ghost use Rattle.cx_client.specs.Window.{floor_for, outstanding, requests_of, telling};
+ghost use Rattle.cx_client.specs.Window.{floor_for, outstanding, request_letters, event_with_floor};
 ghost use Rattle.cx_field.specs.Fields as field;
 ghost use Rattle.cx_model.specs.Request.{request};
 ghost use Rattle.cx_msg.specs.declared.message.Msg.TheVariants as msg;
@@ -37,14 +37,13 @@ fn submission(client: u16, seq: u64, floor: u64, op: Op, batcher: u16) -> Datagr
     )
 }
 
-// The datagram of a request goes out, which tells this floor, or in a session how many values the client has heard of. It takes
-// no memory.
+// The datagram of a request goes out, which tells this floor, or in a session how many values the client has heard of.
 #[tactic(auto, unfolding(cx_field::specs::Fields::seq, cx_wire::specs::Format::u64))]
 fn send(event: &Event, floor: u64, heard: u64, out: &mut Outbox)
     requires heard { IsTrue (field.mark.fits heard) }
     requires room { 0 < out.old.spare }
-    requires taken { IsTrue (is_valid_event (telling floor event.now)) }
-    ensures list { out.new.list ≡ out.old.list ++ request heard (telling floor event.now) }
+    requires taken { IsTrue (is_valid_event (event_with_floor floor event.now)) }
+    ensures list { out.new.list ≡ out.old.list ++ request heard (event_with_floor floor event.now) }
     ensures spare { out.old.spare ≤ out.new.spare + 1 }
 {
     match event {
@@ -74,12 +73,12 @@ fn send(event: &Event, floor: u64, heard: u64, out: &mut Outbox)
     }
 }
 
-// The requests whose numbers are above `sent` go out, in their order, each telling this floor or this mark. It takes no memory.
+// The requests whose numbers are above `sent` go out, in their order, each telling this floor or this mark.
 fn send_above(requests: &[Event], sent: u64, floor: u64, heard: u64, out: &mut Outbox)
     requires heard { IsTrue (field.mark.fits heard) }
     requires room { length requests.now ≤ out.old.spare }
-    requires taken { IsTrue (list_all (λ (e : Happening). is_valid_event (telling floor e)) requests.now) }
-    ensures { out.new.list ≡ out.old.list ++ requests_of heard floor
+    requires taken { IsTrue (list_all (λ (e : Happening). is_valid_event (event_with_floor floor e)) requests.now) }
+    ensures { out.new.list ≡ out.old.list ++ request_letters heard floor
         (filter (λ (e : Happening). nat_lt sent (number_of e)) requests.now) }
 {
     for event in requests {
@@ -90,12 +89,12 @@ fn send_above(requests: &[Event], sent: u64, floor: u64, heard: u64, out: &mut O
 }
 
 /// The outstanding ones of the requests that are left go out, but for those up to the number `sent`, of a client that has heard of so many
-/// values. It takes no memory.
+/// values.
 pub fn send_outstanding(left: &[Event], window: usize, sent: u64, heard: u64, out: &mut Outbox)
     requires heard { IsTrue (field.mark.fits heard) }
     requires rising { IsTrue (rise_above 0 left.now) }
     requires room { window ≤ out.old.spare }
-    ensures { out.new.list ≡ out.old.list ++ requests_of heard (floor_for left.now)
+    ensures { out.new.list ≡ out.old.list ++ request_letters heard (floor_for left.now)
         (filter (λ (e : Happening). nat_lt sent (number_of e)) (outstanding window left.now)) }
 {
     let floor = first_of(left).saturating_sub(1);

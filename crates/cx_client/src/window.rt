@@ -57,7 +57,7 @@ pub fn outstanding(left: &[Event], window: usize) -> &[Event]
 }
 
 /// The place of the request with this number, if there is one.
-pub fn place_of(requests: &[Event], number: u64) -> Option<usize>
+pub fn request_place(requests: &[Event], number: u64) -> Option<usize>
     ensures { result ≡ position (has_number number) requests.now }
 {
     requests.iter().position(|event| number_of(event) == number)

@@ -14,46 +14,46 @@ use Rattle.cx_cluster.specs.declared.key.ClusterKey.TheVariants.{F, Leaders, Pro
 use Rattle.cx_cluster.specs.Keys.{key_name, is_key}
 
 -- a number from low to high
-pub record Within (low high : ℕ) : Type 0 where
+pub record NumberInRange (low high : ℕ) : Type 0 where
   pub number : ℕ
   pub least : low ≤ number
   pub most : number ≤ high
 
 -- a number that is from low to high, by its two tests
-abbrev pub tested : ClusterKey → (low high n : ℕ) → Dec (low ≤ n) → Dec (n ≤ high) → Result (Within low high) ClusterFault
+abbrev pub tested : ClusterKey → (low high n : ℕ) → Dec (low ≤ n) → Dec (n ≤ high) → Result (NumberInRange low high) ClusterFault
 tested key low high n (yes least) (yes most) = Ok (record { number = n; least = least; most = most })
 tested key low high n (yes least) (no more) = Err (Range key (pos n))
 tested key low high n (no less) most = Err (Range key (pos n))
 
 -- a number as one from low to high
-abbrev pub ranged : ClusterKey → (low high : ℕ) → ℤ → Result (Within low high) ClusterFault
+abbrev pub ranged : ClusterKey → (low high : ℕ) → ℤ → Result (NumberInRange low high) ClusterFault
 ranged key low high (pos n) = tested key low high n (dec_le low n) (dec_le n high)
 ranged key low high (negsuc n) = Err (Range key (negsuc n))
 
 -- the number that a value is, of those that are whole numbers
-abbrev pub number_if : ClusterKey → (low high : ℕ) → Option ℤ → Result (Within low high) ClusterFault
+abbrev pub number_if : ClusterKey → (low high : ℕ) → Option ℤ → Result (NumberInRange low high) ClusterFault
 number_if key low high None = Err (NotNumber key)
 number_if key low high (Some number) = ranged key low high number
 
 -- the number that a value is
-abbrev pub number_of : ClusterKey → (low high : ℕ) → Data → Result (Within low high) ClusterFault
-number_of key low high value = number_if key low high (as_integer value)
+abbrev pub value_number : ClusterKey → (low high : ℕ) → Data → Result (NumberInRange low high) ClusterFault
+value_number key low high value = number_if key low high (as_integer value)
 
 -- the number that a key must have, from a value or from none
-abbrev pub number_in : ClusterKey → (low high : ℕ) → Option Data → Result (Within low high) ClusterFault
-number_in key low high None = Err (Missing key)
-number_in key low high (Some value) = number_of key low high value
+abbrev pub required_number : ClusterKey → (low high : ℕ) → Option Data → Result (NumberInRange low high) ClusterFault
+required_number key low high None = Err (Missing key)
+required_number key low high (Some value) = value_number key low high value
 
 -- the number under a key
-abbrev pub number_at : Members → ClusterKey → (low high : ℕ) → Result (Within low high) ClusterFault
-number_at ms key low high = number_in key low high (get_member (key_name key) ms)
+abbrev pub number_at : Members → ClusterKey → (low high : ℕ) → Result (NumberInRange low high) ClusterFault
+number_at ms key low high = required_number key low high (get_member (key_name key) ms)
 
 -- the number of a key that may be left out, which is the least one then
-abbrev pub number_or_least : ClusterKey → (low high : ℕ) → Option Data → Result (Within low high) ClusterFault
+abbrev pub number_or_least : ClusterKey → (low high : ℕ) → Option Data → Result (NumberInRange low high) ClusterFault
 number_or_least key low high None = tested key low high low (dec_le low low) (dec_le low high)
-number_or_least key low high (Some value) = number_of key low high value
+number_or_least key low high (Some value) = value_number key low high value
 
-abbrev pub optional_at : Members → ClusterKey → (low high : ℕ) → Result (Within low high) ClusterFault
+abbrev pub optional_at : Members → ClusterKey → (low high : ℕ) → Result (NumberInRange low high) ClusterFault
 optional_at ms key low high = number_or_least key low high (get_member (key_name key) ms)
 
 -- what follows a good part, or the part's fault
@@ -63,17 +63,17 @@ abbrev pub ◌>>=◌ : {A B : Type 0} → Result A ClusterFault → (A → Resul
 (Err fault) >>= next = Err fault
 
 -- a number, or the fault, is what is defined
-abbrev pub IsNumber : {low high : ℕ} → Result ℕ ClusterFault → Result (Within low high) ClusterFault → Type 0
+abbrev pub IsNumber : {low high : ℕ} → Result ℕ ClusterFault → Result (NumberInRange low high) ClusterFault → Type 0
 IsNumber {low} {high} (Ok number) defined = (least : low ≤ number) × (most : number ≤ high) × (defined ≡ Ok (record { number = number; least = least; most = most }))
 IsNumber (Err fault) defined = defined ≡ Err fault
 
 -- the port, which may be left out
-abbrev pub port_of : Option Data → Result (Option ℕ) ClusterFault
-port_of None = Ok None
-port_of (Some value) = number_of BasePort 1024 60000 value >>= (λ port. Ok (Some port.number))
+abbrev pub base_port_of : Option Data → Result (Option ℕ) ClusterFault
+base_port_of None = Ok None
+base_port_of (Some value) = value_number BasePort 1024 60000 value >>= (λ port. Ok (Some port.number))
 
 abbrev pub port_at : Members → Result (Option ℕ) ClusterFault
-port_at ms = port_of (get_member (key_name BasePort) ms)
+port_at ms = base_port_of (get_member (key_name BasePort) ms)
 
 -- the cluster that the members give, or the fault of the first key that has one
 unfoldable pub cluster_at : Members → Result Cluster ClusterFault

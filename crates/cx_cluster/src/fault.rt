@@ -23,7 +23,7 @@ impl Model for UnknownKey {
 impl UnknownKey {
     ghost use Rattle.std.specs.Prelude.{string_bytes};
 
-    /// The key with this text. It takes no memory.
+    /// The key with this text.
     pub fn from_text(text: String) -> Self
         ensures { result ≡ string_bytes text }
     {
@@ -64,6 +64,6 @@ pub enum ClusterFault {
     #[error("{0} = {1} is out of range")]
     Range(ClusterKey, i64),
     /// Out of memory.
-    #[error("out of memory")]
+    #[error("no memory")]
     NoMemory,
 }

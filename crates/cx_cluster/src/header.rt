@@ -4,7 +4,7 @@ ghost use Rattle.std.specs.Prelude.{◌≡◌, ◌≢◌, ◌≤◌, option_map,
 ghost use Rattle.std.specs.Option.{option_copied};
 ghost use Rattle.std.specs.BTreeMap.{keys, IsOrdered};
 ghost use Rattle.std.specs.String.{string_cmp};
-ghost use Rattle.cx_cluster.specs.Reading.{IsNumber, ranged, number_of, number_at, optional_at, port_at, cluster_at, header_cluster};
+ghost use Rattle.cx_cluster.specs.Reading.{IsNumber, ranged, value_number, number_at, optional_at, port_at, cluster_at, header_cluster};
 ghost use Rattle.cx_cluster.specs.declared.fault.ClusterFault.TheVariants.{NoMemory, Unknown};
 ghost use Rattle.cx_cluster.specs.Keys.{key_name, is_key};
 ghost use Rattle.toml.specs.Data.{get_member};
@@ -39,8 +39,8 @@ fn member(table: &Table, key: ClusterKey) -> Option<&Value>
 }
 
 /// A value as a number from `low` to `high`.
-fn number_of(key: ClusterKey, value: &Value, low: u16, high: u16) -> Result<u16, ClusterFault>
-    ensures { IsNumber result (number_of key low high (view value.now)) }
+fn value_number(key: ClusterKey, value: &Value, low: u16, high: u16) -> Result<u16, ClusterFault>
+    ensures { IsNumber result (value_number key low high (view value.now)) }
 {
     match value.as_integer() {
         Some(number) => number_within(key, number, low, high),
@@ -53,7 +53,7 @@ fn number(table: &Table, key: ClusterKey, low: u16, high: u16) -> Result<u16, Cl
     ensures { IsNumber result (number_at (table_view table.now) key low high) }
 {
     match member(table, key) {
-        Some(value) => number_of(key, value, low, high),
+        Some(value) => value_number(key, value, low, high),
         None => Err(ClusterFault::Missing(key)),
     }
 }
@@ -64,7 +64,7 @@ fn optional(table: &Table, key: ClusterKey, low: u16, high: u16) -> Result<u16, 
     ensures { IsNumber result (optional_at (table_view table.now) key low high) }
 {
     match member(table, key) {
-        Some(value) => number_of(key, value, low, high),
+        Some(value) => value_number(key, value, low, high),
         None => Ok(low),
     }
 }
@@ -74,7 +74,7 @@ fn port(table: &Table) -> Result<Option<u16>, ClusterFault>
     ensures { result ≡ port_at (table_view table.now) }
 {
     match member(table, ClusterKey::BasePort) {
-        Some(value) => Ok(Some(number_of(ClusterKey::BasePort, value, 1024, 60000)?)),
+        Some(value) => Ok(Some(value_number(ClusterKey::BasePort, value, 1024, 60000)?)),
         None => Ok(None),
     }
 }

@@ -38,7 +38,7 @@ const KEYS: [ClusterKey; 13] = [
 ];
 
 impl ClusterKey {
-    /// How it is written. It takes no memory.
+    /// How it is written.
     pub fn name(self) -> &'static str
         ensures { result.now ≡ key_name self }
     {

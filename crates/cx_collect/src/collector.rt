@@ -23,9 +23,9 @@ pub struct Collector {
 }
 
 impl Model for Collector {
-    ghost use Rattle.cx_collect.specs.Collecting.{Collecting, IsCount};
+    ghost use Rattle.cx_collect.specs.Collecting.{CollectorState, IsCount};
 
-    ghost Value = { Collecting };
+    ghost Value = { CollectorState };
 
     ghost view = { λ k. record {
       grid = k.grid;
@@ -108,7 +108,7 @@ impl Collector {
     }
 
     /// Forgets which matchmakers were counted, where those of another set are asked in their place: f + 1 of these are to
-    /// forget the earlier rounds. It takes no memory.
+    /// forget the earlier rounds.
     pub fn recount(&mut self)
         requires { IsTrue (is_collecting self.old.collection.stage) }
         ensures { self.new ≡ recounted self.old }

@@ -8,7 +8,7 @@ use Rattle.cx_base.specs.declared.event.Event.TheVariants as event
 use Rattle.cx_base.specs.declared.event.Happened.{Happened}
 use Rattle.cx_client.specs.Client.{ClientState, IsClient, left}
 use Rattle.cx_client.proofs.Windows.{one_number}
-use Rattle.cx_client.specs.Window.{telling}
+use Rattle.cx_client.specs.Window.{event_with_floor}
 use Rattle.cx_field.specs.declared.parts.Token.{Token}
 use Rattle.cx_model.specs.Heard.{heard_by, is_heard}
 use Rattle.cx_model.specs.Member.{Member}
@@ -31,7 +31,7 @@ pub record IsTold (s : ClientState) (e : Event) : Type 0 where
   pub line : Event
   pub floor : ℕ
   pub own : Member line s.script
-  pub is : e ≡ telling floor line
+  pub is : e ≡ event_with_floor floor line
   pub below : (l : Event) → Member l (left s) → floor < number_of l
 
 -- a client that has heard nothing, and else is as this one

@@ -11,8 +11,8 @@ use Rattle.cx_base.specs.declared.role.Kind.TheVariants as kind
 use Rattle.cx_base.specs.declared.role.RoleId.{RoleId}
 use Rattle.cx_base.specs.declared.why.Why.TheVariants as why
 use Rattle.cx_base.specs.Role.{role}
-use Rattle.cx_client.specs.Client.{ClientMoved, ClientState, client_start, client_takes, client_ticks, hearing, left, stays}
-use Rattle.cx_client.specs.Window.{floor_for, outstanding, requests_of, telling}
+use Rattle.cx_client.specs.Client.{ClientMoved, ClientState, client_start, client_takes, client_ticks, hearing, left, client_stays}
+use Rattle.cx_client.specs.Window.{floor_for, outstanding, request_letters, event_with_floor}
 use Rattle.cx_client.proofs.Windows.{fits, is_left}
 use Rattle.cx_inv_run.proofs.Members.{Member-at, Member-cases, Member-map, all-Member}
 use Rattle.cx_model.specs.Heard.{mark_told}
@@ -62,15 +62,15 @@ requests_in floor ds = flat_map (λ (d : Letter). request_by floor d.from d.to d
 
 -- the datagrams of a client's lines are recorded as these lines, with the floor that they tell
 requests_back : (client heard floor : ℕ) (es : List Event) → ((e : Event) → Member e es → asks client e ≡ true)
-    → requests_in floor (requests_of heard floor es) ≡ map (telling floor) es
+    → requests_in floor (request_letters heard floor es) ≡ map (event_with_floor floor) es
 requests_back client heard floor [] own = refl
 requests_back client heard floor (e ∷ es) own = one e (own e (inl refl)) (requests_back client heard floor es (λ x m. own x (inr m)))
   where
-    one : (e : Event) → asks client e ≡ true → requests_in floor (requests_of heard floor es) ≡ map (telling floor) es
-        → requests_in floor (requests_of heard floor (e ∷ es)) ≡ telling floor e ∷ map (telling floor) es
-    one (event.Write command batcher) own rest = ap (λ (l : List Event). telling floor (event.Write command batcher) ∷ l) rest
-    one (event.Read other seq before reader replica key) own rest = ap (λ (l : List Event). telling floor (event.Read other seq before reader replica key) ∷ l) rest
-    one (event.Session other seq before replica key) own rest = ap (λ (l : List Event). telling floor (event.Session other seq before replica key) ∷ l) rest
+    one : (e : Event) → asks client e ≡ true → requests_in floor (request_letters heard floor es) ≡ map (event_with_floor floor) es
+        → requests_in floor (request_letters heard floor (e ∷ es)) ≡ event_with_floor floor e ∷ map (event_with_floor floor) es
+    one (event.Write command batcher) own rest = ap (λ (l : List Event). event_with_floor floor (event.Write command batcher) ∷ l) rest
+    one (event.Read other seq before reader replica key) own rest = ap (λ (l : List Event). event_with_floor floor (event.Read other seq before reader replica key) ∷ l) rest
+    one (event.Session other seq before replica key) own rest = ap (λ (l : List Event). event_with_floor floor (event.Session other seq before replica key) ∷ l) rest
     one (event.Deliver number cut) own rest = cc
     one (event.Tick r) own rest = cc
     one (event.Order l order cut) own rest = cc
@@ -90,12 +90,12 @@ module _ (w : World) (s : ClientState) (m : ClientMoved) (moves : Asks w s m) (t
   its_own : (e : Event) → Member e moves.lines → asks m.state.me.index e ≡ true
   its_own e here = all-Member (asks m.state.me.index) (left m.state) moves.asker.client.script.own e (is_left m.state.window (left m.state) e (moves.out e here))
 
-  pub requests_are : Requests ≡ map (telling Floor) moves.lines
+  pub requests_are : Requests ≡ map (event_with_floor Floor) moves.lines
   requests_are = ap (requests_in Floor) moves.sends ∙ requests_back m.state.me.index m.state.heard Floor moves.lines its_own
 
-  each_recordable : (e : Event) → Member e (map (telling Floor) moves.lines) → IsRecordable w.cluster e
+  each_recordable : (e : Event) → Member e (map (event_with_floor Floor) moves.lines) → IsRecordable w.cluster e
   each_recordable e here =
-      let l = Member-map (telling Floor) e moves.lines here in
+      let l = Member-map (event_with_floor Floor) e moves.lines here in
       let own : Member l.0 m.state.script = dropped m.state.done l.0 m.state.script (is_left m.state.window (left m.state) l.0 (moves.out l.0 l.1)) in
       let fit : floor_fits (number_of l.0) Floor ≡ true = fits m.state.window (left m.state) moves.asker.client.script.rising l.0 (moves.out l.0 l.1) in
       subst (IsRecordable w.cluster) (sym l.2) (recordable_telling w.cluster Floor l.0 (moves.asker.lines l.0 own) fit)
@@ -104,7 +104,7 @@ module _ (w : World) (s : ClientState) (m : ClientMoved) (moves : Asks w s m) (t
   moved_out =
       let out = all_go_out w m.state moves.asker traced moves.lines (λ e here. is_left m.state.window (left m.state) e (moves.out e here)) in (
         subst (λ es. Sends w (run_from w es) m.state m.sends) (sym requests_are)
-            (subst (λ ds. Sends w (run_from w (map (telling Floor) moves.lines)) m.state ds) (sym moves.sends) out.0),
+            (subst (λ ds. Sends w (run_from w (map (event_with_floor Floor) moves.lines)) m.state ds) (sym moves.sends) out.0),
         subst (λ es. IsAsker (run_from w es) m.state) (sym requests_are) out.1,
         subst (λ es. IsTraced (run_from w es)) (sym requests_are) out.2,
       )
@@ -186,7 +186,7 @@ module _ (w : World) (s : ClientState) (is : IsAsker w s) (traced : IsTraced w) 
   starts_so : Asks w s (record { why = why.Resent; state = s; sends = client_start s; completes = false })
   starts_so = record { asker = is; me = refl; lines = outstanding s.window (left s); out = λ e m. m; sends = refl }
 
-  rests_so : Asks w s (stays why.Idle s)
+  rests_so : Asks w s (client_stays why.Idle s)
   rests_so = stays_so w s s why.Idle is refl
 
   took_so : (n : ℕ) (d : Letter) → slice_get w.sent n ≡ Some d → d.to ≡ s.me → IsAsker (step w (event.Deliver n Whole)) (hearing (mark_told d.msg) s)
@@ -210,11 +210,11 @@ module _ (w : World) (s : ClientState) (is : IsAsker w s) (traced : IsTraced w) 
   unfolding does
   does_tick n = refl
 
-  does_order : (n : ℕ) (order : Order) → does (ClientAt s) (Give n (input.Order order)) ≡ moved_step (stays why.Idle s) [] []
+  does_order : (n : ℕ) (order : Order) → does (ClientAt s) (Give n (input.Order order)) ≡ moved_step (client_stays why.Idle s) [] []
   unfolding does
   does_order n order = refl
 
-  does_snap : does (ClientAt s) Snap ≡ moved_step (stays why.Idle s) [] []
+  does_snap : does (ClientAt s) Snap ≡ moved_step (client_stays why.Idle s) [] []
   unfolding does
   does_snap = refl
 
@@ -231,10 +231,10 @@ module _ (w : World) (s : ClientState) (is : IsAsker w s) (traced : IsTraced w) 
       it_lands w s (Give n input.Tick) [] w (λ es. refl) (nothing_sends w s) traced (client_ticks s) (ticks_so w s is) [] [] (does_tick n)
       (ap (λ (b : Bool). if b then [] else event.Tick s.me ∷ []) (is_client s its_name)) (none_delivered _) (λ e m. absurd m)
   client_lands (Give n (input.Order order)) come =
-      it_lands w s (Give n (input.Order order)) [] w (λ es. refl) (nothing_sends w s) traced (stays why.Idle s) rests_so [] [] (does_order n order)
+      it_lands w s (Give n (input.Order order)) [] w (λ es. refl) (nothing_sends w s) traced (client_stays why.Idle s) rests_so [] [] (does_order n order)
       (ap (λ (b : Bool). if b then event.Order s.me.index order Whole ∷ [] else []) (is_no_leader s its_name)) (none_delivered _) (λ e m. absurd m)
   client_lands Snap come =
-      it_lands w s Snap [] w (λ es. refl) (nothing_sends w s) traced (stays why.Idle s) rests_so [] [] does_snap
+      it_lands w s Snap [] w (λ es. refl) (nothing_sends w s) traced (client_stays why.Idle s) rests_so [] [] does_snap
       (ap (λ (b : Bool). if b then event.Snap s.me.index Whole ∷ [] else []) (is_no_replica s its_name)) (none_delivered _) (λ e m. absurd m)
   client_lands (Give n (input.Take d)) come =
       let heard = hears w s is traced n d come.0 come.1 in

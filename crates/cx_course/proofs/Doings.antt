@@ -319,7 +319,7 @@ module _ (w : World) (traced : IsTraced w) where
       let me = name_of h in
       gives h n input.Tick (event.Tick me) off is (ap (λ b. if b then [] else event.Tick me ∷ []) (no_client_event w h off is))
       (record { change = refl; plain = record { no_request = refl; unheard = λ client u. told_none client w (record { event = event.Tick me; why = u }) refl } })
-      (inr (record { ranges = tt; valid = refl; named = is_server w h off is; told = refl }))
+      (inr (record { ranges = tt; valid = refl; named = is_server w h off is; complete = refl }))
   role_gives h n (input.Take d) off is fair =
       gives h n (input.Take d) (event.Deliver n Whole) off is refl
       (record {
@@ -343,7 +343,7 @@ module _ (w : World) (traced : IsTraced w) where
         ranges = fair.grid;
         valid = refl;
         named = and_from (nat_lt me.index w.cluster.leaders) (names_order w.cluster o) (in_cluster kind.Leader me fair.leader (named_so w h is)) fair.named;
-        told = told_whole me.index o;
+        complete = told_whole me.index o;
       }))
 
   no_snap : (me : RoleId) (k : Kind) → me.kind ≡ k → (code_of k == code_of kind.Replica) ≡ false → own_event me Snap ≡ []
@@ -367,7 +367,7 @@ module _ (w : World) (traced : IsTraced w) where
         change = ap (act_at w (act.Snap Whole)) (sym (by_kind_name kind.Replica s.me is.kind_is));
         plain = record { no_request = refl; unheard = λ client u. told_none client w (record { event = e; why = u }) refl };
       }))
-      (one_fits e (inr (record { ranges = tt; valid = refl; named = in_cluster kind.Replica s.me is.kind_is is.named; told = refl })))
+      (one_fits e (inr (record { ranges = tt; valid = refl; named = in_cluster kind.Replica s.me is.kind_is is.named; complete = refl })))
 
   role_steps : (h : Hosted) (what : Doing) → is_asker h ≡ false → IsAlike w h → IsFair w (name_of h) what → Steps w h what
   role_steps h Begin off is fair = rests_so h Begin off is refl (begins_so h off)

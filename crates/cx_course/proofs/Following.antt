@@ -68,7 +68,7 @@ all_fit c many es most fit = λ k d less. one (get_or es k d) (fit (get_or es k 
 
     one : (e : Event) → FitsIn c many e → IsRecordable c e
     one e (inr can) = can
-    one e (inl x) = subst (IsRecordable c) (sym x.2) (record { ranges = within x.0 x.3; valid = refl; named = refl; told = refl })
+    one e (inl x) = subst (IsRecordable c) (sym x.2) (record { ranges = within x.0 x.3; valid = refl; named = refl; complete = refl })
 
 -- so it follows
 pub stands_follow : (c : Cluster) (p : List Action) (s : Course) → Stands c (past_of p) s → Follows c p

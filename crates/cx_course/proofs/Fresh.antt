@@ -10,7 +10,7 @@ use Rattle.cx_base.specs.declared.role.RoleId.{RoleId}
 use Rattle.cx_base.specs.Cluster.{count_of}
 use Rattle.cx_inv_open.specs.Reopened.{stored_as}
 use Rattle.cx_inv_run.specs.States.{State, BatcherIn, LeaderIn, ProxyIn, ReplicaIn, ReaderIn, ReplacerIn, plain, states_of}
-use Rattle.cx_inv_run.proofs.Steps.{Place, place_of, batchers, leaders, proxies, acceptors, matchmakers, replicas, unbatchers, readers}
+use Rattle.cx_inv_run.proofs.Steps.{Place, place_of, batchers, leaders, proxies, acceptors, matchmakers, replicas, unbatchers, readers, replacers}
 use Rattle.cx_model.specs.Acceptor.{acceptor_rules}
 use Rattle.cx_model.specs.Batcher.{batcher_rules}
 use Rattle.cx_model.specs.Leader.{leader_rules}
@@ -28,7 +28,6 @@ use Rattle.cx_course.specs.Hosted.{Hosted, ClientAt, BatcherAt, LeaderAt, ProxyA
 use Rattle.cx_course.proofs.Alike.{IsAlike, IsRole}
 use Rattle.cx_course.proofs.Asker.{first_asker, first_traced}
 use Rattle.cx_course.proofs.Following.{Stands}
-use Rattle.cx_course.proofs.Replacers.{replacers}
 use Rattle.cx_course.proofs.Past.{past_of}
 
 fresh_get : {V : Type 0} (v : V) (count i : ℕ) → nat_lt i count ≡ true → slice_get (fresh_roles v count) i ≡ Some (Some v)

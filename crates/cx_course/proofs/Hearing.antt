@@ -17,7 +17,7 @@ use Rattle.cx_model.specs.Lists.{bool_cases, same_role-true}
 use Rattle.cx_model.specs.Member.{Member}
 use Rattle.cx_model.specs.Names.{names_role}
 use Rattle.cx_model.specs.Request.{token_of}
-use Rattle.cx_model.specs.World.{World, Change, change, come, noted}
+use Rattle.cx_model.specs.World.{World, Change, change, come, world_after}
 use Rattle.cx_msg.specs.Letter.{Letter}
 use Rattle.cx_course.proofs.Asker.{IsTraced, SparesClient}
 
@@ -102,21 +102,21 @@ module _ (w : World) (e : Event) (ch : Change) (traced : IsTraced w) (there : Is
   all_there h m n cut heard is = traced.there h n cut m heard is
 
   -- a client has heard what the event tells it, and what it had heard
-  pub heard_then : (client : ℕ) → heard_by client (noted w e ch).sent (noted w e ch).events ≡ max (heard_at client w.sent New) (heard_by client w.sent w.events)
+  pub heard_then : (client : ℕ) → heard_by client (world_after w e ch).sent (world_after w e ch).events ≡ max (heard_at client w.sent New) (heard_by client w.sent w.events)
   heard_then client =
       one_more client (w.sent ++ ch.sends) w.events New
       ∙ ap (λ n. max n (heard_by client (w.sent ++ ch.sends) w.events)) (same_at client w.sent ch.sends New there)
       ∙ ap (λ n. max (heard_at client w.sent New) n) (same_heard client w.sent ch.sends w.events all_there)
 
   -- an event that tells it nothing
-  pub heard_still : (client : ℕ) → heard_at client w.sent New ≡ 0 → heard_by client (noted w e ch).sent (noted w e ch).events ≡ heard_by client w.sent w.events
+  pub heard_still : (client : ℕ) → heard_at client w.sent New ≡ 0 → heard_by client (world_after w e ch).sent (world_after w e ch).events ≡ heard_by client w.sent w.events
   heard_still client none = heard_then client ∙ ap (λ n. max n (heard_by client w.sent w.events)) none ∙ least (heard_by client w.sent w.events)
     where
       least : (n : ℕ) → max 0 n ≡ n
       least n = omega arith
 
   -- what it sends is from roles of the cluster
-  pub traced_behind : ((d : Letter) → Member d ch.sends → names_role w.cluster d.from ≡ true) → IsTraced (noted w e ch)
+  pub traced_behind : ((d : Letter) → Member d ch.sends → names_role w.cluster d.from ≡ true) → IsTraced (world_after w e ch)
   traced_behind named = record {
     named = λ d m. elim (Member-cases d w.sent ch.sends m) [ inl old ↦ traced.named d old | inr new ↦ named d new ];
     there = λ h n cut m heard is. longer n (elim (Member-cases h w.events (New ∷ []) m) [
@@ -130,7 +130,7 @@ module _ (w : World) (e : Event) (ch : Change) (traced : IsTraced w) (there : Is
       longer n less = (let all : length (w.sent ++ ch.sends) ≡ length w.sent + length ch.sends = length-append w.sent ch.sends in omega (arith, less, all))
 
   -- an event that is no request, and tells a client nothing, changes nothing for it
-  pub spares : (client : ℕ) → token_of e ≡ None → heard_at client w.sent New ≡ 0 → SparesClient w (noted w e ch) client
+  pub spares : (client : ℕ) → token_of e ≡ None → heard_at client w.sent New ≡ 0 → SparesClient w (world_after w e ch) client
   spares client none nothing = record {
     asked = λ h t m sent token mine. elim (Member-cases h w.events (New ∷ []) m) [
       | inl old ↦ old

@@ -8,7 +8,6 @@ pub mod Grids
 pub mod Hearing
 pub mod Moments
 pub mod Past
-pub mod Replacers
 pub mod Requests
 pub mod Roles
 pub mod Scripts

@@ -8,7 +8,7 @@ use Rattle.std.proofs.lemmas.Option.{none-some, same_Some}
 use Rattle.cx_base.specs.declared.cluster.Cluster.{Cluster}
 use Rattle.cx_base.specs.declared.event.Event.{Event}
 use Rattle.cx_inv_open.specs.Reopened.{stored_as}
-use Rattle.cx_keeper.specs.Keeper.{Change}
+use Rattle.cx_keeper.specs.Keeper.{KeeperChange}
 use Rattle.cx_model.specs.World.{run}
 use Rattle.cx_msg.specs.declared.input.Written.{Written}
 use Rattle.cx_record.specs.Lines.{events_text}
@@ -93,7 +93,7 @@ module _ (c : Cluster) (p : List Action) (hs : List Hosted)
     abbrev Events : List Event
     Events = step_events h what
 
-    abbrev For : Written → Change
+    abbrev For : Written → KeeperChange
     For y = change_for (stored_as (name_of h) (run c (noted_in p)).kept (name_of h).kind) y
 
     abbrev came : Lands (run c (noted_in p)) Events (name_of h) (does h what)

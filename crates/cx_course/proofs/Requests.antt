@@ -9,7 +9,7 @@ use Rattle.cx_base.specs.declared.role.Kind.TheVariants as kind
 use Rattle.cx_base.specs.declared.why.Why.TheVariants as why
 use Rattle.cx_base.specs.Role.{role}
 use Rattle.cx_client.specs.Client.{ClientState, left}
-use Rattle.cx_client.specs.Window.{floor_for, requests_of, telling}
+use Rattle.cx_client.specs.Window.{floor_for, request_letters, event_with_floor}
 use Rattle.cx_client.proofs.Windows.{above, rise_above_floor}
 use Rattle.cx_field.specs.declared.parts.Token.{Token}
 use Rattle.cx_inv_run.proofs.Members.{Member-cases}
@@ -17,7 +17,7 @@ use Rattle.cx_model.specs.Heard.{heard_by}
 use Rattle.cx_model.specs.Member.{Member}
 use Rattle.cx_model.specs.Names.{names_role}
 use Rattle.cx_model.specs.Request.{request, token_of}
-use Rattle.cx_model.specs.World.{World, Change, ask, change, noted, run_from, step}
+use Rattle.cx_model.specs.World.{World, Change, ask, change, world_after, run_from, step}
 use Rattle.cx_msg.specs.Letter.{Letter}
 use Rattle.cx_course.proofs.Asker.{IsAsker, IsTold, IsTraced, SparesClient}
 use Rattle.cx_course.proofs.Hearing.{heard_still, traced_behind}
@@ -31,9 +31,9 @@ pub record Sends (w after : World) (s : ClientState) (sends : List Letter) : Typ
   pub sent : after.sent ≡ w.sent ++ sends
   pub others : (index : ℕ) → (index ≡ s.me.index → ⊥) → SparesClient w after index
 
-pub step_is : (w : World) (e : Event) (ch : Change) → change w e ≡ ch → step w e ≡ noted w e ch
+pub step_is : (w : World) (e : Event) (ch : Change) → change w e ≡ ch → step w e ≡ world_after w e ch
 unfolding step
-step_is w e ch is = ap (noted w e) is
+step_is w e ch is = ap (world_after w e) is
 
 -- a request of this client is from it, so from a role of the cluster
 from_it : (n : ℕ) (e : Event) (t : Token) → token_of e ≡ Some t → (d : Letter) → Member d (request n e) → d.from ≡ role kind.Client t.client
@@ -79,7 +79,7 @@ module _ (w : World) (s : ClientState) (is : IsAsker w s) (traced : IsTraced w) 
   changes_so = by_event Request asks_so (its_token w s is e here)
 
   abbrev Asked : World
-  Asked = noted w Request Goes
+  Asked = world_after w Request Goes
 
   abbrev New : Happened
   New = record { event = Request; why = why.Sent }
@@ -167,12 +167,12 @@ sends_on w mid after s sends rest one two = record {
 
 -- lines that are left go out, one after the other
 pub all_go_out : (w : World) (s : ClientState) → IsAsker w s → IsTraced w → (es : List Event) → ((e : Event) → Member e es → Member e (left s))
-    → Sends w (run_from w (map (telling (floor_for (left s))) es)) s (requests_of s.heard (floor_for (left s)) es)
-    × IsAsker (run_from w (map (telling (floor_for (left s))) es)) s
-    × IsTraced (run_from w (map (telling (floor_for (left s))) es))
+    → Sends w (run_from w (map (event_with_floor (floor_for (left s))) es)) s (request_letters s.heard (floor_for (left s)) es)
+    × IsAsker (run_from w (map (event_with_floor (floor_for (left s))) es)) s
+    × IsTraced (run_from w (map (event_with_floor (floor_for (left s))) es))
 all_go_out w s is traced [] here = (nothing_sends w s, is, traced)
 all_go_out w s is traced (e ∷ es) here =
     let one = goes_out w s is traced e (here e (inl refl)) in
-    let first = telling (floor_for (left s)) e in
+    let first = event_with_floor (floor_for (left s)) e in
     let rest = all_go_out (step w first) s one.1 one.2 es (λ x m. here x (inr m)) in
-    (sends_on w (step w first) (run_from w (map (telling (floor_for (left s))) (e ∷ es))) s (request s.heard first) (requests_of s.heard (floor_for (left s)) es) one.0 rest.0, rest.1, rest.2)
+    (sends_on w (step w first) (run_from w (map (event_with_floor (floor_for (left s))) (e ∷ es))) s (request s.heard first) (request_letters s.heard (floor_for (left s)) es) one.0 rest.0, rest.1, rest.2)

@@ -11,8 +11,9 @@ use Rattle.cx_base.specs.Role.{same_role}
 use Rattle.cx_inv_open.specs.Reopened.{stored_as}
 use Rattle.cx_inv_run.specs.Kinds.{OfKind}
 use Rattle.cx_inv_run.specs.States.{State, BatcherIn, LeaderIn, ProxyIn, ReplicaIn, ReaderIn, ReplacerIn, plain, state_found, states_of}
-use Rattle.cx_inv_run.proofs.Senders.{acceptor_kinds, batcher_kinds, leader_kinds, matchmaker_kinds, proxy_kinds, reader_kinds, replacer_kinds, replica_kinds, unbatcher_kinds}
-use Rattle.cx_inv_run.proofs.Steps.{Place, batchers, leaders, proxies, acceptors, matchmakers, replicas, unbatchers, readers}
+use Rattle.cx_inv_run.proofs.Senders.{acceptor_kinds, batcher_kinds, matchmaker_kinds, proxy_kinds, reader_kinds, replica_kinds, unbatcher_kinds}
+use Rattle.cx_inv_run.proofs.LeaderSenders.{leader_kinds, replacer_kinds}
+use Rattle.cx_inv_run.proofs.Steps.{Place, batchers, leaders, proxies, acceptors, matchmakers, replicas, unbatchers, readers, replacers}
 use Rattle.cx_keeper.specs.Keeper.{Append, Renewal}
 use Rattle.cx_model.specs.Acceptor.{acceptor_rules}
 use Rattle.cx_model.specs.Batcher.{batcher_rules}
@@ -43,7 +44,6 @@ use Rattle.cx_course.specs.Hosted.{Hosted, ClientAt, BatcherAt, LeaderAt, ProxyA
 use Rattle.cx_course.specs.Run.{is_client}
 use Rattle.cx_course.proofs.Alike.{IsAlike, IsRole, Moves}
 use Rattle.cx_course.proofs.Asker.{IsTraced}
-use Rattle.cx_course.proofs.Replacers.{replacers}
 use Rattle.cx_course.proofs.Turned.{IsPlain, act_moves, made_by, made_snap, whole_kept, whole_snap}
 
 -- what a role of this kind may write: a client nothing, and only a replica forgets values

@@ -14,7 +14,7 @@ use Rattle.cx_base.specs.declared.event.Happened.{Happened}
 use Rattle.cx_base.specs.Asked.{floor_fits, is_valid_event}
 use Rattle.cx_base.specs.Same.{same_op}
 use Rattle.cx_client.specs.Client.{ClientState, left}
-use Rattle.cx_client.specs.Window.{floor_for, telling}
+use Rattle.cx_client.specs.Window.{floor_for, event_with_floor}
 use Rattle.cx_field.specs.declared.parts.Token.{Token}
 use Rattle.cx_inv_run.proofs.Members.{all-Member}
 use Rattle.cx_model.specs.Lists.{same_number, number_itself}
@@ -41,7 +41,7 @@ abbrev pub token_by : ℕ → ℕ → Token
 token_by client seq = record { client = client; seq = seq }
 
 -- a client's own request has its token
-pub own_token : (client floor : ℕ) (e : Event) → asks client e ≡ true → token_of (telling floor e) ≡ Some (token_by client (number_of e))
+pub own_token : (client floor : ℕ) (e : Event) → asks client e ≡ true → token_of (event_with_floor floor e) ≡ Some (token_by client (number_of e))
 own_token client floor (event.Write command batcher) is = ap (λ n. Some (token_by n command.seq)) (same_number command.client client is)
 own_token client floor (event.Read other seq before reader replica key) is = ap (λ n. Some (token_by n seq)) (same_number other client is)
 own_token client floor (event.Session other seq before replica key) is = ap (λ n. Some (token_by n seq)) (same_number other client is)
@@ -56,10 +56,10 @@ own_token client floor (event.Restart r) is = cc
 -- of a line that has a token, a request that tells a floor has its number, and asks the same with each other floor
 pub record IsLine (line : Event) (floor : ℕ) (t : Token) : Type 0 where
   pub seq : t.seq ≡ number_of line
-  pub floor_is : floor_in (telling floor line) ≡ floor
-  pub same : (other : ℕ) → same_request (telling other line) (telling floor line) ≡ true
+  pub floor_is : floor_in (event_with_floor floor line) ≡ floor
+  pub same : (other : ℕ) → same_request (event_with_floor other line) (event_with_floor floor line) ≡ true
 
-line_of : (line : Event) (floor : ℕ) (t : Token) → token_of (telling floor line) ≡ Some t → IsLine line floor t
+line_of : (line : Event) (floor : ℕ) (t : Token) → token_of (event_with_floor floor line) ≡ Some t → IsLine line floor t
 line_of (event.Write command batcher) floor t is = record { seq = ap (λ (u : Token). u.seq) (sym (same_Some _ _ is)); floor_is = refl; same = λ other. op_itself command.op }
 line_of (event.Read client seq before reader replica key) floor t is = record { seq = ap (λ (u : Token). u.seq) (sym (same_Some _ _ is)); floor_is = refl; same = λ other. bytes_itself key }
 line_of (event.Session client seq before replica key) floor t is = record { seq = ap (λ (u : Token). u.seq) (sym (same_Some _ _ is)); floor_is = refl; same = λ other. bytes_itself key }
@@ -72,7 +72,7 @@ line_of (event.Crash r) floor t is = absurd (none-some t is)
 line_of (event.Restart r) floor t is = absurd (none-some t is)
 
 -- it names what the line names
-pub names_telling : (c : Cluster) (floor : ℕ) (e : Event) → names_event c (telling floor e) ≡ names_event c e
+pub names_telling : (c : Cluster) (floor : ℕ) (e : Event) → names_event c (event_with_floor floor e) ≡ names_event c e
 names_telling c floor (event.Write command batcher) = refl
 names_telling c floor (event.Read client seq before reader replica key) = refl
 names_telling c floor (event.Session client seq before replica key) = refl
@@ -85,7 +85,7 @@ names_telling c floor (event.Crash r) = refl
 names_telling c floor (event.Restart r) = refl
 
 -- and is valid where the floor fits its number
-pub valid_telling : (floor : ℕ) (e : Event) → floor_fits (number_of e) floor ≡ true → is_valid_event (telling floor e) ≡ true
+pub valid_telling : (floor : ℕ) (e : Event) → floor_fits (number_of e) floor ≡ true → is_valid_event (event_with_floor floor e) ≡ true
 valid_telling floor (event.Write command batcher) fits = fits
 valid_telling floor (event.Read client seq before reader replica key) fits = fits
 valid_telling floor (event.Session client seq before replica key) fits = fits
@@ -98,11 +98,11 @@ valid_telling floor (event.Crash r) fits = refl
 valid_telling floor (event.Restart r) fits = refl
 
 -- and can be recorded as the line can
-pub recordable_telling : (c : Cluster) (floor : ℕ) (e : Event) → IsRecordable c e → floor_fits (number_of e) floor ≡ true → IsRecordable c (telling floor e)
+pub recordable_telling : (c : Cluster) (floor : ℕ) (e : Event) → IsRecordable c e → floor_fits (number_of e) floor ≡ true → IsRecordable c (event_with_floor floor e)
 recordable_telling c floor e line fits =
-    record { ranges = ranges e line.ranges; valid = valid_telling floor e fits; named = names_telling c floor e ∙ line.named; told = told e line.told }
+    record { ranges = ranges e line.ranges; valid = valid_telling floor e fits; named = names_telling c floor e ∙ line.named; complete = stays_complete e line.complete }
   where
-    ranges : (e : Event) → HasRanges e → HasRanges (telling floor e)
+    ranges : (e : Event) → HasRanges e → HasRanges (event_with_floor floor e)
     ranges (event.Write command batcher) is = is
     ranges (event.Read client seq before reader replica key) is = is
     ranges (event.Session client seq before replica key) is = is
@@ -114,17 +114,17 @@ recordable_telling c floor e line fits =
     ranges (event.Crash r) is = is
     ranges (event.Restart r) is = is
 
-    told : (e : Event) → tells_all e ≡ true → tells_all (telling floor e) ≡ true
-    told (event.Write command batcher) is = is
-    told (event.Read client seq before reader replica key) is = is
-    told (event.Session client seq before replica key) is = is
-    told (event.Deliver number cut) is = is
-    told (event.Tick r) is = is
-    told (event.Order l order cut) is = is
-    told (event.Replace replacer set cut) is = is
-    told (event.Snap p cut) is = is
-    told (event.Crash r) is = is
-    told (event.Restart r) is = is
+    stays_complete : (e : Event) → tells_all e ≡ true → tells_all (event_with_floor floor e) ≡ true
+    stays_complete (event.Write command batcher) is = is
+    stays_complete (event.Read client seq before reader replica key) is = is
+    stays_complete (event.Session client seq before replica key) is = is
+    stays_complete (event.Deliver number cut) is = is
+    stays_complete (event.Tick r) is = is
+    stays_complete (event.Order l order cut) is = is
+    stays_complete (event.Replace replacer set cut) is = is
+    stays_complete (event.Snap p cut) is = is
+    stays_complete (event.Crash r) is = is
+    stays_complete (event.Restart r) is = is
 
 -- what is left is of the script
 pub dropped : (n : ℕ) (e : Event) (es : List Event) → Member e (drop n es) → Member e es
@@ -163,7 +163,7 @@ module _ (w : World) (s : ClientState) (is : IsAsker w s) (e : Event) (here : Me
   Mine = token_by s.me.index (number_of e)
 
   abbrev pub Out : Event
-  Out = telling (floor_for (left s)) e
+  Out = event_with_floor (floor_for (left s)) e
 
   pub its_own : asks s.me.index e ≡ true
   its_own = all-Member (asks s.me.index) (left s) is.client.script.own e here
@@ -180,7 +180,7 @@ module _ (w : World) (s : ClientState) (is : IsAsker w s) (e : Event) (here : Me
       let told = is.asked h u m sent token client in
       let line = line_of told.line told.floor u (ap token_of (sym told.is) ∙ token) in
       let same : told.line ≡ e = is.one_line told.line e told.own its_line (sym line.seq ∙ seq) in
-      ap (same_request Out) told.is ∙ subst (λ (x : Event). same_request (telling (floor_for (left s)) x) (telling told.floor told.line) ≡ true) same (line.same (floor_for (left s)))
+      ap (same_request Out) told.is ∙ subst (λ (x : Event). same_request (event_with_floor (floor_for (left s)) x) (event_with_floor told.floor told.line) ≡ true) same (line.same (floor_for (left s)))
 
   -- and each tells a floor below its number
   tells_below : (h : Happened) (u : Token) → Member h w.events → was_sent h ≡ true → token_of h.event ≡ Some u → u.client ≡ s.me.index → floor_in h.event < number_of e

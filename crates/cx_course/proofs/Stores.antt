@@ -5,7 +5,7 @@ use Rattle.cx_base.specs.declared.role.Kind.TheVariants as kind
 use Rattle.cx_base.specs.declared.role.RoleId.{RoleId}
 use Rattle.cx_base.specs.Role.{same_role}
 use Rattle.cx_inv_open.specs.Reopened.{stored_as}
-use Rattle.cx_keeper.specs.Keeper.{Change, list_after}
+use Rattle.cx_keeper.specs.Keeper.{KeeperChange, list_after}
 use Rattle.cx_model.specs.Acceptor.{acceptor_rules}
 use Rattle.cx_model.specs.Batcher.{batcher_rules}
 use Rattle.cx_model.specs.Leader.{leader_rules}
@@ -26,7 +26,7 @@ use Rattle.cx_course.proofs.Roles.{MayWrite}
 
 -- ---- changes, some after others
 
-if_append : (b : Bool) (x : Change) (all rest more : List Change) → all ≡ rest ++ more → (if b then x ∷ all else all) ≡ (if b then x ∷ rest else rest) ++ more
+if_append : (b : Bool) (x : KeeperChange) (all rest more : List KeeperChange) → all ≡ rest ++ more → (if b then x ∷ all else all) ≡ (if b then x ∷ rest else rest) ++ more
 if_append true x all rest more e = ap (λ l. x ∷ l) e
 if_append false x all rest more e = e
 
@@ -34,7 +34,7 @@ changes_append : (me : RoleId) (ks ls : List StoreChange) → changes_of me (ks 
 changes_append me [] ls = refl
 changes_append me (k ∷ ks) ls = if_append (same_role me k.role) k.change (changes_of me (ks ++ ls)) (changes_of me ks) (changes_of me ls) (changes_append me ks ls)
 
-lists_append : (list : List Record) (xs ys : List Change) → lists_after list (xs ++ ys) ≡ lists_after (lists_after list xs) ys
+lists_append : (list : List Record) (xs ys : List KeeperChange) → lists_after list (xs ++ ys) ≡ lists_after (lists_after list xs) ys
 lists_append list [] ys = refl
 lists_append list (x ∷ xs) ys = lists_append (list_after list x) xs ys
 
@@ -64,7 +64,7 @@ own_written me kept (written.Record r) k may = own_record me kept r k may
 own_written me kept (written.Snap first) k may = subst (Own me kept (written.Snap first)) (sym may) (list_own replica_rules me kept (Some (written.Snap first)))
 
 -- the changes of a role's store among its own
-own_changes : (me : RoleId) (x : Change) → changes_of me (changed_by me (Some x)) ≡ x ∷ []
+own_changes : (me : RoleId) (x : KeeperChange) → changes_of me (changed_by me (Some x)) ≡ x ∷ []
 own_changes me x = ap (λ (b : Bool). if b then x ∷ [] else []) (same_role-itself me)
 
 pub own_store : (me : RoleId) (kept : List KeptRecord) (o : Option Written) (k : Kind) → MayWrite k o
@@ -87,6 +87,6 @@ other_store me who kept o kind.Unbatcher e = list_other unbatcher_rules me who k
 other_store me who kept o kind.Reader e = list_other reader_rules me who kept o e
 other_store me who kept o kind.Replacer e = list_other replacer_rules me who kept o e
 
-pub other_changes : (me who : RoleId) (o : Option Change) → same_role me who ≡ false → changes_of me (changed_by who o) ≡ []
+pub other_changes : (me who : RoleId) (o : Option KeeperChange) → same_role me who ≡ false → changes_of me (changed_by who o) ≡ []
 other_changes me who None e = refl
 other_changes me who (Some x) e = ap (λ (b : Bool). if b then x ∷ [] else []) e

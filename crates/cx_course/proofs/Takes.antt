@@ -15,8 +15,8 @@ use Rattle.cx_base.specs.declared.role.RoleId.{RoleId}
 use Rattle.cx_base.specs.declared.why.Why.{Why}
 use Rattle.cx_base.specs.declared.why.Why.TheVariants as why
 use Rattle.cx_base.specs.Role.{role, same_role}
-use Rattle.cx_client.specs.Client.{ClientMoved, ClientState, answer_number, client_completes, client_hears, client_takes, client_ticks, client_told, client_waits, completed, hearing, left, stays}
-use Rattle.cx_client.specs.Window.{floor_for, has_number, is_outstanding, newly, outstanding, requests_of, without}
+use Rattle.cx_client.specs.Client.{ClientMoved, ClientState, answer_number, client_completes, client_hears, client_takes, client_ticks, client_told, client_waits, after_completion, hearing, left, client_stays}
+use Rattle.cx_client.specs.Window.{floor_for, has_number, is_outstanding, newly, outstanding, request_letters, without_request}
 use Rattle.cx_client.proofs.Steps.{completed_is_client}
 use Rattle.cx_client.proofs.Windows.{is_left, only_one, taken}
 use Rattle.cx_inv_run.proofs.Members.{Member-cases, Member-filter, Member-first, Member-second, any-Member, filter-Member}
@@ -25,7 +25,7 @@ use Rattle.cx_model.specs.Lists.{differ_role, same_role-itself}
 use Rattle.cx_model.specs.Member.{Member}
 use Rattle.cx_model.specs.Names.{names, names_body, names_role}
 use Rattle.cx_model.specs.Request.{token_of}
-use Rattle.cx_model.specs.World.{World, Change, act_of, change, noted, nothing, step}
+use Rattle.cx_model.specs.World.{World, Change, act_of, change, world_after, nothing, step}
 use Rattle.cx_field.specs.declared.parts.Token.{Token}
 use Rattle.cx_msg.specs.Letter.{Letter}
 use Rattle.cx_msg.specs.declared.input.Act.TheVariants.{Give}
@@ -65,7 +65,7 @@ module _ (w : World) (s : ClientState) (is : IsAsker w s) (traced : IsTraced w) 
       by_kind k client = ap (λ j. act_of w.cluster w.roles w.kept (Give (input.Take d) Whole) d.to j) client
 
   abbrev Heard : World
-  Heard = noted w Delivery Hearing
+  Heard = world_after w Delivery Hearing
 
   abbrev New : Happened
   New = record { event = Delivery; why = why.Heard }
@@ -181,45 +181,45 @@ module _ (w : World) (s : ClientState) (is : IsAsker w s) (n : ℕ) (out : is_ou
       let here = any-Member (has_number n) (outstanding s.window (left s)) out in
       (here.0, is_left s.window (left s) here.0 here.1, eqb-true (number_of here.0) n here.2)
 
-  pub left_then : left (completed n s) ≡ without n (left s)
+  pub left_then : left (after_completion n s) ≡ without_request n (left s)
   left_then =
       let e = found.0 in
       let one : filter (has_number n) (left s) ≡ e ∷ [] = subst (λ (k : ℕ). filter (has_number k) (left s) ≡ e ∷ []) found.2 (only_one 0 (left s) is.client.script.rising e found.1) in
-      let parted : (completed n s).script ≡ (take s.done s.script ++ e ∷ []) ++ without n (left s) =
-      ap (λ (es : List Event). take s.done s.script ++ (es ++ without n (left s))) one ∙ sym (append_assoc (take s.done s.script) (e ∷ []) (without n (left s))) in
+      let parted : (after_completion n s).script ≡ (take s.done s.script ++ e ∷ []) ++ without_request n (left s) =
+      ap (λ (es : List Event). take s.done s.script ++ (es ++ without_request n (left s))) one ∙ sym (append_assoc (take s.done s.script) (e ∷ []) (without_request n (left s))) in
       let long : length (take s.done s.script ++ e ∷ []) ≡ s.done + 1 = length_push (take s.done s.script) e ∙ ap (λ (k : ℕ). k + 1) (length-take-le s.done s.script is.client.done) in
-      ap (λ (es : List Event). drop (s.done + 1) es) parted ∙ drop_at (take s.done s.script ++ e ∷ []) (without n (left s)) (s.done + 1) long
+      ap (λ (es : List Event). drop (s.done + 1) es) parted ∙ drop_at (take s.done s.script ++ e ∷ []) (without_request n (left s)) (s.done + 1) long
 
-  still_left : (l : Event) → Member l (left (completed n s)) → Member l (left s)
+  still_left : (l : Event) → Member l (left (after_completion n s)) → Member l (left s)
   still_left l m = (Member-filter (λ (x : Event). not (has_number n x)) l (left s) (subst (λ (es : List Event). Member l es) left_then m)).0
 
   -- its script has the same lines
-  lines_then : (l : Event) → Member l s.script → Member l (completed n s).script
+  lines_then : (l : Event) → Member l s.script → Member l (after_completion n s).script
   lines_then l m = elim (parted s.done l s.script m) [
-    | inl front ↦ Member-first l (take s.done s.script) (filter (has_number n) (left s) ++ without n (left s)) front
-    | inr rest ↦ Member-second l (take s.done s.script) (filter (has_number n) (left s) ++ without n (left s)) (elim (cases_Bool (has_number n l)) [
-      | inl t ↦ Member-first l (filter (has_number n) (left s)) (without n (left s)) (filter-Member (has_number n) l (left s) rest t)
-      | inr f ↦ Member-second l (filter (has_number n) (left s)) (without n (left s)) (filter-Member (λ (x : Event). not (has_number n x)) l (left s) rest (rw f refl))
+    | inl front ↦ Member-first l (take s.done s.script) (filter (has_number n) (left s) ++ without_request n (left s)) front
+    | inr rest ↦ Member-second l (take s.done s.script) (filter (has_number n) (left s) ++ without_request n (left s)) (elim (cases_Bool (has_number n l)) [
+      | inl t ↦ Member-first l (filter (has_number n) (left s)) (without_request n (left s)) (filter-Member (has_number n) l (left s) rest t)
+      | inr f ↦ Member-second l (filter (has_number n) (left s)) (without_request n (left s)) (filter-Member (λ (x : Event). not (has_number n x)) l (left s) rest (rw f refl))
     ])
   ]
 
-  lines_before : (l : Event) → Member l (completed n s).script → Member l s.script
-  lines_before l m = elim (Member-cases l (take s.done s.script) (filter (has_number n) (left s) ++ without n (left s)) m) [
+  lines_before : (l : Event) → Member l (after_completion n s).script → Member l s.script
+  lines_before l m = elim (Member-cases l (take s.done s.script) (filter (has_number n) (left s) ++ without_request n (left s)) m) [
     | inl front ↦ taken s.done l s.script front
-    | inr rest ↦ dropped s.done l s.script (elim (Member-cases l (filter (has_number n) (left s)) (without n (left s)) rest) [
+    | inr rest ↦ dropped s.done l s.script (elim (Member-cases l (filter (has_number n) (left s)) (without_request n (left s)) rest) [
       | inl own ↦ (Member-filter (has_number n) l (left s) own).0
       | inr other ↦ (Member-filter (λ (x : Event). not (has_number n x)) l (left s) other).0
     ])
   ]
 
-  pub asks_then : IsAsker w (completed n s)
+  pub asks_then : IsAsker w (after_completion n s)
   asks_then = record {
     client = completed_is_client (unheard s) n found.0 is.client found.1 found.2;
     cluster = is.cluster;
     named = is.named;
     lines = λ l m. is.lines l (lines_before l m);
     one_line = λ a b m o same. is.one_line a b (lines_before a m) (lines_before b o) same;
-    asked = λ h t m sent token mine. told_on s (completed n s) h.event (is.asked h t m sent token mine) lines_then still_left;
+    asked = λ h t m sent token mine. told_on s (after_completion n s) h.event (is.asked h t m sent token mine) lines_then still_left;
     heard = is.heard;
   }
 
@@ -229,9 +229,9 @@ pub record Asks (w : World) (s : ClientState) (m : ClientMoved) : Type 0 where
   pub me : m.state.me ≡ s.me
   pub lines : List Event
   pub out : (e : Event) → Member e lines → Member e (outstanding m.state.window (left m.state))
-  pub sends : m.sends ≡ requests_of m.state.heard (floor_for (left m.state)) lines
+  pub sends : m.sends ≡ request_letters m.state.heard (floor_for (left m.state)) lines
 
-pub stays_so : (w : World) (s t : ClientState) (y : Why) → IsAsker w t → t.me ≡ s.me → Asks w s (stays y t)
+pub stays_so : (w : World) (s t : ClientState) (y : Why) → IsAsker w t → t.me ≡ s.me → Asks w s (client_stays y t)
 stays_so w s t y is me = record { asker = is; me = me; lines = []; out = λ e m. absurd m; sends = refl }
 
 completes_so : (w : World) (t : ClientState) (n : ℕ) → IsAsker w t → is_outstanding t.window (left t) n ≡ true → Asks w t (client_completes n t)
@@ -241,8 +241,8 @@ completes_so w t n is out = record {
   lines = newly t.window n (left t);
   out = λ e m.
       subst (λ (es : List Event). Member e (outstanding t.window es)) (sym (left_then w t is n out))
-      (Member-filter (λ (x : Event). not (is_outstanding t.window (left t) (number_of x))) e (outstanding t.window (without n (left t))) m).0;
-  sends = ap (λ (es : List Event). requests_of t.heard (floor_for es) (newly t.window n (left t))) (sym (left_then w t is n out));
+      (Member-filter (λ (x : Event). not (is_outstanding t.window (left t) (number_of x))) e (outstanding t.window (without_request n (left t))) m).0;
+  sends = ap (λ (es : List Event). request_letters t.heard (floor_for es) (newly t.window n (left t))) (sym (left_then w t is n out));
 }
 
 hears_so_far : (w : World) (t : ClientState) (n : ℕ) → IsAsker w t → Asks w t (client_hears t n)
@@ -267,22 +267,22 @@ module _ (w : World) (s : ClientState) (d : Letter) (from : names_role s.cluster
       either true x = refl
       either false x = refl
 
-      no_answer : IsOther d.msg → client_takes s d ≡ stays why.Stranger s
+      no_answer : IsOther d.msg → client_takes s d ≡ client_stays why.Stranger s
       no_answer other =
-          ap (λ (o : Option ℕ). if same_role d.to s.me && names s.cluster d then client_told s (mark_told d.msg) o else stays why.Stranger s) other.none
-          ∙ either (same_role d.to s.me && names s.cluster d) (stays why.Stranger s)
+          ap (λ (o : Option ℕ). if same_role d.to s.me && names s.cluster d then client_told s (mark_told d.msg) o else client_stays why.Stranger s) other.none
+          ∙ either (same_role d.to s.me && names s.cluster d) (client_stays why.Stranger s)
 
       least : (n : ℕ) → max n 0 ≡ n
       least n = omega arith
 
-      strange : IsOther d.msg → Asks w s (stays why.Stranger s)
+      strange : IsOther d.msg → Asks w s (client_stays why.Stranger s)
       strange other =
           let same : hearing (mark_told d.msg) s ≡ s = ap (λ (n : ℕ). record s { heard = max s.heard n }) other.nothing ∙ ap (λ (n : ℕ). record s { heard = n }) (least s.heard) in
           stays_so w s s why.Stranger (subst (IsAsker w) same is) refl
 
       an_answer : (answer : IsAnswer d.msg) → client_takes s d ≡ client_hears (hearing (mark_told d.msg) s) answer.number
       an_answer answer =
-          ap (λ (b : Bool). if b then client_told s (mark_told d.msg) (answer_number d.msg) else stays why.Stranger s) (names_it (answer.names s.cluster))
+          ap (λ (b : Bool). if b then client_told s (mark_told d.msg) (answer_number d.msg) else client_stays why.Stranger s) (names_it (answer.names s.cluster))
           ∙ ap (client_told s (mark_told d.msg)) answer.is
 
       told : (answer : IsAnswer d.msg) → Asks w s (client_hears (hearing (mark_told d.msg) s) answer.number)

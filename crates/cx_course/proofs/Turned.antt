@@ -20,7 +20,7 @@ use Rattle.cx_model.specs.Outcome.{Outcome}
 use Rattle.cx_model.specs.Request.{token_of}
 use Rattle.cx_model.specs.Rules.{Rules, Running}
 use Rattle.cx_model.specs.Turn.{Turn, snap_turn, turn, turn_with}
-use Rattle.cx_model.specs.World.{World, Roles, Change, Turns, act_at, act_of, change, changed, durable_part, kept_by, noted, step, turn_at, turn_done}
+use Rattle.cx_model.specs.World.{World, Roles, Change, Turns, act_at, act_of, change, changed, durable_part, kept_by, world_after, step, turn_at, turn_done}
 use Rattle.cx_msg.specs.Letter.{Letter}
 use Rattle.cx_msg.specs.declared.input.Act.{Act}
 use Rattle.cx_msg.specs.declared.input.KeptRecord.{KeptRecord}
@@ -61,9 +61,9 @@ pub whole_snap : {V : Type 0} (v : V) (first : Option ℕ) → snap_turn Whole v
 whole_snap v None = refl
 whole_snap v (Some first) = refl
 
-pub step_is : (w : World) (e : Event) (ch : Change) → change w e ≡ ch → step w e ≡ noted w e ch
+pub step_is : (w : World) (e : Event) (ch : Change) → change w e ≡ ch → step w e ≡ world_after w e ch
 unfolding step
-step_is w e ch is = ap (noted w e) is
+step_is w e ch is = ap (world_after w e) is
 
 -- an event that is no request, and tells no client anything
 pub record IsPlain (w : World) (e : Event) : Type 0 where
@@ -107,7 +107,7 @@ module _ {D V : Type 0} (k : Kind) (make : V → State) (at : Place V k make) (r
 
     -- the world behind it
     abbrev Behind : Event → World
-    Behind e = noted w e (Row w s t)
+    Behind e = world_after w e (Row w s t)
 
     states_behind : (e : Event) (a : RoleId) → states_of (Behind e).roles a ≡ set_state s.me (make t.volatile) (states_of w.roles) a
     states_behind e a = sym (place_set k make at w.roles s.me (Some s.volatile) (Some t.volatile) my_kind here a)

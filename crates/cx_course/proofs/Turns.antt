@@ -13,7 +13,7 @@ use Rattle.cx_base.specs.declared.role.RoleId.{RoleId}
 use Rattle.cx_base.specs.Lists.{below}
 use Rattle.cx_base.specs.Role.{role, same_role}
 use Rattle.cx_inv_run.proofs.Steps.{run_cluster}
-use Rattle.cx_leader.specs.Tending.{can_collect, is_new}
+use Rattle.cx_leader.specs.Tending.{can_collect, is_new_leader}
 use Rattle.cx_model.specs.Leader.{LeaderDurable, LeaderVolatile}
 use Rattle.cx_model.specs.Lists.{same_role-true}
 use Rattle.cx_model.specs.Outcome.{either_way}
@@ -28,8 +28,8 @@ use Rattle.cx_course.specs.declared.standing.Standing.{Standing}
 use Rattle.cx_course.specs.Action.{Action, noted_in, sent_in}
 use Rattle.cx_course.specs.Course.{Course, Moved, does_at, stays, then_do}
 use Rattle.cx_course.specs.Hosted.{Hosted, name_of}
-use Rattle.cx_course.specs.Run.{Takes, all_do, at_place, brings, brought, comes, first_do, grid_of, idle_at, is_client, lead_at, ordered, place_of, prepared, snaps, ticked, turn, turns_from, untended_run}
-use Rattle.cx_course.specs.Tending.{Care, Tended, all_completed, asks_again, beat, beat_over, brings_heeded, clients_noted, clients_tended, collected, counted, first_leader, flushed, gets, heeded, held_by, in_turn, is_beat, is_of, is_overtaken, is_so, is_time, kind_ticks, leader_asked, leader_cared, leader_tended, next_pass, node_run, others_tick, passes, reported, standing_of, tend_comes, tend_ordered, tend_prepared, tended_run, tended_turn, those_tick, ticks_if, turn_ended, untended, within}
+use Rattle.cx_course.specs.Run.{TakeResults, all_do, at_place, brings, brought, comes, first_do, grid_of, idle_at, is_client, lead_at, ordered, hosted_place, prepared, snaps, ticked, node_turn, turns_from, untended_run}
+use Rattle.cx_course.specs.Tending.{Care, Tended, all_completed, asks_again, beat, beat_over, brings_heeded, clients_noted, clients_tended, collected, care_after_turn, first_leader, flushed, gets, heeded, held_by_role, in_turn, is_beat, is_of_kind, is_overtaken, is_so, is_time, kind_ticks, leader_asked, leader_cared, leader_tended, next_pass, node_run, others_tick, passes, reported, standing_of, tend_comes, tend_ordered, tend_prepared, tended_run, tended_turn, those_tick, ticks_if, turn_ended, untended, within}
 use Rattle.cx_course.proofs.Doings.{IsFair, IsOrder}
 use Rattle.cx_course.proofs.Following.{Stands}
 use Rattle.cx_course.proofs.Grids.{change_is_order, collect_is_order, lead_is_order}
@@ -49,17 +49,17 @@ ticks_free w me = tt
 
 -- ---- names and numbers
 
-place_named : (who : RoleId) (hs : List Hosted) (i : ℕ) → place_of who hs ≡ Some i → (h : Hosted) → slice_get hs i ≡ Some h → who ≡ name_of h
+place_named : (who : RoleId) (hs : List Hosted) (i : ℕ) → hosted_place who hs ≡ Some i → (h : Hosted) → slice_get hs i ≡ Some h → who ≡ name_of h
 place_named who [] i e h here = absurd (none-some i e)
 place_named who (x ∷ hs) i e h here = elim (cases_Bool (same_role who (name_of x))) [
   | inl t ↦ (
-      let first : i ≡ 0 = same_Some i 0 (sym e ∙ ap (λ b. if b then Some 0 else option_map (λ j. j + 1) (place_of who hs)) t) in
+      let first : i ≡ 0 = same_Some i 0 (sym e ∙ ap (λ b. if b then Some 0 else option_map (λ j. j + 1) (hosted_place who hs)) t) in
       same_role-true who (name_of x) t ∙ ap name_of (same_Some x h (ap (slice_get (x ∷ hs)) (sym first) ∙ here))
       )
-  | inr off ↦ later (λ j is there. place_named who hs j is h there) (place_of who hs) refl (sym (ap (λ b. if b then Some 0 else option_map (λ j. j + 1) (place_of who hs)) off) ∙ e)
+  | inr off ↦ later (λ j is there. place_named who hs j is h there) (hosted_place who hs) refl (sym (ap (λ b. if b then Some 0 else option_map (λ j. j + 1) (hosted_place who hs)) off) ∙ e)
 ]
   where
-    later : ((j : ℕ) → place_of who hs ≡ Some j → slice_get hs j ≡ Some h → who ≡ name_of h) → (o : Option ℕ) → place_of who hs ≡ o → option_map (λ j. j + 1) o ≡ Some i → who ≡ name_of h
+    later : ((j : ℕ) → hosted_place who hs ≡ Some j → slice_get hs j ≡ Some h → who ≡ name_of h) → (o : Option ℕ) → hosted_place who hs ≡ o → option_map (λ j. j + 1) o ≡ Some i → who ≡ name_of h
     later rest None is q = absurd (none-some i q)
     later rest (Some j) is q =
         let next : i ≡ suc j = sym (same_Some (j + 1) i q) ∙ omega arith in
@@ -116,13 +116,13 @@ module _ (c : Cluster) where
   abbrev IsGiven : Order → Type 0
   IsGiven o = (me : RoleId) → me.kind ≡ kind.Leader → IsOrder c me o
 
-  order_go : (o : Order) → IsGiven o → (p : List Action) (s : Course) → Stands c (past_of p) s → (i : ℕ) → place_of (role kind.Leader 0) s.hosted ≡ Some i
+  order_go : (o : Order) → IsGiven o → (p : List Action) (s : Course) → Stands c (past_of p) s → (i : ℕ) → hosted_place (role kind.Leader 0) s.hosted ≡ Some i
       → Goes self c p (does_at i (Give 0 (input.Order o)) s)
   order_go o given p s st i at =
       does_go c p s i (Give 0 (input.Order o)) st
       (λ h here. subst (λ x. IsOrder x (name_of h) o) (sym (run_cluster c (noted_in p))) (given (name_of h) (ap (λ (a : RoleId). a.kind) (sym (place_named (role kind.Leader 0) s.hosted i at h here)))))
 
-  order_place : (o : Order) → IsGiven o → (p : List Action) (s : Course) → Stands c (past_of p) s → (at : Option ℕ) → place_of (role kind.Leader 0) s.hosted ≡ at
+  order_place : (o : Order) → IsGiven o → (p : List Action) (s : Course) → Stands c (past_of p) s → (at : Option ℕ) → hosted_place (role kind.Leader 0) s.hosted ≡ at
       → Goes self c p (at_place at (Give 0 (input.Order o)) s)
   order_place o given p s st None at = stays_go self c p s st
   order_place o given p s st (Some i) at = order_go o given p s st i at
@@ -133,9 +133,9 @@ module _ (c : Cluster) where
 
   gets_go : (o : Option Order) → AreGiven o → Keeps c (gets o)
   gets_go None given p s st = stays_go self c p s st
-  gets_go (Some o) given p s st = order_place o given p s st (place_of (role kind.Leader 0) s.hosted) refl
+  gets_go (Some o) given p s st = order_place o given p s st (hosted_place (role kind.Leader 0) s.hosted) refl
 
-  lead_go : (p : List Action) (s : Course) → Stands c (past_of p) s → (at : Option ℕ) → place_of (role kind.Leader 0) s.hosted ≡ at → Goes self c p (lead_at c at s)
+  lead_go : (p : List Action) (s : Course) → Stands c (past_of p) s → (at : Option ℕ) → hosted_place (role kind.Leader 0) s.hosted ≡ at → Goes self c p (lead_at c at s)
   lead_go p s st None at = stays_go self c p s st
   lead_go p s st (Some i) at =
       pick self p (idle_at (slice_get s.hosted i)) (does_at i (Give 0 (input.Order (order.Lead (grid_of c)))) s) (stays s)
@@ -146,7 +146,7 @@ module _ (c : Cluster) where
   ordered_go : (n : ℕ) → Keeps c (ordered c n)
   unfolding ordered
   ordered_go n p s st =
-      pick self p ((n == 1) || (n % 4096 == 0)) (lead_at c (place_of (role kind.Leader 0) s.hosted) s) (stays s) (lead_go p s st (place_of (role kind.Leader 0) s.hosted) refl) (stays_go self c p s st)
+      pick self p ((n == 1) || (n % 4096 == 0)) (lead_at c (hosted_place (role kind.Leader 0) s.hosted) s) (stays s) (lead_go p s st (hosted_place (role kind.Leader 0) s.hosted) refl) (stays_go self c p s st)
 
   snaps_go : (n : ℕ) → Keeps c (snaps n)
   unfolding snaps
@@ -157,7 +157,7 @@ module _ (c : Cluster) where
   prepared_go n p s st = then_go self self c p (ordered c n s) (λ led. snaps n led) (ordered_go n p s st) (λ q now. snaps_go n q ((ordered c n s).next) now)
 
   -- a datagram that was sent comes to its role
-  take_go : (x : Numbered) (p : List Action) (s : Course) → Stands c (past_of p) s → slice_get (sent_in p) x.number ≡ Some x.letter → (at : Option ℕ) → place_of x.letter.to s.hosted ≡ at
+  take_go : (x : Numbered) (p : List Action) (s : Course) → Stands c (past_of p) s → slice_get (sent_in p) x.number ≡ Some x.letter → (at : Option ℕ) → hosted_place x.letter.to s.hosted ≡ at
       → Goes self c p (at_place at (Give x.number (input.Take x.letter)) s)
   take_go x p s st sent None at = stays_go self c p s st
   take_go x p s st sent (Some i) at =
@@ -168,7 +168,7 @@ module _ (c : Cluster) where
 
   brings_go : (p : List Action) (s : Course) (bytes : List ℕ) → Stands c (past_of p) s → (o : Option Numbered) → last_sent bytes (sent_in p) ≡ o → Goes self c p (brings o s)
   brings_go p s bytes st None is = stays_go self c p s st
-  brings_go p s bytes st (Some x) is = take_go x p s st (number_sent bytes (sent_in p) x is) (place_of x.letter.to s.hosted) refl
+  brings_go p s bytes st (Some x) is = take_go x p s st (number_sent bytes (sent_in p) x is) (hosted_place x.letter.to s.hosted) refl
 
   comes_go : (what : Option (List ℕ)) → Keeps c (comes what)
   unfolding comes
@@ -180,8 +180,8 @@ module _ (c : Cluster) where
   unfolding ticked
   ticked_go n p s st = pick self p (n % 64 == 0) (all_do (Give 0 input.Tick) s) (stays s) (all_go (Give 0 input.Tick) ticks_free p s st) (stays_go self c p s st)
 
-  turn_go : (n : ℕ) (what : Option (List ℕ)) → Keeps c (turn c n what)
-  unfolding turn
+  turn_go : (n : ℕ) (what : Option (List ℕ)) → Keeps c (node_turn c n what)
+  unfolding node_turn
   turn_go n what p s st =
       let a = prepared c n s in
       let b = comes what a.next in
@@ -190,15 +190,15 @@ module _ (c : Cluster) where
 
   turns_go : {S : Type 0} (of : S → Course) (step : ℕ → Option (List ℕ) → S → Moved S)
       → ((n : ℕ) (what : Option (List ℕ)) (p : List Action) (s : S) → Stands c (past_of p) (of s) → Goes of c p (step n what s))
-      → (n : ℕ) (takes : Takes) (p : List Action) (s : S) → Stands c (past_of p) (of s) → Goes of c p (turns_from step n takes s)
+      → (n : ℕ) (takes : TakeResults) (p : List Action) (s : S) → Stands c (past_of p) (of s) → Goes of c p (turns_from step n takes s)
   turns_go of step go n [] p s st = stays_go of c p s st
   turns_go of step go n (what ∷ rest) p s st =
       then_go of of c p (step n what s) (λ after. turns_from step (n + 1) rest after) (go n what p s st) (λ q now. turns_go of step go (n + 1) rest q ((step n what s).next) now)
 
-  untended_go : (takes : Takes) → Keeps c (untended_run c takes)
+  untended_go : (takes : TakeResults) → Keeps c (untended_run c takes)
   untended_go takes p s st =
-      then_go self self c p (all_do Begin s) (λ after. turns_from (turn c) 1 takes after) (all_go Begin (λ w me. tt) p s st)
-      (λ q now. turns_go self (turn c) turn_go 1 takes q ((all_do Begin s).next) now)
+      then_go self self c p (all_do Begin s) (λ after. turns_from (node_turn c) 1 takes after) (all_go Begin (λ w me. tt) p s st)
+      (λ q now. turns_go self (node_turn c) turn_go 1 takes q ((all_do Begin s).next) now)
 
   -- ---- parts of the turns of a tended node
 
@@ -215,12 +215,12 @@ module _ (c : Cluster) where
 
   kind_go : (k : Kind) → Keeps c (kind_ticks k)
   unfolding kind_ticks
-  kind_go k p s st = those_go (λ i h. is_of k h) p s st
+  kind_go k p s st = those_go (λ i h. is_of_kind k h) p s st
 
   tend_ordered_go : (n : ℕ) → Keeps c (tend_ordered c n)
   unfolding tend_ordered
   tend_ordered_go n p s st =
-      pick self p ((n == 1) && not (option_map_or (λ (l : Running LeaderDurable LeaderVolatile). is_new l.durable) (first_leader s.hosted) false)) (stays s) (ordered c n s)
+      pick self p ((n == 1) && not (option_map_or (λ (l : Running LeaderDurable LeaderVolatile). is_new_leader l.durable) (first_leader s.hosted) false)) (stays s) (ordered c n s)
       (stays_go self c p s st) (ordered_go n p s st)
 
   tend_prepared_go : (n : ℕ) → Keeps c (tend_prepared c n)
@@ -230,8 +230,8 @@ module _ (c : Cluster) where
   reported_go : (who : RoleId) (before : ℕ) → Keeps c (reported who before)
   unfolding reported
   reported_go who before p s st =
-      pick self p (nat_lt (before / 8) (held_by who s.hosted / 8)) (at_place (place_of who s.hosted) (Give 0 input.Tick) s) (stays s)
-      (place_go (place_of who s.hosted) (Give 0 input.Tick) ticks_free p s st) (stays_go self c p s st)
+      pick self p (nat_lt (before / 8) (held_by_role who s.hosted / 8)) (at_place (hosted_place who s.hosted) (Give 0 input.Tick) s) (stays s)
+      (place_go (hosted_place who s.hosted) (Give 0 input.Tick) ticks_free p s st) (stays_go self c p s st)
 
   given_if : (b : Bool) (o : Order) → IsGiven o → AreGiven (if b then Some o else None)
   given_if true o given = given
@@ -246,12 +246,12 @@ module _ (c : Cluster) where
   heeded_go : (x : Numbered) (p : List Action) (s : Course) → Stands c (past_of p) s → slice_get (sent_in p) x.number ≡ Some x.letter → Goes self c p (heeded x s)
   unfolding heeded
   heeded_go x p s st sent =
-      let a = at_place (place_of x.letter.to s.hosted) (Give x.number (input.Take x.letter)) s in
-      let b = reported x.letter.to (held_by x.letter.to s.hosted) a.next in
+      let a = at_place (hosted_place x.letter.to s.hosted) (Give x.number (input.Take x.letter)) s in
+      let b = reported x.letter.to (held_by_role x.letter.to s.hosted) a.next in
       let own = same_role x.letter.to (role kind.Leader 0) in
-      then_go self self c p a (λ after. then_do (reported x.letter.to (held_by x.letter.to s.hosted) after) (λ last. if own then collected last else stays last))
-      (take_go x p s st sent (place_of x.letter.to s.hosted) refl) (λ q now.
-      then_go self self c q b (λ last. if own then collected last else stays last) (reported_go x.letter.to (held_by x.letter.to s.hosted) q a.next now) (λ r last.
+      then_go self self c p a (λ after. then_do (reported x.letter.to (held_by_role x.letter.to s.hosted) after) (λ last. if own then collected last else stays last))
+      (take_go x p s st sent (hosted_place x.letter.to s.hosted) refl) (λ q now.
+      then_go self self c q b (λ last. if own then collected last else stays last) (reported_go x.letter.to (held_by_role x.letter.to s.hosted) q a.next now) (λ r last.
       pick self r own (collected b.next) (stays b.next) (collected_go r b.next last) (stays_go self c r b.next last)))
 
   heeds_go : (p : List Action) (s : Course) (bytes : List ℕ) → Stands c (past_of p) s → (o : Option Numbered) → last_sent bytes (sent_in p) ≡ o → Goes self c p (brings_heeded o s)
@@ -292,7 +292,7 @@ module _ (c : Cluster) where
       gets_go (leader_asked c (standing_of l) k) (asked_given (standing_of l) k) p t.course st
 
   pass_go : (p : List Action) (t : Tended) → Stands c (past_of p) t.course → Goes at c p (next_pass t)
-  pass_go p t st = in_turn_go (is_overtaken t.care.marks) t.care.queue p t.course st
+  pass_go p t st = in_turn_go (is_overtaken t.care.counts) t.care.queue p t.course st
 
   clients_go : (p : List Action) (t : Tended) → Stands c (past_of p) t.course → Goes at c p (clients_tended t)
   unfolding clients_tended
@@ -314,7 +314,7 @@ module _ (c : Cluster) where
   ended_go : (m : ℕ) (came : Bool) (p : List Action) (t : Tended) → Stands c (past_of p) t.course → Goes at c p (turn_ended c m came t)
   unfolding turn_ended
   ended_go m came p t st =
-      let k = counted came t.care in
+      let k = care_after_turn came t.care in
       let over : Tended = record { care = beat_over k; course = t.course } in
       let on : Tended = record { care = k; course = t.course } in
       pick at p (is_beat m k) (beat c over) (stays on) (beat_go p over st) (stays_go at c p on st)
@@ -330,13 +330,13 @@ module _ (c : Cluster) where
       then_go at at c q b (λ b. then_do (within (flushed b.care (is_some what)) b) (λ d. turn_ended c m (is_some what) d)) (tend_comes_go what q a.next.course now) (λ r mid.
       then_go at at c r d (λ d. turn_ended c m (is_some what) d) (flushed_go b.next.care (is_some what) r b.next.course mid) (λ v last. ended_go m (is_some what) v d.next last)))
 
-  tended_go : (m : ℕ) (takes : Takes) (p : List Action) (s : Course) → Stands c (past_of p) s → Goes at c p (tended_run c m takes s)
+  tended_go : (m : ℕ) (takes : TakeResults) (p : List Action) (s : Course) → Stands c (past_of p) s → Goes at c p (tended_run c m takes s)
   tended_go m takes p s st =
       let a = within (all_do Begin) (untended s) in
       then_go at at c p a (λ after. turns_from (tended_turn c m) 1 takes after) (all_go Begin (λ w me. tt) p s st) (λ q now. turns_go at (tended_turn c m) (tended_turn_go m) 1 takes q a.next now)
 
   -- the whole run, tended or not
-  pub run_go : (tend : Option ℕ) (takes : Takes) → Keeps c (node_run tend c takes)
+  pub run_go : (tend : Option ℕ) (takes : TakeResults) → Keeps c (node_run tend c takes)
   unfolding node_run
   run_go None takes p s st = untended_go takes p s st
   run_go (Some m) takes p s st = tended_go m takes p s st

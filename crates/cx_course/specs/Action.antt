@@ -75,8 +75,8 @@ abbrev pub answered_in : List Action → List Letter
 answered_in actions = flat_map answered_by actions
 
 -- they bind nothing, and this is what their takes give
-abbrev pub HasTaken : List (Option (List ℕ)) → List Action → Type 0
-HasTaken takes actions = (bound_in actions ≡ []) × (taken_in actions ≡ takes)
+abbrev pub AreTakesOf : List (Option (List ℕ)) → List Action → Type 0
+AreTakesOf takes actions = (bound_in actions ≡ []) × (taken_in actions ≡ takes)
 
 -- the actions of one step of a role: its store is changed, then its datagrams are sent, then its text is printed; and what a
 -- record has of it

@@ -86,8 +86,8 @@ seen None events s = step_actions s.kept s.sends s.text []
 seen (Some r) events s = step_actions s.kept s.sends (events_text events) (map Noted events ++ map Answered s.answers)
 
 -- whether the record, if there is one, has room for the lines of these events
-abbrev pub fits : Option Recorded → List Event → Bool
-fits r events = option_map_or (has_room (length events)) r true
+abbrev pub has_room_for : Option Recorded → List Event → Bool
+has_room_for r events = option_map_or (has_room (length events)) r true
 
 abbrev pub made : ℕ → Course → List Event → Step → Moved Course
 made i s events step =
@@ -102,7 +102,7 @@ made_if fit i s events step = if fit then made i s events step else record { nex
 
 abbrev pub found_does : ℕ → Course → Doing → Option Hosted → Moved Course
 found_does i s what None = stays s
-found_does i s what (Some h) = made_if (fits s.recorded (step_events h what)) i s (step_events h what) (does h what)
+found_does i s what (Some h) = made_if (has_room_for s.recorded (step_events h what)) i s (step_events h what) (does h what)
 
 -- the hosted role at a place does something
 unfoldable pub does_at : ℕ → Doing → Course → Moved Course

@@ -49,5 +49,5 @@ pub record IsNextOf (c : Cluster) (actions : List Action) (kept : StoreChange) :
   pub keeps : (change (run c (noted_in actions)) event).kept ≡ kept_by kept.role (Some what)
   pub change_is : kept.change ≡ change_for (list_in kept.role actions) what
 
-abbrev pub KeepsNext : Cluster → List Action → Type 0
-KeepsNext c actions = (count : ℕ) (kept : StoreChange) → slice_get actions count ≡ Some (Kept kept) → IsNextOf c (take count actions) kept
+abbrev pub EachKeptIsNext : Cluster → List Action → Type 0
+EachKeptIsNext c actions = (count : ℕ) (kept : StoreChange) → slice_get actions count ≡ Some (Kept kept) → IsNextOf c (take count actions) kept

@@ -118,17 +118,17 @@ given (ReaderAt s) i = by_row reader_rules ReaderAt s i
 given (ReplacerAt s) i = by_row replacer_rules ReplacerAt s i
 
 -- a client sends its outstanding requests; another role has nothing to begin with
-abbrev pub begun : Hosted → Step
-begun (ClientAt s) = record { next = ClientAt s; kept = []; sends = client_start s; text = []; answers = [] }
-begun (BatcherAt s) = rests (BatcherAt s)
-begun (LeaderAt s) = rests (LeaderAt s)
-begun (ProxyAt s) = rests (ProxyAt s)
-begun (AcceptorAt s) = rests (AcceptorAt s)
-begun (MatchmakerAt s) = rests (MatchmakerAt s)
-begun (ReplicaAt s) = rests (ReplicaAt s)
-begun (UnbatcherAt s) = rests (UnbatcherAt s)
-begun (ReaderAt s) = rests (ReaderAt s)
-begun (ReplacerAt s) = rests (ReplacerAt s)
+abbrev pub starting_step : Hosted → Step
+starting_step (ClientAt s) = record { next = ClientAt s; kept = []; sends = client_start s; text = []; answers = [] }
+starting_step (BatcherAt s) = rests (BatcherAt s)
+starting_step (LeaderAt s) = rests (LeaderAt s)
+starting_step (ProxyAt s) = rests (ProxyAt s)
+starting_step (AcceptorAt s) = rests (AcceptorAt s)
+starting_step (MatchmakerAt s) = rests (MatchmakerAt s)
+starting_step (ReplicaAt s) = rests (ReplicaAt s)
+starting_step (UnbatcherAt s) = rests (UnbatcherAt s)
+starting_step (ReaderAt s) = rests (ReaderAt s)
+starting_step (ReplacerAt s) = rests (ReplacerAt s)
 
 -- below which slot a running replica may forget values, if it may
 abbrev pub snap_of : Running ReplicaDurable ReplicaVolatile → Option ℕ
@@ -160,7 +160,7 @@ snapped (ReplacerAt s) = rests (ReplacerAt s)
 
 -- what a hosted role does
 unfoldable pub does : Hosted → Doing → Step
-does h Begin = begun h
+does h Begin = starting_step h
 does h (Give number i) = given h i
 does h Snap = snapped h
 
@@ -178,14 +178,14 @@ is_idle_leader (ReaderAt s) = false
 is_idle_leader (ReplacerAt s) = false
 
 -- whether it may take a step: a role whose append failed may not
-abbrev pub is_live : Hosted → Bool
-is_live (ClientAt s) = true
-is_live (BatcherAt s) = s.live
-is_live (LeaderAt s) = s.live
-is_live (ProxyAt s) = s.live
-is_live (AcceptorAt s) = s.live
-is_live (MatchmakerAt s) = s.live
-is_live (ReplicaAt s) = s.live
-is_live (UnbatcherAt s) = s.live
-is_live (ReaderAt s) = s.live
-is_live (ReplacerAt s) = s.live
+abbrev pub is_live_role : Hosted → Bool
+is_live_role (ClientAt s) = true
+is_live_role (BatcherAt s) = s.live
+is_live_role (LeaderAt s) = s.live
+is_live_role (ProxyAt s) = s.live
+is_live_role (AcceptorAt s) = s.live
+is_live_role (MatchmakerAt s) = s.live
+is_live_role (ReplicaAt s) = s.live
+is_live_role (UnbatcherAt s) = s.live
+is_live_role (ReaderAt s) = s.live
+is_live_role (ReplacerAt s) = s.live

@@ -31,9 +31,9 @@ abbrev pub all_do : Doing → Course → Moved Course
 all_do what s = first_do (length s.hosted) what s
 
 -- the place of a hosted role
-abbrev pub place_of : RoleId → List Hosted → Option ℕ
-place_of who [] = None
-place_of who (h ∷ hs) = if same_role who (name_of h) then Some 0 else option_map (λ i. i + 1) (place_of who hs)
+abbrev pub hosted_place : RoleId → List Hosted → Option ℕ
+hosted_place who [] = None
+hosted_place who (h ∷ hs) = if same_role who (name_of h) then Some 0 else option_map (λ i. i + 1) (hosted_place who hs)
 
 -- the hosted role of this name does something, if there is one
 abbrev pub at_place : Option ℕ → Doing → Course → Moved Course
@@ -64,7 +64,7 @@ lead_at c (Some i) s =
 
 -- a hosted leader 0 that is idle is ordered to lead, at turn 1 and at each that 4,096 divides
 unfoldable pub ordered : Cluster → ℕ → Course → Moved Course
-ordered c n s = if (n == 1) || (n % 4096 == 0) then lead_at c (place_of (role kind.Leader 0) s.hosted) s else stays s
+ordered c n s = if (n == 1) || (n % 4096 == 0) then lead_at c (hosted_place (role kind.Leader 0) s.hosted) s else stays s
 
 -- all replicas snap, at each turn that 4,096 divides
 unfoldable pub snaps : ℕ → Course → Moved Course
@@ -88,7 +88,7 @@ brought (Some r) bytes = last_sent bytes r.sent
 -- a datagram to a role that isn't hosted changes nothing
 abbrev pub brings : Option Numbered → Course → Moved Course
 brings None s = stays s
-brings (Some x) s = at_place (place_of x.letter.to s.hosted) (Give x.number (input.Take x.letter)) s
+brings (Some x) s = at_place (hosted_place x.letter.to s.hosted) (Give x.number (input.Take x.letter)) s
 
 -- what a take gave comes to its role
 unfoldable pub comes : Option (List ℕ) → Course → Moved Course
@@ -100,21 +100,21 @@ unfoldable pub ticked : ℕ → Course → Moved Course
 ticked n s = if n % 64 == 0 then all_do (Give 0 input.Tick) s else stays s
 
 -- the n-th turn, in which a take of the link gave this
-unfoldable pub turn : Cluster → ℕ → Option (List ℕ) → Course → Moved Course
-turn c n what s = then_do (prepared c n s) (λ after. then_do (comes what after) (λ last. ticked n last))
+unfoldable pub node_turn : Cluster → ℕ → Option (List ℕ) → Course → Moved Course
+node_turn c n what s = then_do (prepared c n s) (λ after. then_do (comes what after) (λ last. ticked n last))
 
 -- what each take of a link gave: bytes, or nothing was there
-abbrev pub Takes : Type 0
-Takes = List (Option (List ℕ))
+abbrev pub TakeResults : Type 0
+TakeResults = List (Option (List ℕ))
 
 -- the turns from the n-th on, each of this kind
-abbrev pub turns_from : {S : Type 0} → (ℕ → Option (List ℕ) → S → Moved S) → ℕ → Takes → S → Moved S
+abbrev pub turns_from : {S : Type 0} → (ℕ → Option (List ℕ) → S → Moved S) → ℕ → TakeResults → S → Moved S
 turns_from step n [] s = stays s
 turns_from step n (what ∷ rest) s = then_do (step n what s) (λ after. turns_from step (n + 1) rest after)
 
 -- The whole run: clients send their outstanding requests, and then come the turns.
-abbrev pub untended_run : Cluster → Takes → Course → Moved Course
-untended_run c takes s = then_do (all_do Begin s) (λ after. turns_from (turn c) 1 takes after)
+abbrev pub untended_run : Cluster → TakeResults → Course → Moved Course
+untended_run c takes s = then_do (all_do Begin s) (λ after. turns_from (node_turn c) 1 takes after)
 
 -- ---- when it ends
 

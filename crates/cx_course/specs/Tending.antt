@@ -10,7 +10,7 @@ use Rattle.cx_base.specs.declared.role.Kind.TheVariants as kind
 use Rattle.cx_base.specs.declared.role.RoleId.{RoleId}
 use Rattle.cx_base.specs.Lists.{below}
 use Rattle.cx_base.specs.Role.{role, same_role}
-use Rattle.cx_leader.specs.Tending.{can_collect, has_heard, has_open, is_new, is_spent}
+use Rattle.cx_leader.specs.Tending.{can_collect, has_heard, has_open, is_new_leader, is_spent}
 use Rattle.cx_model.specs.Leader.{LeaderDurable, LeaderVolatile, is_idle}
 use Rattle.cx_model.specs.Replica.{held}
 use Rattle.cx_model.specs.Rules.{Running}
@@ -19,7 +19,7 @@ use Rattle.cx_course.specs.declared.doing.Doing.TheVariants.{Begin, Give}
 use Rattle.cx_course.specs.declared.standing.Standing.{Standing}
 use Rattle.cx_course.specs.Hosted.{Hosted, ClientAt, LeaderAt, ReplicaAt, name_of}
 use Rattle.cx_course.specs.Course.{Course, Moved, does_at, stays, then_do, took}
-use Rattle.cx_course.specs.Run.{all_do, at_place, brought, grid_of, is_client, ordered, place_of, snaps, Takes, turn, turns_from, untended_run}
+use Rattle.cx_course.specs.Run.{all_do, at_place, brought, grid_of, is_client, ordered, hosted_place, snaps, TakeResults, node_turn, turns_from, untended_run}
 use Rattle.cx_record.specs.Numbers.{Numbered}
 
 -- What a tended node has counted. Counts of turns and beats stop at 2 ^ 32 - 1.
@@ -33,9 +33,9 @@ pub record Care : Type 0 where
   pub still : ℕ
   -- how many requests each hosted role had completed when the last pass began, 0 for one that is no client; and the places of all in the
   -- order in which clients ask at its end
-  pub marks : List ℕ
+  pub counts : List ℕ
   pub queue : List ℕ
-  -- the leader's watermark at the last beat, and for how many beats it has not risen while a slot was open
+  -- the leader's chosen watermark at the last beat, and for how many beats it has not risen while a slot was open
   pub cw : ℕ
   pub stuck : ℕ
 
@@ -46,7 +46,7 @@ pub record Tended : Type 0 where
 
 -- nothing is counted yet
 abbrev pub no_care : List Hosted → Care
-no_care hs = record { turns = 0; empty = 0; came = false; done = 0; still = 0; marks = map (λ (h : Hosted). 0) hs; queue = below (length hs); cw = 0; stuck = 0 }
+no_care hs = record { turns = 0; empty = 0; came = false; done = 0; still = 0; counts = map (λ (h : Hosted). 0) hs; queue = below (length hs); cw = 0; stuck = 0 }
 
 -- one more turn or beat
 abbrev pub one_more : ℕ → ℕ
@@ -72,7 +72,7 @@ at_or_none (Some i) hs = slice_get hs i
 
 -- the hosted role of this name
 abbrev pub hosted_as : RoleId → List Hosted → Option Hosted
-hosted_as who hs = at_or_none (place_of who hs) hs
+hosted_as who hs = at_or_none (hosted_place who hs) hs
 
 abbrev pub leader_of : Hosted → Option (Running LeaderDurable LeaderVolatile)
 leader_of (LeaderAt s) = Some s
@@ -91,8 +91,8 @@ abbrev pub held_of : Hosted → ℕ
 held_of (ReplicaAt s) = held s.durable
 held_of other = 0
 
-unfoldable pub held_by : RoleId → List Hosted → ℕ
-held_by who hs = option_map_or held_of (hosted_as who hs) 0
+unfoldable pub held_by_role : RoleId → List Hosted → ℕ
+held_by_role who hs = option_map_or held_of (hosted_as who hs) 0
 
 -- how many requests a client has completed
 abbrev pub completed : Hosted → ℕ
@@ -125,24 +125,24 @@ in_turn test (i ∷ places) s = then_do (ticks_if test i s) (λ after. in_turn t
 abbrev pub those_tick : (ℕ → Hosted → Bool) → Course → Moved Course
 those_tick test s = in_turn test (below (length s.hosted)) s
 
-abbrev pub is_of : Kind → Hosted → Bool
-is_of k h = same_role (name_of h) (role k (name_of h).index)
+abbrev pub is_of_kind : Kind → Hosted → Bool
+is_of_kind k h = same_role (name_of h) (role k (name_of h).index)
 
 -- all of a kind tick
 unfoldable pub kind_ticks : Kind → Course → Moved Course
-kind_ticks k s = those_tick (λ i h. is_of k h) s
+kind_ticks k s = those_tick (λ i h. is_of_kind k h) s
 
 -- leader 0 gets an order, if there is one
 abbrev pub gets : Option Order → Course → Moved Course
 gets None s = stays s
-gets (Some o) s = at_place (place_of (role kind.Leader 0) s.hosted) (Give 0 (input.Order o)) s
+gets (Some o) s = at_place (hosted_place (role kind.Leader 0) s.hosted) (Give 0 (input.Order o)) s
 
 -- ---- the parts of a turn
 
 -- leader 0 is ordered to lead as in a node that doesn't tend, but at turn 1 only where it never began a round
 unfoldable pub tend_ordered : Cluster → ℕ → Course → Moved Course
 tend_ordered c n s =
-    if (n == 1) && not (option_map_or (λ (l : Running LeaderDurable LeaderVolatile). is_new l.durable) (first_leader s.hosted) false) then stays s else ordered c n s
+    if (n == 1) && not (option_map_or (λ (l : Running LeaderDurable LeaderVolatile). is_new_leader l.durable) (first_leader s.hosted) false) then stays s else ordered c n s
 
 -- the first part of the n-th turn
 unfoldable pub tend_prepared : Cluster → ℕ → Course → Moved Course
@@ -151,7 +151,7 @@ tend_prepared c n s = then_do (tend_ordered c n s) (λ led. snaps n led)
 -- a replica whose log has come to a further multiple of 8 slots ticks
 unfoldable pub reported : RoleId → ℕ → Course → Moved Course
 reported who before s =
-    if nat_lt (before / 8) (held_by who s.hosted / 8) then at_place (place_of who s.hosted) (Give 0 input.Tick) s else stays s
+    if nat_lt (before / 8) (held_by_role who s.hosted / 8) then at_place (hosted_place who s.hosted) (Give 0 input.Tick) s else stays s
 
 -- leader 0 is ordered to collect, where that would begin
 unfoldable pub collected : Course → Moved Course
@@ -161,8 +161,8 @@ collected s =
 -- a role takes a datagram; a replica may then tick, and leader 0 collect
 unfoldable pub heeded : Numbered → Course → Moved Course
 heeded x s =
-    then_do (at_place (place_of x.letter.to s.hosted) (Give x.number (input.Take x.letter)) s) (λ after.
-    then_do (reported x.letter.to (held_by x.letter.to s.hosted) after) (λ last.
+    then_do (at_place (hosted_place x.letter.to s.hosted) (Give x.number (input.Take x.letter)) s) (λ after.
+    then_do (reported x.letter.to (held_by_role x.letter.to s.hosted) after) (λ last.
     if same_role x.letter.to (role kind.Leader 0) then collected last else stays last))
 
 abbrev pub brings_heeded : Option Numbered → Course → Moved Course
@@ -179,8 +179,8 @@ unfoldable pub flushed : Care → Bool → Course → Moved Course
 flushed k came s = if k.came && not came then kind_ticks kind.Batcher s else stays s
 
 -- a turn is counted; bytes that are no datagram are something that came
-unfoldable pub counted : Bool → Care → Care
-counted came k = record k { turns = one_more k.turns; empty = if came || k.came then k.empty else one_more k.empty; came = came }
+unfoldable pub care_after_turn : Bool → Care → Care
+care_after_turn came k = record k { turns = one_more k.turns; empty = if came || k.came then k.empty else one_more k.empty; came = came }
 
 -- a turn ends with a beat where 64 takes gave nothing after one that gave nothing, and at the m-th turn since the last one
 unfoldable pub is_beat : ℕ → Care → Bool
@@ -194,7 +194,7 @@ beat_over k = record k { turns = 0; empty = 0 }
 unfoldable pub others_tick : Course → Moved Course
 others_tick s = those_tick (λ i h. not (is_client h)) s
 
--- where the leader's watermark is, and whether a slot is open
+-- where the leader's chosen watermark is, and whether a slot is open
 unfoldable pub leader_noted : ℕ → Bool → Care → Care
 leader_noted cw opened k = if nat_lt k.cw cw || not opened then record k { cw = cw; stuck = 0 } else record k { stuck = one_more k.stuck }
 
@@ -207,14 +207,14 @@ abbrev pub standing_of : Running LeaderDurable LeaderVolatile → Standing
 standing_of l =
     record {
       may_lead = may_lead l;
-      watermark = l.volatile.cw;
+      cw = l.volatile.cw;
       has_open = has_open l.volatile;
       is_spent = is_spent l.volatile;
       can_collect = can_collect l.volatile;
     }
 
 abbrev pub leader_cared : Standing → Care → Care
-leader_cared l k = if l.may_lead then k else leader_noted l.watermark l.has_open k
+leader_cared l k = if l.may_lead then k else leader_noted l.cw l.has_open k
 
 -- whether a spent leader changes after this many beats: 16, 32, 64, 128, 256, 512 or a multiple of 1,024
 unfoldable pub is_time : ℕ → Bool
@@ -245,18 +245,18 @@ asks_again n = (n == 1) || (n == 2) || (n == 4) || (n == 8) || (nat_le 16 n && (
 
 -- a pass ends when more than two requests a client were completed in it
 unfoldable pub passes : ℕ → ℕ → Care → Bool
-passes clients done k = nat_lt (sum k.marks + 2 * clients) done
+passes clients done k = nat_lt (sum k.counts + 2 * clients) done
 
-abbrev pub is_marked : List ℕ → ℕ → ℕ → Bool
-is_marked marks i done = option_map_or (λ n. n == done) (slice_get marks i) false
+abbrev pub had_completed : List ℕ → ℕ → ℕ → Bool
+had_completed counts i done = option_map_or (λ n. n == done) (slice_get counts i) false
 
 -- a client that has completed none since the pass began
 abbrev pub is_overtaken : List ℕ → ℕ → Hosted → Bool
-is_overtaken marks i h = is_client h && is_marked marks i (completed h)
+is_overtaken counts i h = is_client h && had_completed counts i (completed h)
 
 -- whether the role at this place has completed as many by now as before
 abbrev pub is_still : List ℕ → List ℕ → ℕ → Bool
-is_still before now i = option_map_or (is_marked before i) (slice_get now i) false
+is_still before now i = option_map_or (had_completed before i) (slice_get now i) false
 
 -- The order of the next pass: who completed none in this one stays in front, and the others go behind. So nobody comes to be in front of one
 -- that waits longer, and whoever waits comes to be the first. By their places the last would be asked last at each pass, and where more is
@@ -266,12 +266,12 @@ requeued before now queue = filter (is_still before now) queue ++ filter (λ i. 
 
 -- a pass begins, when each hosted role has completed this many
 abbrev pub pass_begun : List ℕ → Care → Care
-pass_begun now k = record k { marks = now; queue = requeued k.marks now k.queue }
+pass_begun now k = record k { counts = now; queue = requeued k.counts now k.queue }
 
 -- who was overtaken asks again, in the order of the queue, and the next pass begins
 abbrev pub next_pass : Tended → Moved Tended
 next_pass t =
-    let m = in_turn (is_overtaken t.care.marks) t.care.queue t.course in
+    let m = in_turn (is_overtaken t.care.counts) t.care.queue t.course in
     with_care (pass_begun (completed_by m.next.hosted) t.care) m
 
 -- The clients: all ask again where none was answered for some beats; else, where a pass ends, those that were overtaken.
@@ -289,7 +289,7 @@ beat c t = then_do (within others_tick t) (λ after. then_do (leader_tended c (f
 -- a turn was made, and ends with a beat where it is time
 unfoldable pub turn_ended : Cluster → ℕ → Bool → Tended → Moved Tended
 turn_ended c m came t =
-    let k = counted came t.care in
+    let k = care_after_turn came t.care in
     if is_beat m k then beat c (record { care = beat_over k; course = t.course }) else stays (record { care = k; course = t.course })
 
 -- ---- the turn and the run
@@ -306,20 +306,20 @@ abbrev pub untended : Course → Tended
 untended s = record { care = no_care s.hosted; course = s }
 
 -- the run of a tended node
-abbrev pub tended_run : Cluster → ℕ → Takes → Course → Moved Tended
+abbrev pub tended_run : Cluster → ℕ → TakeResults → Course → Moved Tended
 tended_run c m takes s = then_do (within (all_do Begin) (untended s)) (λ after. turns_from (tended_turn c m) 1 takes after)
 
 -- The run of a node, tended with a limit of turns from beat to beat, or not tended.
-unfoldable pub node_run : Option ℕ → Cluster → Takes → Course → Moved Course
+unfoldable pub node_run : Option ℕ → Cluster → TakeResults → Course → Moved Course
 node_run None c takes s = untended_run c takes s
 node_run (Some m) c takes s = without_care (tended_run c m takes s)
 
 -- one turn of either
 abbrev pub any_turn : Option ℕ → Cluster → ℕ → Option (List ℕ) → Tended → Moved Tended
-any_turn None c n what t = within (turn c n what) t
+any_turn None c n what t = within (node_turn c n what) t
 any_turn (Some m) c n what t = tended_turn c m n what t
 
--- what is counted before the first turn: a node that isn't tended keeps no marks
+-- what is counted before the first turn: a node that isn't tended counts nothing
 abbrev pub first_care : Option ℕ → List Hosted → Care
 first_care None hs = no_care []
 first_care (Some m) hs = no_care hs

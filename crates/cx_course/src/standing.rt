@@ -6,7 +6,7 @@
 #[derive(Clone, Copy)]
 pub struct Standing {
     pub may_lead: bool,
-    pub watermark: u64,
+    pub cw: u64,
     pub has_open: bool,
     pub is_spent: bool,
     pub can_collect: bool,

@@ -11,7 +11,7 @@ use borrow.Author.Tests.{leb-true}
 use Rattle.cx_disk.specs.Disk.{written, Torn}
 use Rattle.cx_disk.specs.declared.memory.Call.{Call}
 use Rattle.cx_disk.specs.declared.memory.Call.TheVariants as call
-use Rattle.cx_disk.specs.MemDisk.{made_write, noted, notes, is_within, all_within, State, Reaches, MayLeave, after, opened, state_after, Step, write, cut, fill, fill_after, filled}
+use Rattle.cx_disk.specs.MemDisk.{made_write, note_of_call, notes_of_calls, is_within, all_within, DiskState, Reaches, MayLeave, after, state_at_open, state_after, UnsyncedCall, write, cut, fill, fill_after, filled}
 use Rattle.cx_disk.specs.MemDiskLaws.{reaches-snoc, torn-same, torn-written, cut-same, cut-done}
 
 both_so : (a b : Bool) → (a && b) ≡ true → (a ≡ true) × (b ≡ true)
@@ -28,14 +28,14 @@ slice-new flat bytes = ap (take (length flat + length bytes - length flat)) (dro
 length-slice : (from len : ℕ) (flat : List ℕ) → from + len ≤ length flat → length (slice_range flat from (from + len)) ≡ len
 length-slice from len flat within = omega (arith, within, length-take-le (from + len - from) (drop from flat) (omega (arith, within, length-drop from flat)))
 
-noted-kept : (flat more : List ℕ) (c : Call) → is_within (length flat) c ≡ true → noted (flat ++ more) c ≡ noted flat c
+noted-kept : (flat more : List ℕ) (c : Call) → is_within (length flat) c ≡ true → note_of_call (flat ++ more) c ≡ note_of_call flat c
 noted-kept flat more (call.Write at from len) within = ap (made_write at) (slice-kept from len flat more (leb-true _ _ within))
 noted-kept flat more (call.WriteFailed at len) within = refl
 noted-kept flat more (call.Cut at) within = refl
 noted-kept flat more (call.CutFailed at) within = refl
 noted-kept flat more call.Sync within = refl
 
-notes-kept : (flat more : List ℕ) (calls : List Call) → all_within (length flat) calls ≡ true → notes (flat ++ more) calls ≡ notes flat calls
+notes-kept : (flat more : List ℕ) (calls : List Call) → all_within (length flat) calls ≡ true → notes_of_calls (flat ++ more) calls ≡ notes_of_calls flat calls
 notes-kept flat more [] within = refl
 notes-kept flat more (c ∷ cs) within =
     let parts = both_so (is_within (length flat) c) (all_within (length flat) cs) within in
@@ -56,11 +56,11 @@ all_within-more n m (c ∷ cs) le within =
 
 module _ (flat bytes : List ℕ) (calls : List Call) (at : ℕ) (within : all_within (length flat) calls ≡ true) where
   -- a write is noted after the others
-  pub write_added : notes (flat ++ bytes) (calls ++ call.Write at (length flat) (length bytes) ∷ []) ≡ notes flat calls ++ made_write at bytes ∷ []
+  pub write_added : notes_of_calls (flat ++ bytes) (calls ++ call.Write at (length flat) (length bytes) ∷ []) ≡ notes_of_calls flat calls ++ made_write at bytes ∷ []
   write_added =
-      map-append (λ (c : Call). noted (flat ++ bytes) c) calls (call.Write at (length flat) (length bytes) ∷ [])
+      map-append (λ (c : Call). note_of_call (flat ++ bytes) c) calls (call.Write at (length flat) (length bytes) ∷ [])
       ∙ ap (λ ns. ns ++ made_write at (slice_range (flat ++ bytes) (length flat) (length flat + length bytes)) ∷ []) (notes-kept flat bytes calls within)
-      ∙ ap (λ b. notes flat calls ++ made_write at b ∷ []) (slice-new flat bytes)
+      ∙ ap (λ b. notes_of_calls flat calls ++ made_write at b ∷ []) (slice-new flat bytes)
 
   pub write_within : all_within (length (flat ++ bytes)) (calls ++ call.Write at (length flat) (length bytes) ∷ []) ≡ true
   write_within =
@@ -71,7 +71,7 @@ module _ (flat bytes : List ℕ) (calls : List Call) (at : ℕ) (within : all_wi
 
 -- ---- what was not synced, filled
 
-fill-leaves : (at n : ℕ) (from : List ℕ) (state : State) (file : List ℕ) → Reaches from state.steps file → Reaches from (state.steps ++ write at n ∷ []) (fill at n file)
+fill-leaves : (at n : ℕ) (from : List ℕ) (state : DiskState) (file : List ℕ) → Reaches from state.steps file → Reaches from (state.steps ++ write at n ∷ []) (fill at n file)
 fill-leaves at n from state file left = elim (cases_Bool (nat_le at (length file))) [
   | inl within ↦
       let new = written at (replicate n 255) file in
@@ -80,33 +80,33 @@ fill-leaves at n from state file left = elim (cases_Bool (nat_le at (length file
   | inr past ↦ rw past (reaches-snoc from state.steps (write at n) file file left (torn-same at n file))
 ]
 
-filled-leaves : (flat from : List ℕ) (calls : List Call) (state : State) (file : List ℕ) → all_within (length flat) calls ≡ true → Reaches from state.steps file
-    → Reaches from (fold after state (notes flat calls)).steps (fold (fill_after from) file calls)
+filled-leaves : (flat from : List ℕ) (calls : List Call) (state : DiskState) (file : List ℕ) → all_within (length flat) calls ≡ true → Reaches from state.steps file
+    → Reaches from (fold after state (notes_of_calls flat calls)).steps (fold (fill_after from) file calls)
 filled-leaves flat from [] state file within left = left
 filled-leaves flat from (call.Write at start len ∷ cs) state file within left =
     let parts = both_so (nat_le (start + len) (length flat)) (all_within (length flat) cs) within in
     let long : length (slice_range flat start (start + len)) ≡ len = length-slice start len flat (leb-true _ _ parts.0) in
     filled-leaves flat from cs (after state (made_write at (slice_range flat start (start + len)))) (fill at len file) parts.1
     (subst (λ n. Reaches from (state.steps ++ write at n ∷ []) (fill at len file)) (sym long) (fill-leaves at len from state file left))
-filled-leaves flat from (call.WriteFailed at len ∷ cs) state file within left = filled-leaves flat from cs (after state (noted flat (call.WriteFailed at len))) (fill at len file) within (fill-leaves at len from state file left)
+filled-leaves flat from (call.WriteFailed at len ∷ cs) state file within left = filled-leaves flat from cs (after state (note_of_call flat (call.WriteFailed at len))) (fill at len file) within (fill-leaves at len from state file left)
 filled-leaves flat from (call.Cut at ∷ cs) state file within left =
-    filled-leaves flat from cs (after state (noted flat (call.Cut at))) (take at file) within (reaches-snoc from state.steps (cut at) file _ left (cut-done at file))
+    filled-leaves flat from cs (after state (note_of_call flat (call.Cut at))) (take at file) within (reaches-snoc from state.steps (cut at) file _ left (cut-done at file))
 filled-leaves flat from (call.CutFailed at ∷ cs) state file within left =
-    filled-leaves flat from cs (after state (noted flat (call.CutFailed at))) file within (reaches-snoc from state.steps (cut at) file file left (cut-same at file))
-filled-leaves flat from (call.Sync ∷ cs) state file within left = filled-leaves flat from cs (after state (noted flat call.Sync)) from within refl
+    filled-leaves flat from cs (after state (note_of_call flat (call.CutFailed at))) file within (reaches-snoc from state.steps (cut at) file file left (cut-same at file))
+filled-leaves flat from (call.Sync ∷ cs) state file within left = filled-leaves flat from cs (after state (note_of_call flat call.Sync)) from within refl
 
 -- what was synced last is one of what may be left
-lost-leaves : (from : List ℕ) (steps : List Step) → Reaches from steps from
+lost-leaves : (from : List ℕ) (steps : List UnsyncedCall) → Reaches from steps from
 lost-leaves from [] = refl
 lost-leaves from (write at n ∷ later) = (from, torn-same at n from, lost-leaves from later)
 lost-leaves from (cut at ∷ later) = (from, cut-same at from, lost-leaves from later)
 
-module _ (first flat synced : List ℕ) (calls : List Call) (keeps : synced ≡ (state_after first (notes flat calls)).synced) where
-  pub lost_left : MayLeave (state_after first (notes flat calls)) synced
-  lost_left = subst (λ from. Reaches from (state_after first (notes flat calls)).steps synced) keeps (lost-leaves synced (state_after first (notes flat calls)).steps)
+module _ (first flat synced : List ℕ) (calls : List Call) (keeps : synced ≡ (state_after first (notes_of_calls flat calls)).synced) where
+  pub lost_left : MayLeave (state_after first (notes_of_calls flat calls)) synced
+  lost_left = subst (λ from. Reaches from (state_after first (notes_of_calls flat calls)).steps synced) keeps (lost-leaves synced (state_after first (notes_of_calls flat calls)).steps)
 
-  pub filled_left : all_within (length flat) calls ≡ true → MayLeave (state_after first (notes flat calls)) (filled synced calls)
-  filled_left within = subst (λ from. Reaches from (state_after first (notes flat calls)).steps (filled synced calls)) keeps (filled-leaves flat synced calls (opened first) synced within refl)
+  pub filled_left : all_within (length flat) calls ≡ true → MayLeave (state_after first (notes_of_calls flat calls)) (filled synced calls)
+  filled_left within = subst (λ from. Reaches from (state_after first (notes_of_calls flat calls)).steps (filled synced calls)) keeps (filled-leaves flat synced calls (state_at_open first) synced within refl)
 
 -- a copy of bytes that have a fact
 pub ok_has : {E : Type 0} (P : List ℕ → Type 0) (file : List ℕ) (r : Result (Vec ℕ Global) E) → IfOk r (λ v. v.items ≡ file) → P file → IfOk r (λ v. P v.items)

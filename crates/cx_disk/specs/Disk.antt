@@ -14,13 +14,13 @@ pub record Torn (at n : ℕ) (old new : List ℕ) : Type 0 where
   pub no_longer : length new ≤ max (length old) (at + n)
 
 -- A cut that was not synced: any length from the new to the old, and what was shorter stays.
-pub record Cut (at : ℕ) (old new : List ℕ) : Type 0 where
+pub record TornCut (at : ℕ) (old new : List ℕ) : Type 0 where
   pub no_shorter : min at (length old) ≤ length new
   pub front : take (length new) old ≡ new
 
 -- each new outcome of a crash is an old outcome after a step
-abbrev pub Follows : (List ℕ → List ℕ → Type 0) → (List ℕ → Type 0) → (List ℕ → Type 0) → Type 0
-Follows step old new = (c : List ℕ) → new c → (d : List ℕ) × old d × step d c
+abbrev pub IsAfterStep : (List ℕ → List ℕ → Type 0) → (List ℕ → Type 0) → (List ℕ → Type 0) → Type 0
+IsAfterStep step old new = (c : List ℕ) → new c → (d : List ℕ) × old d × step d c
 
 -- a crash leaves this and nothing else
 abbrev pub Only : List ℕ → (List ℕ → Type 0) → Type 0
@@ -28,7 +28,7 @@ Only file outcomes = (c : List ℕ) → outcomes c → c ≡ file
 
 -- where the disk's bytes are known, a crash leaves these and nothing else
 abbrev pub OnlyTold : Option (List ℕ) → (List ℕ → Type 0) → Type 0
-OnlyTold told outcomes = (file : List ℕ) → told ≡ Some file → Only file outcomes
+OnlyTold seen outcomes = (file : List ℕ) → seen ≡ Some file → Only file outcomes
 
 -- Time goes on: a crash since t might have left what it might have left before, or what it may leave now.
 pub record Elapses (before now : ℕ) (past since : ℕ → List ℕ → Type 0) (may_leave : List ℕ → Type 0) : Type 0 where

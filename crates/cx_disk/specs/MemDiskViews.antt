@@ -1,15 +1,15 @@
 -- What a disk in memory shows to those who make one.
 use Rattle.std.specs.Prelude.{ℕ, List}
 use Rattle.cx_disk.specs.declared.memory.MemDisk.{MemDisk}
-use Rattle.cx_disk.specs.MemDisk.{MayLeave, state_after, notes, filled}
+use Rattle.cx_disk.specs.MemDisk.{MayLeave, state_after, notes_of_calls, filled}
 
 -- what a read gives
-abbrev pub told_by : MemDisk → List ℕ
-told_by disk = disk.bytes.items
+abbrev pub mem_disk_bytes : MemDisk → List ℕ
+mem_disk_bytes disk = disk.bytes.items
 
 -- what a crash may leave
-abbrev pub left_by : MemDisk → List ℕ → Type 0
-left_by disk = MayLeave (state_after disk.first.items (notes disk.written.items disk.calls.items))
+abbrev pub IsCrashImage : MemDisk → List ℕ → Type 0
+IsCrashImage disk = MayLeave (state_after disk.first.items (notes_of_calls disk.written.items disk.calls.items))
 
 -- what the last sync left, the bytes from the start where there was none
 abbrev pub synced_by : MemDisk → List ℕ

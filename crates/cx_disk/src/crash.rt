@@ -1,7 +1,7 @@
 //! What a crash of a disk in memory may leave, as bytes.
 ghost use Rattle.std.specs.Prelude.{◌≡◌, IfOk, OnOk};
 ghost use Rattle.cx_disk.specs.MemDisk.{fill, fill_after, filled};
-ghost use Rattle.cx_disk.specs.MemDiskViews.{told_by, left_by, synced_by, filled_by};
+ghost use Rattle.cx_disk.specs.MemDiskViews.{mem_disk_bytes, IsCrashImage, synced_by, filled_by};
 
 use crate::MemDisk;
 use crate::making::copy_in;
@@ -60,8 +60,8 @@ fn filled(alloc: Global, synced: &[u8], calls: &[Call]) -> Result<Vec<u8>, NoMem
 impl MemDisk {
     /// The bytes that a crash at this moment leaves, of those that it may leave.
     pub fn crash_image(&self, alloc: Global, unsynced: Unsynced) -> Result<Vec<u8>, NoMemory>
-        ensures left { IfOk result (λ v. left_by self.now v.items) }
-        ensures kept { unsynced ≡ Unsynced.Kept → IfOk result (λ v. v.items ≡ told_by self.now) }
+        ensures left { IfOk result (λ v. IsCrashImage self.now v.items) }
+        ensures kept { unsynced ≡ Unsynced.Kept → IfOk result (λ v. v.items ≡ mem_disk_bytes self.now) }
         ensures lost { unsynced ≡ Unsynced.Lost → IfOk result (λ v. v.items ≡ synced_by self.now) }
         ensures filled { unsynced ≡ Unsynced.Filled → IfOk result (λ v. v.items ≡ filled_by self.now) }
     {

@@ -1,6 +1,6 @@
 //! A disk: what a read gives, and what a crash may leave.
 ghost use Rattle.std.specs.Prelude.{◌≡◌, ◌+◌, ◌<◌, ◌≤◌, ◌^◌, max, List, ℕ, Option, Some, length, take, option_map, is_some, slice_range, OnOk, IfSome};
-ghost use Rattle.cx_disk.specs.Disk.{written, Torn, Cut, Follows, OnlyTold, Elapses, HasCause};
+ghost use Rattle.cx_disk.specs.Disk.{written, Torn, TornCut, IsAfterStep, OnlyTold, Elapses, HasCause};
 
 /// The call failed.
 #[derive(Clone, Copy, Debug, PartialEq, Eq)]
@@ -46,7 +46,7 @@ pub trait Disk {
         ensures written { OnOk result (seen self.new ≡ option_map (written at bytes.now) (seen self.old)) }
         ensures tells { is_some (seen self.new) ≡ is_some (seen self.old) }
         ensures size { OnOk result (size self.new ≡ max (size self.old) (at + length bytes.now)) }
-        ensures crash { Follows (Torn at (length bytes.now)) (may_leave self.old) (may_leave self.new) }
+        ensures crash { IsAfterStep (Torn at (length bytes.now)) (may_leave self.old) (may_leave self.new) }
         ensures time { Elapses (moment self.old) (moment self.new) (left_since self.old)
             (left_since self.new) (may_leave self.new) }
         ensures cause { HasCause (faults self.old) (faults self.new) result };
@@ -57,7 +57,7 @@ pub trait Disk {
         ensures cut { OnOk result (seen self.new ≡ option_map (take at) (seen self.old)) }
         ensures tells { is_some (seen self.new) ≡ is_some (seen self.old) }
         ensures size { OnOk result (size self.new ≡ at) }
-        ensures crash { Follows (Cut at) (may_leave self.old) (may_leave self.new) }
+        ensures crash { IsAfterStep (TornCut at) (may_leave self.old) (may_leave self.new) }
         ensures time { Elapses (moment self.old) (moment self.new) (left_since self.old)
             (left_since self.new) (may_leave self.new) }
         ensures cause { HasCause (faults self.old) (faults self.new) result };

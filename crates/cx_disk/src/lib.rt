@@ -12,5 +12,5 @@ mod memory;
 
 pub use crash::Unsynced;
 pub use disk::{Disk, Failed};
-pub use making::Room;
+pub use making::DiskRoom;
 pub use memory::{Call, MemDisk};

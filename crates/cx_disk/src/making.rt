@@ -1,7 +1,7 @@
 //! How a disk in memory is made, and looked at.
 ghost use Rattle.std.specs.Prelude.{◌≡◌, IfOk};
 ghost use Rattle.cx_disk.specs.Disk.{Only};
-ghost use Rattle.cx_disk.specs.MemDiskViews.{told_by, left_by, failed_of};
+ghost use Rattle.cx_disk.specs.MemDiskViews.{mem_disk_bytes, IsCrashImage, failed_of};
 
 use crate::MemDisk;
 use cx_base::{Faults, NoMemory};
@@ -9,7 +9,7 @@ use std::alloc::Global;
 
 /// For how much a disk in memory has room.
 #[derive(Clone, Copy)]
-pub struct Room {
+pub struct DiskRoom {
     /// The most bytes that it may hold at a time. It has room at least for those that it begins with.
     pub bytes: usize,
     /// How many calls it can note: writes and cuts, also those that fail, and syncs.
@@ -38,12 +38,12 @@ impl MemDisk {
     pub fn new(
         alloc: Global,
         bytes: &[u8],
-        room: Room,
+        room: DiskRoom,
         fails: Vec<u64>,
         stop_after: Option<u64>,
     ) -> Result<Self, NoMemory>
-        ensures told { IfOk result (λ disk. told_by disk ≡ bytes.now) }
-        ensures durable { IfOk result (λ disk. Only bytes.now (left_by disk)) }
+        ensures bytes { IfOk result (λ disk. mem_disk_bytes disk ≡ bytes.now) }
+        ensures durable { IfOk result (λ disk. Only bytes.now (IsCrashImage disk)) }
         ensures faults { IfOk result (λ disk. failed_of disk ≡ 0) }
     {
         let most = at_least(room.bytes, bytes.len());
@@ -60,9 +60,9 @@ impl MemDisk {
         })
     }
 
-    /// What a read gives. It takes no memory.
+    /// What a read gives.
     pub fn bytes(&self) -> &[u8]
-        ensures { result.now ≡ told_by self.now }
+        ensures { result.now ≡ mem_disk_bytes self.now }
     {
         &self.bytes
     }

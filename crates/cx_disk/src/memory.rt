@@ -3,7 +3,7 @@ ghost use Rattle.std.specs.Prelude.{◌≡◌, ◌+◌, ◌≤◌, ◌++◌, [],
 ghost use Rattle.std.proofs.Common.{sym, ap, subst, ◌∙◌};
 ghost use Rattle.std.proofs.lemmas.Option.{same_Some};
 ghost use Rattle.cx_disk.specs.Disk.{written};
-ghost use Rattle.cx_disk.specs.MemDisk.{state_after, MayLeave, LeftSince, noted, notes, made_write, made_sync, is_within, all_within};
+ghost use Rattle.cx_disk.specs.MemDisk.{state_after, MayLeave, LeftSince, note_of_call, notes_of_calls, made_write, made_sync, is_within, all_within};
 ghost use Rattle.cx_disk.specs.MemDiskLaws.{seen_is_left, left_now, left_only_now, vec_small};
 
 use crate::{Disk, Failed};
@@ -32,8 +32,8 @@ pub struct MemDisk {
     pub(crate) made: u64,
     pub(crate) faults: Faults,
     ghost within: { all_within (length written.items) calls.items ≡ true },
-    ghost tells: { bytes.items ≡ (state_after first.items (notes written.items calls.items)).seen },
-    ghost keeps: { synced.items ≡ (state_after first.items (notes written.items calls.items)).synced },
+    ghost tells: { bytes.items ≡ (state_after first.items (notes_of_calls written.items calls.items)).seen },
+    ghost keeps: { synced.items ≡ (state_after first.items (notes_of_calls written.items calls.items)).synced },
 }
 
 /// Whether the disk makes no call any more from this one on.
@@ -62,9 +62,9 @@ pub(crate) fn write_over(file: &mut Vec<u8>, at: usize, bytes: &[u8])
 fn note(written: &[u8], calls: &mut Vec<Call>, call: Call) -> bool
     requires call { is_within (length written.now) call ≡ true }
     requires calls { all_within (length written.now) calls.old.items ≡ true }
-    ensures added { result ≡ true → notes written.now calls.new.items
-        ≡ notes written.now calls.old.items ++ noted written.now call ∷ [] }
-    ensures same { result ≡ false → notes written.now calls.new.items ≡ notes written.now calls.old.items }
+    ensures added { result ≡ true → notes_of_calls written.now calls.new.items
+        ≡ notes_of_calls written.now calls.old.items ++ note_of_call written.now call ∷ [] }
+    ensures same { result ≡ false → notes_of_calls written.now calls.new.items ≡ notes_of_calls written.now calls.old.items }
     ensures within { all_within (length written.now) calls.new.items ≡ true }
 {
     if calls.len() == calls.capacity() {
@@ -84,9 +84,9 @@ fn append(written: &mut Vec<u8>, bytes: &[u8])
 /// Notes a write and its bytes, where there is room for both.
 fn note_write(written: &mut Vec<u8>, calls: &mut Vec<Call>, at: u64, bytes: &[u8]) -> bool
     requires { all_within (length written.old.items) calls.old.items ≡ true }
-    ensures added { result ≡ true → notes written.new.items calls.new.items
-        ≡ notes written.old.items calls.old.items ++ made_write at bytes.now ∷ [] }
-    ensures same { result ≡ false → notes written.new.items calls.new.items ≡ notes written.old.items calls.old.items }
+    ensures added { result ≡ true → notes_of_calls written.new.items calls.new.items
+        ≡ notes_of_calls written.old.items calls.old.items ++ made_write at bytes.now ∷ [] }
+    ensures same { result ≡ false → notes_of_calls written.new.items calls.new.items ≡ notes_of_calls written.old.items calls.old.items }
     ensures within { all_within (length written.new.items) calls.new.items ≡ true }
 {
     if written.capacity() - written.len() < bytes.len() || calls.len() == calls.capacity() {
@@ -102,10 +102,10 @@ fn note_write(written: &mut Vec<u8>, calls: &mut Vec<Call>, at: u64, bytes: &[u8
 /// Notes a sync, and what a read gives as what was synced last, where there is room for both.
 fn note_sync(written: &[u8], calls: &mut Vec<Call>, bytes: &[u8], synced: &mut Vec<u8>) -> bool
     requires { all_within (length written.now) calls.old.items ≡ true }
-    ensures added { result ≡ true → notes written.now calls.new.items
-        ≡ notes written.now calls.old.items ++ made_sync ∷ [] }
+    ensures added { result ≡ true → notes_of_calls written.now calls.new.items
+        ≡ notes_of_calls written.now calls.old.items ++ made_sync ∷ [] }
     ensures synced { result ≡ true → synced.new.items ≡ bytes.now }
-    ensures same { result ≡ false → notes written.now calls.new.items ≡ notes written.now calls.old.items }
+    ensures same { result ≡ false → notes_of_calls written.now calls.new.items ≡ notes_of_calls written.now calls.old.items }
     ensures same_synced { result ≡ false → synced.new.items ≡ synced.old.items }
     ensures within { all_within (length written.now) calls.new.items ≡ true }
 {
@@ -120,28 +120,28 @@ fn note_sync(written: &[u8], calls: &mut Vec<Call>, bytes: &[u8], synced: &mut V
 impl Disk for MemDisk {
     ghost seen = { λ m. Some m.bytes.items };
 
-    ghost may_leave = { λ m. MayLeave (state_after m.first.items (notes m.written.items m.calls.items)) };
+    ghost may_leave = { λ m. MayLeave (state_after m.first.items (notes_of_calls m.written.items m.calls.items)) };
 
-    ghost moment = { λ m. length (notes m.written.items m.calls.items) };
+    ghost moment = { λ m. length (notes_of_calls m.written.items m.calls.items) };
 
-    ghost left_since = { λ m. LeftSince m.first.items (notes m.written.items m.calls.items) };
+    ghost left_since = { λ m. LeftSince m.first.items (notes_of_calls m.written.items m.calls.items) };
 
     ghost faults = { λ m. m.faults };
 
     ghost size = { λ m. length m.bytes.items };
 
-    ghost told_size = { λ m file told. ap length (sym (same_Some _ _ told)) };
+    ghost told_size = { λ m file is_seen. ap length (sym (same_Some _ _ is_seen)) };
 
-    ghost told_is_left = { λ m file told. subst
-        (MayLeave (state_after m.first.items (notes m.written.items m.calls.items)))
-        (sym m.tells ∙ same_Some _ _ told)
-        (seen_is_left m.first.items (notes m.written.items m.calls.items)) };
+    ghost told_is_left = { λ m file is_seen. subst
+        (MayLeave (state_after m.first.items (notes_of_calls m.written.items m.calls.items)))
+        (sym m.tells ∙ same_Some _ _ is_seen)
+        (seen_is_left m.first.items (notes_of_calls m.written.items m.calls.items)) };
 
     ghost size_fits = { λ m. vec_small m.bytes };
 
-    ghost counts_now = { λ m t c le now. left_now m.first.items (notes m.written.items m.calls.items) t c le now };
+    ghost counts_now = { λ m t c le now. left_now m.first.items (notes_of_calls m.written.items m.calls.items) t c le now };
 
-    ghost only_now = { λ m c left. left_only_now m.first.items (notes m.written.items m.calls.items) c left };
+    ghost only_now = { λ m c left. left_only_now m.first.items (notes_of_calls m.written.items m.calls.items) c left };
 
     fn len(&self) -> u64 {
         self.bytes.len() as u64

@@ -9,7 +9,7 @@ use Rattle.cx_base.specs.Role.{same_role}
 use Rattle.cx_edge.specs.declared.rows.CountRow.{CountRow}
 use Rattle.cx_edge.specs.declared.shelf.Shelf.{Shelf}
 use Rattle.cx_edge.specs.Depot.{without, first_faults}
-use Rattle.cx_edge.specs.Desk.{plus, of_role, no_faults, count_of, counted}
+use Rattle.cx_edge.specs.Desk.{plus, of_role, no_faults, fault_count_of, with_faults}
 use Rattle.cx_edge.specs.Shelf.{same_shelf}
 use Rattle.cx_edge.proofs.ShelfLaws.{same_role-true}
 
@@ -22,35 +22,35 @@ plus_rises a b some = grind arith
 plus_none : (a : ℕ) → plus a 0 ≡ a
 plus_none a = omega arith
 
-pub count_first : (role : RoleId) (roles : List RoleId) → count_of role (map no_faults roles) ≡ first_faults role roles
+pub count_first : (role : RoleId) (roles : List RoleId) → fault_count_of role (map no_faults roles) ≡ first_faults role roles
 count_first role [] = refl
 count_first role (r ∷ rest) = elim (cases_Bool (same_role role r)) [
   | inl is ↦ rw is refl
   | inr other ↦ rw other (count_first role rest)
 ]
 
-pub count_later : (role : RoleId) (n : ℕ) (rows : List CountRow) → count_of role rows ≤ count_of role (counted role n rows)
+pub count_later : (role : RoleId) (n : ℕ) (rows : List CountRow) → fault_count_of role rows ≤ fault_count_of role (with_faults role n rows)
 count_later role n [] = omega arith
 count_later role n (row ∷ rest) = elim (cases_Bool (of_role role row)) [
   | inl is ↦ rw (is, is) (plus_later row.count n)
   | inr other ↦ rw (other, other) (count_later role n rest)
 ]
 
-pub count_rises : (role : RoleId) (n : ℕ) (rows : List CountRow) → 0 < n → Rises (count_of role rows) (count_of role (counted role n rows))
+pub count_rises : (role : RoleId) (n : ℕ) (rows : List CountRow) → 0 < n → Rises (fault_count_of role rows) (fault_count_of role (with_faults role n rows))
 count_rises role n [] some = inr (omega arith)
 count_rises role n (row ∷ rest) some = elim (cases_Bool (of_role role row)) [
   | inl is ↦ rw (is, is) (plus_rises row.count n some)
   | inr other ↦ rw (other, other) (count_rises role n rest some)
 ]
 
-pub count_none : (who role : RoleId) (rows : List CountRow) → count_of who (counted role 0 rows) ≡ count_of who rows
+pub count_none : (who role : RoleId) (rows : List CountRow) → fault_count_of who (with_faults role 0 rows) ≡ fault_count_of who rows
 count_none who role [] = refl
 count_none who role (row ∷ rest) = elim (cases_Bool (of_role role row)) [
   | inl is ↦ rw (is, plus_none row.count) refl
   | inr other ↦ rw other (ap (λ n. if of_role who row then row.count else n) (count_none who role rest))
 ]
 
-pub count_other : (who role : RoleId) (n : ℕ) (rows : List CountRow) → (who ≡ role → ⊥) → count_of who (counted role n rows) ≡ count_of who rows
+pub count_other : (who role : RoleId) (n : ℕ) (rows : List CountRow) → (who ≡ role → ⊥) → fault_count_of who (with_faults role n rows) ≡ fault_count_of who rows
 count_other who role n [] other = refl
 count_other who role n (row ∷ rest) other = elim (cases_Bool (of_role role row)) [
   | inl is ↦ elim (cases_Bool (of_role who row)) [
@@ -62,7 +62,7 @@ count_other who role n (row ∷ rest) other = elim (cases_Bool (of_role role row
 
 pub counted_at : (role : RoleId) (n : ℕ) (rows : List CountRow) (i : ℕ) (d : CountRow) → i < length rows → of_role role (slice_index_or rows i d) ≡ true
     → ((k : ℕ) → k < i → of_role role (slice_index_or rows k d) ≡ false)
-    → slice_set rows i (record (slice_index_or rows i d) { count = plus (slice_index_or rows i d).count n }) ≡ counted role n rows
+    → slice_set rows i (record (slice_index_or rows i d) { count = plus (slice_index_or rows i d).count n }) ≡ with_faults role n rows
 counted_at role n [] i d within at before = absurd (omega arith)
 counted_at role n (row ∷ rest) zero d within at before = rw at refl
 counted_at role n (row ∷ rest) (suc i) d within at before =
@@ -82,10 +82,10 @@ past_end p xs none = go (nat_lt (position_or_len p xs) (length xs)) refl none
     go true e n = cc
     go false e n = grind (arith, nat_tests)
 
-pub counted_nowhere : (role : RoleId) (n : ℕ) (rows : List CountRow) → position (of_role role) rows ≡ None → counted role n rows ≡ rows
+pub counted_nowhere : (role : RoleId) (n : ℕ) (rows : List CountRow) → position (of_role role) rows ≡ None → with_faults role n rows ≡ rows
 counted_nowhere role n rows none = go rows (past_end (of_role role) rows none)
   where
-    go : (rs : List CountRow) → length rs ≤ position_or_len (of_role role) rs → counted role n rs ≡ rs
+    go : (rs : List CountRow) → length rs ≤ position_or_len (of_role role) rs → with_faults role n rs ≡ rs
     go [] past = refl
     go (row ∷ rest) past = elim (cases_Bool (of_role role row)) [
       | inl is ↦ absurd (omega (arith, rw is at past))

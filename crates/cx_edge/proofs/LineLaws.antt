@@ -1,4 +1,4 @@
--- Lines in bytes, and bytes that are read and held.
+-- Lines in bytes, and bytes that are read and buffered.
 use Rattle.std.proofs.Common.{◌≡◌, ◌≤◌, ◌<◌, ◌+◌, ◌-◌, ◌==◌, ◌++◌, ℕ, false, List, [], ◌∷◌, Option, None, Some, unwrap_or, length, take, drop, get_or, sym, ap, ◌∙◌, subst, append_assoc, append-nil, arith, take-append-drop, take_all, length-append, length-take, drop-drop, take-take, get_or-take, eqb-true, nat_lt}
 use Rattle.std.specs.Io.KnownBytes.{Keeps, Consumes}
 use Rattle.std.proofs.KnownBytes.{Consumes-nil, Consumes-trans, Consumes-kept}
@@ -16,10 +16,10 @@ use Rattle.std.proofs.Math.Seq.{take-append-add}
 use Rattle.std.proofs.lemmas.List.{take-append-le}
 use Rattle.std.proofs.lemmas.Slice.{take-put_mid_below}
 use borrow.Rule.Slice.PartMut.{put_mid}
-use Rattle.cx_edge.specs.Source.{Reads}
+use Rattle.cx_edge.specs.Source.{ReadsBytes}
 use Rattle.cx_edge.specs.declared.source.ReadEnd.{ReadEnd}
 use Rattle.cx_edge.specs.declared.source.ReadEnd.TheVariants as end
-use Rattle.cx_edge.specs.Lines.{ReadsBehind, IsFree, IsOpen, Hands, BeginsLong, IsFirstLine}
+use Rattle.cx_edge.specs.Lines.{ReadsBehind, IsFree, IsOpenLine, Hands, BeginsLong, IsFirstLine}
 
 -- the place of the first line feed
 abbrev pub feed_at : List ℕ → Option ℕ
@@ -98,7 +98,7 @@ first_line max bytes place n len found is size fits =
     }
 
 -- and there is no line feed yet
-pub is_open : (max : ℕ) (bytes : List ℕ) (n len : ℕ) → feed_at bytes ≡ None → n ≡ length bytes → len ≡ length (strip_carriage_return (take n bytes)) → len ≤ max → IsOpen max bytes
+pub is_open : (max : ℕ) (bytes : List ℕ) (n len : ℕ) → feed_at bytes ≡ None → n ≡ length bytes → len ≡ length (strip_carriage_return (take n bytes)) → len ≤ max → IsOpenLine max bytes
 is_open max bytes n len none is size fits =
     let all : take n bytes ≡ bytes = take_all n bytes (omega (arith, is)) in
     (is_free bytes none, omega (arith, rw all at size, fits))
@@ -115,41 +115,41 @@ take_between xs start end len inside =
     take-take len (end - start) (drop start xs) (omega arith) ∙ ap (λ n. take n (drop start xs)) (sym count)
 
 -- what a read into the rest of a buffer leaves
-pub reads_behind : (left left_after : Option (List ℕ)) (held : ℕ) (old part : List ℕ) (end : ReadEnd) → held < length old → length part ≡ length old - held
-    → Reads left left_after end part → ReadsBehind left left_after held old (put_mid held (length old - held) old part) end
-reads_behind left left_after held old part (end.Got count) room same reads =
-    let rest = part ++ drop (length old - held) (drop held old) in
-    let front : length (take held old) ≡ held = omega (arith, room, length-take held old) in
+pub reads_behind : (left left_after : Option (List ℕ)) (buffered : ℕ) (old part : List ℕ) (end : ReadEnd) → buffered < length old → length part ≡ length old - buffered
+    → ReadsBytes left left_after end part → ReadsBehind left left_after buffered old (put_mid buffered (length old - buffered) old part) end
+reads_behind left left_after buffered old part (end.Got count) room same reads =
+    let rest = part ++ drop (length old - buffered) (drop buffered old) in
+    let front : length (take buffered old) ≡ buffered = omega (arith, room, length-take buffered old) in
     record {
       read = take count part;
       size = omega (arith, reads.fits, length-take count part);
-      inside = omega (arith, front, reads.fits, same, room, length-append (take held old) rest, length-append part (drop (length old - held) (drop held old)));
+      inside = omega (arith, front, reads.fits, same, room, length-append (take buffered old) rest, length-append part (drop (length old - buffered) (drop buffered old)));
       consumed = reads.bytes;
-      whole = ap (λ n. take (n + count) (take held old ++ rest)) (sym front) ∙ take-append-add (take held old) rest count
-          ∙ ap (λ l. take held old ++ l) (take-append-le count part (drop (length old - held) (drop held old)) reads.fits);
+      whole = ap (λ n. take (n + count) (take buffered old ++ rest)) (sym front) ∙ take-append-add (take buffered old) rest count
+          ∙ ap (λ l. take buffered old ++ l) (take-append-le count part (drop (length old - buffered) (drop buffered old)) reads.fits);
       at_end = λ none. reads.at_end none (omega (arith, same, room));
     }
-reads_behind left left_after held old part end.Failed room same reads =
-    (reads, take-put_mid_below held (length old - held) old part held (omega arith) (omega (arith, room)))
+reads_behind left left_after buffered old part end.Failed room same reads =
+    (reads, take-put_mid_below buffered (length old - buffered) old part buffered (omega arith) (omega (arith, room)))
 
--- what is held grows by what is read
-pub hands_none : (left : Option (List ℕ)) (held : List ℕ) → Hands left left held held []
-hands_none left held = record { read = []; consumed = Consumes-nil left; whole = append-nil held }
+-- what is buffered grows by what is read
+pub hands_none : (left : Option (List ℕ)) (buffered : List ℕ) → Hands left left buffered buffered []
+hands_none left buffered = record { read = []; consumed = Consumes-nil left; whole = append-nil buffered }
 
-pub hands_more : (left now next : Option (List ℕ)) (held held_now held_next read : List ℕ) → Hands left now held held_now [] → Consumes now next read → held_next ≡ held_now ++ read
-    → Hands left next held held_next []
-hands_more left now next held held_now held_next read h consumed grown =
+pub hands_more : (left now next : Option (List ℕ)) (buffered held_now buffered_next read : List ℕ) → Hands left now buffered held_now [] → Consumes now next read → buffered_next ≡ held_now ++ read
+    → Hands left next buffered buffered_next []
+hands_more left now next buffered held_now buffered_next read h consumed grown =
     record {
       read = h.read ++ read;
       consumed = Consumes-trans left now next h.read read h.consumed consumed;
-      whole = sym (append_assoc held h.read read) ∙ ap (λ l. l ++ read) h.whole ∙ sym grown;
+      whole = sym (append_assoc buffered h.read read) ∙ ap (λ l. l ++ read) h.whole ∙ sym grown;
     }
 
-pub hands_kept : (left now next : Option (List ℕ)) (held held_now held_next : List ℕ) → Hands left now held held_now [] → Keeps now next → held_next ≡ held_now
-    → Hands left next held held_next []
-hands_kept left now next held held_now held_next h kept same =
-    record { read = h.read; consumed = Consumes-kept left now next h.read h.consumed kept; whole = h.whole ∙ sym same }
+pub hands_kept : (left now next : Option (List ℕ)) (buffered held_now buffered_next : List ℕ) → Hands left now buffered held_now [] → Keeps now next → buffered_next ≡ held_now
+    → Hands left next buffered buffered_next []
+hands_kept left now next buffered held_now buffered_next h unchanged same =
+    record { read = h.read; consumed = Consumes-kept left now next h.read h.consumed unchanged; whole = h.whole ∙ sym same }
 
 -- and is given from the start
-pub hands_out : (left now : Option (List ℕ)) (held held_now held_next out : List ℕ) → Hands left now held held_now [] → held_now ≡ out ++ held_next → Hands left now held held_next out
-hands_out left now held held_now held_next out h cut = record { read = h.read; consumed = h.consumed; whole = h.whole ∙ cut }
+pub hands_out : (left now : Option (List ℕ)) (buffered held_now buffered_next out : List ℕ) → Hands left now buffered held_now [] → held_now ≡ out ++ buffered_next → Hands left now buffered buffered_next out
+hands_out left now buffered held_now buffered_next out h cut = record { read = h.read; consumed = h.consumed; whole = h.whole ∙ cut }

@@ -9,7 +9,7 @@ use Rattle.cx_edge.specs.declared.link.TakeEnd.TheVariants.{Got}
 use Rattle.cx_edge.specs.declared.pieces.Piece.{Piece}
 use Rattle.cx_edge.specs.declared.pieces.SentRow.{SentRow}
 use Rattle.cx_edge.specs.declared.pieces.FrontRow.{FrontRow}
-use Rattle.cx_edge.specs.Notes.{NotesFit, NotesTake, Fits, TakenFits, SentFits, bytes_at, told_taken, told_sent, noted, keeping, with_sending}
+use Rattle.cx_edge.specs.Notes.{NotesFit, NotesTake, Fits, TakenFits, SentFits, bytes_at, told_taken, told_sent, notes_state, keeping, with_sending}
 
 map_same : {A B : Type 0} (P : A → Type 0) (f g : A → B) → ((x : A) → P x → f x ≡ g x) → (xs : List A) → All P xs → map f xs ≡ map g xs
 map_same P f g same [] all = refl
@@ -46,8 +46,8 @@ queue_kept false f queue piece = map-append f queue (piece ∷ [])
 pub send_noted : (bytes more : List ℕ) (takes : List (Option Piece)) (sends : List SentRow) (queue : List Piece) (rows : List FrontRow)
     → NotesFit (length bytes) takes sends queue rows
     → (from : RoleId) (port : ℕ) (is_lost : Bool) (piece : Piece) → piece.start ≡ length bytes → piece.len ≡ length more
-    → noted (bytes ++ more) takes (sends ++ record { from = from; port = port; piece = piece } ∷ []) (keeping is_lost queue piece)
-    ≡ with_sending is_lost (record { from = from; port = port; bytes = more }) (noted bytes takes sends queue)
+    → notes_state (bytes ++ more) takes (sends ++ record { from = from; port = port; piece = piece } ∷ []) (keeping is_lost queue piece)
+    ≡ with_sending is_lost (record { from = from; port = port; bytes = more }) (notes_state bytes takes sends queue)
 send_noted bytes more takes sends queue rows fit from port is_lost piece start long =
     let all = bytes ++ more in
     let row : SentRow = record { from = from; port = port; piece = piece } in
@@ -73,7 +73,7 @@ front_of bytes piece count long le_piece le_long which =
 pub take_noted : (bytes : List ℕ) (takes : List (Option Piece)) (sends : List SentRow) (queue rest : List Piece) (piece : Piece) (count : ℕ) (buffer copied : List ℕ)
     → queue ≡ piece ∷ rest → Fits (length bytes) piece → count ≤ piece.len → count ≤ length buffer → (count ≡ piece.len ⊎ count ≡ length buffer)
     → copied ≡ slice_range bytes piece.start (piece.start + count)
-    → NotesTake (noted bytes takes sends queue) (noted bytes (takes ++ Some (record { start = piece.start; len = count }) ∷ []) sends rest) (copied ++ drop count buffer) (Got count)
+    → NotesTake (notes_state bytes takes sends queue) (notes_state bytes (takes ++ Some (record { start = piece.start; len = count }) ∷ []) sends rest) (copied ++ drop count buffer) (Got count)
 take_noted bytes takes sends queue rest piece count buffer copied first fits le_piece le_buffer which is =
     let now = copied ++ drop count buffer in
     let cut : Piece = record { start = piece.start; len = count } in

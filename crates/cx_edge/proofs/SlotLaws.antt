@@ -6,10 +6,10 @@ use Rattle.std.specs.List.{position, position_or_len}
 use Rattle.std.proofs.lemmas.List.{map-set, set-get_or, length-map}
 use Rattle.std.proofs.lemmas.List.Quantifiers.{position-Some}
 use Rattle.cx_disk.specs.declared.memory.MemDisk.{MemDisk}
-use Rattle.cx_disk.specs.MemDiskViews.{told_by}
+use Rattle.cx_disk.specs.MemDiskViews.{mem_disk_bytes}
 use Rattle.cx_edge.specs.declared.shelf.Shelf.{Shelf}
 use Rattle.cx_edge.specs.declared.slot.Slot.{Slot}
-use Rattle.cx_edge.specs.Held.{Held, is_held_at, has_store, held_by, with_bytes}
+use Rattle.cx_edge.specs.Held.{ShelfContent, is_held_at, has_store, shelf_bytes, with_bytes}
 use Rattle.cx_edge.specs.Slot.{slot_held, is_slot_at}
 use Rattle.cx_edge.proofs.HeldLaws.{held_at, with_at}
 use Rattle.cx_edge.proofs.DeskLaws.{past_end}
@@ -41,14 +41,14 @@ module _ (place : Shelf) (slots : List Slot) (i : ℕ) (s : Slot) (found : posit
   pub slot_has : has_store place (map slot_held slots) ≡ true
   slot_has = (held_at place (map slot_held slots) i (slot_held s) within is before).1
 
-  pub slot_bytes : (slot_held s).bytes ≡ held_by (map slot_held slots) place
-  slot_bytes = sym ((held_at place (map slot_held slots) i (slot_held s) within is before).0 ∙ ap (λ (r : Held). r.bytes) this)
+  pub slot_bytes : (slot_held s).bytes ≡ shelf_bytes (map slot_held slots) place
+  slot_bytes = sym ((held_at place (map slot_held slots) i (slot_held s) within is before).0 ∙ ap (λ (r : ShelfContent). r.bytes) this)
 
-  pub slot_filled : (disk : MemDisk) → map slot_held (slice_set slots i (record { place = s.place; disk = Some disk; before = s.before })) ≡ with_bytes place (told_by disk) (map slot_held slots)
+  pub slot_filled : (disk : MemDisk) → map slot_held (slice_set slots i (record { place = s.place; disk = Some disk; before = s.before })) ≡ with_bytes place (mem_disk_bytes disk) (map slot_held slots)
   slot_filled disk =
       map-set slot_held slots i (record { place = s.place; disk = Some disk; before = s.before })
-      ∙ ap (λ (r : Held). slice_set (map slot_held slots) i (record r { bytes = told_by disk })) (sym this)
-      ∙ with_at place (told_by disk) (map slot_held slots) i (slot_held s) within is before
+      ∙ ap (λ (r : ShelfContent). slice_set (map slot_held slots) i (record r { bytes = mem_disk_bytes disk })) (sym this)
+      ∙ with_at place (mem_disk_bytes disk) (map slot_held slots) i (slot_held s) within is before
 
 pub slot_nowhere : (place : Shelf) (bytes : List ℕ) (slots : List Slot) → position (is_slot_at place) slots ≡ None → with_bytes place bytes (map slot_held slots) ≡ map slot_held slots
 slot_nowhere place bytes slots none = go slots (past_end (is_slot_at place) slots none)
@@ -57,5 +57,5 @@ slot_nowhere place bytes slots none = go slots (past_end (is_slot_at place) slot
     go [] past = refl
     go (s ∷ rest) past = elim (cases_Bool (is_slot_at place s)) [
       | inl is ↦ absurd (omega (arith, rw is at past))
-      | inr other ↦ rw other (ap (λ (rs : List Held). slot_held s ∷ rs) (go rest (omega (arith, rw other at past))))
+      | inr other ↦ rw other (ap (λ (rs : List ShelfContent). slot_held s ∷ rs) (go rest (omega (arith, rw other at past))))
     ]

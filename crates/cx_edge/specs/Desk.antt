@@ -22,11 +22,11 @@ abbrev pub no_faults : RoleId → CountRow
 no_faults role = record { role = role; count = 0 }
 
 -- How often a role was failed. One that isn't known is failed each time, and its count is at the end of its type.
-abbrev pub count_of : RoleId → List CountRow → ℕ
-count_of role [] = 18446744073709551615
-count_of role (row ∷ rest) = if of_role role row then row.count else count_of role rest
+abbrev pub fault_count_of : RoleId → List CountRow → ℕ
+fault_count_of role [] = 18446744073709551615
+fault_count_of role (row ∷ rest) = if of_role role row then row.count else fault_count_of role rest
 
 -- the counts with these further faults of a role
-abbrev pub counted : RoleId → ℕ → List CountRow → List CountRow
-counted role faults [] = []
-counted role faults (row ∷ rest) = if of_role role row then record row { count = plus row.count faults } ∷ rest else row ∷ counted role faults rest
+abbrev pub with_faults : RoleId → ℕ → List CountRow → List CountRow
+with_faults role faults [] = []
+with_faults role faults (row ∷ rest) = if of_role role row then record row { count = plus row.count faults } ∷ rest else row ∷ with_faults role faults rest

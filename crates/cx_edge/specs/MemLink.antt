@@ -6,12 +6,12 @@ use Rattle.cx_edge.specs.Notes.{NotesState}
 
 -- its history, where it is known, and its counts
 pub record LinkState : Type 0 where
-  pub told : Option LinkHistory
+  pub history : Option LinkHistory
   pub faults : ℕ
   pub losses : ℕ
 
 abbrev pub link_told : LinkState → Option LinkHistory
-link_told link = link.told
+link_told link = link.history
 
 abbrev pub link_faults : LinkState → ℕ
 link_faults link = link.faults
@@ -27,5 +27,5 @@ abbrev pub no_history : LinkHistory
 no_history = record { binds = []; taken = []; sent = [] }
 
 -- the history, unless a send was lost because there was no room to note it
-abbrev pub told_of : Bool → List BindRow → NotesState → Option LinkHistory
-told_of is_silent binds notes = if is_silent then None else Some (record { binds = map bind_of binds; taken = notes.taken; sent = notes.sent })
+abbrev pub mem_link_history : Bool → List BindRow → NotesState → Option LinkHistory
+mem_link_history is_silent binds notes = if is_silent then None else Some (record { binds = map bind_of binds; taken = notes.taken; sent = notes.sent })

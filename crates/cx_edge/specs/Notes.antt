@@ -24,8 +24,8 @@ abbrev pub told_sent : List ℕ → SentRow → Sending
 told_sent bytes row = record { from = row.from; port = row.port; bytes = bytes_at bytes row.piece }
 
 -- what the places say
-abbrev pub noted : List ℕ → List (Option Piece) → List SentRow → List Piece → NotesState
-noted bytes takes sends queue = record { taken = map (told_taken bytes) takes; sent = map (told_sent bytes) sends; waiting = map (bytes_at bytes) queue }
+abbrev pub notes_state : List ℕ → List (Option Piece) → List SentRow → List Piece → NotesState
+notes_state bytes takes sends queue = record { taken = map (told_taken bytes) takes; sent = map (told_sent bytes) sends; waiting = map (bytes_at bytes) queue }
 
 -- the place lies in n bytes
 abbrev pub Fits : ℕ → Piece → Type 0

@@ -6,14 +6,14 @@ use Rattle.cx_edge.specs.declared.sink.WriteEnd.{WriteEnd}
 use Rattle.cx_edge.specs.declared.sink.WriteEnd.TheVariants.{Took, Failed}
 
 -- the sink has taken the first bytes of a piece, of one that is not empty at least one
-pub record Takes (old new : Option (List ℕ)) (count : ℕ) (piece : List ℕ) : Type 0 where
+pub record SinkTakes (old new : Option (List ℕ)) (count : ℕ) (piece : List ℕ) : Type 0 where
   pub fits : count ≤ length piece
   pub some : 0 < length piece → 0 < count
   pub bytes : Appends old new (take count piece)
 
 -- a write takes bytes, or fails and takes none
 abbrev pub Writes : Option (List ℕ) → Option (List ℕ) → WriteEnd → List ℕ → Type 0
-Writes old new (Took count) piece = Takes old new count piece
+Writes old new (Took count) piece = SinkTakes old new count piece
 Writes old new Failed piece = Keeps old new
 
 -- the count of faults stays where the write did not fail
@@ -31,5 +31,5 @@ WritesAll old new true bytes = Appends old new bytes
 WritesAll old new false bytes = AppendsPart old new bytes
 
 -- a text was written, or the sink has failed and a part of it was
-abbrev pub Says : Option (List ℕ) → Option (List ℕ) → ℕ → ℕ → List ℕ → Type 0
-Says old new faults faults_after text = Appends old new text ⊎ (AppendsPart old new text × Rises faults faults_after)
+abbrev pub SaysText : Option (List ℕ) → Option (List ℕ) → ℕ → ℕ → List ℕ → Type 0
+SaysText old new faults faults_after text = Appends old new text ⊎ (AppendsPart old new text × Rises faults faults_after)

@@ -14,9 +14,9 @@ pub record Gets (old new : Option (List ℕ)) (count : ℕ) (buffer : List ℕ) 
   pub at_end : count ≡ 0 → 0 < length buffer → IsAtEnd new
 
 -- a read gives the next bytes, or fails and leaves them
-abbrev pub Reads : Option (List ℕ) → Option (List ℕ) → ReadEnd → List ℕ → Type 0
-Reads old new (end.Got count) buffer = Gets old new count buffer
-Reads old new end.Failed buffer = Keeps old new
+abbrev pub ReadsBytes : Option (List ℕ) → Option (List ℕ) → ReadEnd → List ℕ → Type 0
+ReadsBytes old new (end.Got count) buffer = Gets old new count buffer
+ReadsBytes old new end.Failed buffer = Keeps old new
 
 -- the count of faults stays where the read did not fail
 abbrev pub ReadKeepsCount : ReadEnd → ℕ → ℕ → Type 0

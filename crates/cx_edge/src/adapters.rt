@@ -15,15 +15,15 @@ pub struct ReaderSource<R> {
 }
 
 impl<R> Model for ReaderSource<R> {
-    ghost use Rattle.cx_edge.specs.Outside.{Counted};
+    ghost use Rattle.cx_edge.specs.Outside.{CountedAdapter};
 
-    ghost Value = { Counted R };
+    ghost Value = { CountedAdapter R };
 
     ghost view = { λ s. record { inner = s.reader; faults = s.faults } };
 }
 
 impl<R> ReaderSource<R> {
-    /// The source over this reader, with no fault counted yet. It takes no memory.
+    /// The source over this reader, with no fault counted yet.
     pub fn new(reader: R) -> Self
         ensures { result ≡ record { inner = reader; faults = 0 } }
     {
@@ -58,15 +58,15 @@ pub struct WriterSink<W> {
 }
 
 impl<W> Model for WriterSink<W> {
-    ghost use Rattle.cx_edge.specs.Outside.{Counted};
+    ghost use Rattle.cx_edge.specs.Outside.{CountedAdapter};
 
-    ghost Value = { Counted W };
+    ghost Value = { CountedAdapter W };
 
     ghost view = { λ s. record { inner = s.writer; faults = s.faults } };
 }
 
 impl<W> WriterSink<W> {
-    /// The sink over this writer, with no fault counted yet. It takes no memory.
+    /// The sink over this writer, with no fault counted yet.
     pub fn new(writer: W) -> Self
         ensures { result ≡ record { inner = writer; faults = 0 } }
     {

@@ -13,22 +13,22 @@ pub struct CountedDisk<D> {
 }
 
 impl<D> Model for CountedDisk<D> {
-    ghost use Rattle.cx_edge.specs.Outside.{Counted};
+    ghost use Rattle.cx_edge.specs.Outside.{CountedAdapter};
 
-    ghost Value = { Counted D };
+    ghost Value = { CountedAdapter D };
 
     ghost view = { λ c. record { inner = c.disk; faults = c.faults } };
 }
 
 impl<D> CountedDisk<D> {
-    /// The disk with no fault counted yet. It takes no memory.
+    /// The disk with no fault counted yet.
     pub fn new(disk: D) -> Self
         ensures { result ≡ record { inner = disk; faults = 0 } }
     {
         CountedDisk { disk, faults: 0 }
     }
 
-    /// The disk, and how often it has failed. It takes no memory.
+    /// The disk, and how often it has failed.
     pub fn into_parts(self) -> (D, u64)
         ensures { result ≡ (self.inner, self.faults) }
     {

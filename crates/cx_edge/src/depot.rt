@@ -21,7 +21,7 @@ pub trait Depot {
     ghost tells: { Self → Bool };
 
     /// What a store holds while it isn't out.
-    ghost held: { Self → Shelf → List ℕ };
+    ghost stored: { Self → Shelf → List ℕ };
 
     /// The stores that are out, in the order in which they were lent.
     ghost out: { Self → List Shelf };
@@ -33,15 +33,15 @@ pub trait Depot {
     /// already, or there is none.
     fn open(&mut self, role: RoleId, side: u8) -> Result<Self::Store, Failed>
         ensures seen { tells self.old ≡ true
-            → IfOk result (λ store. Self.Store.Disk.seen store ≡ Some (held self.old (shelf role side))) }
+            → IfOk result (λ store. Self.Store.Disk.seen store ≡ Some (stored self.old (shelf role side))) }
         ensures durable { tells self.old ≡ true
-            → IfOk result (λ store. Only (held self.old (shelf role side)) (Self.Store.Disk.may_leave store)) }
+            → IfOk result (λ store. Only (stored self.old (shelf role side)) (Self.Store.Disk.may_leave store)) }
         ensures fresh { IfOk result (λ store. Self.Store.Disk.faults store ≡ 0) }
         ensures once { OnOk result (list_any (same_shelf (shelf role side)) (out self.old) ≡ false) }
         ensures out { OnOk result (out self.new ≡ out self.old ++ shelf role side ∷ []) }
         ensures refused { OnErr result (out self.new ≡ out self.old) }
-        ensures held { (place : Shelf) → held self.new place ≡ held self.old place }
-        ensures told { tells self.new ≡ tells self.old }
+        ensures stored { (place : Shelf) → stored self.new place ≡ stored self.old place }
+        ensures tells_same { tells self.new ≡ tells self.old }
         ensures cause { OnErr result (Rises (faults self.old role) (faults self.new role)) }
         ensures still { OnOk result ((who : RoleId) → faults self.new who ≡ faults self.old who) }
         ensures others { (who : RoleId) → (who ≡ role → ⊥) → faults self.new who ≡ faults self.old who }
@@ -51,11 +51,11 @@ pub trait Depot {
     fn close(&mut self, role: RoleId, side: u8, store: Self::Store)
         requires { IsOut (shelf role side) (out self.old) }
         ensures out { out self.new ≡ without (shelf role side) (out self.old) }
-        ensures held { tells self.old ≡ true → (file : List ℕ) → Self.Store.Disk.seen store ≡ Some file
-            → held self.new (shelf role side) ≡ file }
-        ensures others_held { (place : Shelf) → (place ≡ shelf role side → ⊥)
-            → held self.new place ≡ held self.old place }
-        ensures told { tells self.new ≡ tells self.old }
+        ensures stored { tells self.old ≡ true → (file : List ℕ) → Self.Store.Disk.seen store ≡ Some file
+            → stored self.new (shelf role side) ≡ file }
+        ensures others_stored { (place : Shelf) → (place ≡ shelf role side → ⊥)
+            → stored self.new place ≡ stored self.old place }
+        ensures tells_same { tells self.new ≡ tells self.old }
         ensures cause { Rises 0 (Self.Store.Disk.faults store) → Rises (faults self.old role) (faults self.new role) }
         ensures still { Self.Store.Disk.faults store ≡ 0 → faults self.new role ≡ faults self.old role }
         ensures others { (who : RoleId) → (who ≡ role → ⊥) → faults self.new who ≡ faults self.old who }

@@ -3,7 +3,7 @@
 ghost use Rattle.std.specs.Prelude.{◌≡◌, ◌<◌, ◌++◌, [], ◌∷◌, true, false, map, IfOk};
 ghost use Rattle.std.specs.List.{list_any, position};
 ghost use Rattle.cx_edge.specs.Depot.{without};
-ghost use Rattle.cx_edge.specs.Desk.{of_role, no_faults, counted, plus};
+ghost use Rattle.cx_edge.specs.Desk.{of_role, no_faults, with_faults, plus};
 ghost use Rattle.cx_edge.specs.Shelf.{same_shelf};
 
 use crate::Shelf;
@@ -52,7 +52,7 @@ fn is_among(places: &[Shelf], place: Shelf) -> bool
 
 /// Adds to the count of a role, if it has one.
 fn count(rows: &mut Vec<CountRow>, role: RoleId, faults: u64)
-    ensures { rows.new.items ≡ counted role faults rows.old.items }
+    ensures { rows.new.items ≡ with_faults role faults rows.old.items }
 {
     match row_of(rows, role) {
         Some(at) => rows[at] = added(rows[at], faults),
@@ -121,7 +121,7 @@ impl Desk {
 
     /// Counts one fault of the role.
     pub(crate) fn fail(&mut self, role: RoleId)
-        ensures counts { self.new.counts ≡ counted role 1 self.old.counts }
+        ensures counts { self.new.counts ≡ with_faults role 1 self.old.counts }
         ensures out { self.new.out ≡ self.old.out }
     {
         count(&mut self.counts, role, 1);
@@ -129,7 +129,7 @@ impl Desk {
 
     /// Notes that the store is back, and has failed so often.
     pub(crate) fn take_back(&mut self, place: Shelf, faults: u64)
-        ensures counts { self.new.counts ≡ counted place.role faults self.old.counts }
+        ensures counts { self.new.counts ≡ with_faults place.role faults self.old.counts }
         ensures out { self.new.out ≡ without place self.old.out }
     {
         count(&mut self.counts, place.role, faults);

@@ -3,7 +3,7 @@
 ghost use Rattle.std.specs.Prelude.{◌≡◌, [], true, false, map, IfOk, string_bytes};
 ghost use Rattle.cx_base.specs.declared.role.RoleId.{RoleId};
 ghost use Rattle.cx_edge.specs.Depot.{first_faults};
-ghost use Rattle.cx_edge.specs.FileDepot.{ending, file_name, files_out, files_faults};
+ghost use Rattle.cx_edge.specs.FileDepot.{file_extension, file_name, files_out, files_faults};
 ghost use Rattle.cx_edge.specs.FileDisk.{faults_of};
 
 use crate::desk::Desk;
@@ -39,8 +39,8 @@ impl<R> Model for FileDepot<R> {
 }
 
 /// How the name of a file on this side ends.
-fn ending(side: u8) -> &'static str
-    ensures { result.now ≡ ending side }
+fn file_extension(side: u8) -> &'static str
+    ensures { result.now ≡ file_extension side }
 {
     match side {
         0 => "journal",
@@ -54,7 +54,7 @@ fn file_name(alloc: Global, place: Shelf) -> Result<String, NoMemory>
 {
     let kind = place.role.kind.text();
     let index = place.role.index;
-    let ending = ending(place.side);
+    let ending = file_extension(place.side);
     match format!(in alloc; "compax-{kind}-{index}.{ending}") {
         Ok(name) => Ok(name),
         Err(_) => Err(NoMemory),
@@ -153,7 +153,7 @@ impl<R: Files<File = File>> Depot for FileDepot<R> {
 
     ghost tells = { λ d. false };
 
-    ghost held = { λ d place. [] };
+    ghost stored = { λ d place. [] };
 
     ghost out = { files_out };
 

@@ -35,7 +35,7 @@ fn opened<R: Files<File = File>>(files: &R, name: &str) -> io::Result<(File, u64
 impl FileDisk {
     ghost use Rattle.cx_edge.specs.FileDisk.{faults_of};
 
-    /// The disk over the file of this name, which is made where it isn't there. It takes no memory. `Failed` where the file
+    /// The disk over the file of this name, which is made where it isn't there. `Failed` where the file
     /// can't be opened, is open as a disk already, here or in another process, or is of 2^63 bytes or more.
     pub fn open<R: Files<File = File>>(files: &R, name: &str) -> Result<Self, Failed>
         ensures { IfOk result (λ disk. faults_of disk ≡ 0) }
@@ -50,7 +50,7 @@ impl FileDisk {
         }
     }
 
-    /// How often its calls have failed. It takes no memory.
+    /// How often its calls have failed.
     pub fn faults(&self) -> u64
         ensures { result ≡ faults_of self.now }
     {
@@ -71,9 +71,9 @@ impl Disk for FileDisk {
 
     ghost size = { λ d. d.size };
 
-    ghost told_size = { λ d file told. cc };
+    ghost told_size = { λ d file is_seen. cc };
 
-    ghost told_is_left = { λ d file told. tt };
+    ghost told_is_left = { λ d file is_seen. tt };
 
     ghost size_fits = { λ d. d.fits };
 

@@ -5,7 +5,7 @@ ghost use Rattle.std.specs.List.{list_any};
 ghost use Rattle.std.specs.Str.Lines.{strip_carriage_return};
 ghost use Rattle.cx_base.specs.Faults.{Rises};
 ghost use Rattle.cx_edge.specs.declared.lines.Next.TheVariants as next;
-ghost use Rattle.cx_edge.specs.Lines.{Cuts, EmptiedAs, Fills, Gives, IsFirst, ReadsBehind};
+ghost use Rattle.cx_edge.specs.Lines.{Cuts, EmptiedAs, Fills, GivesNext, IsFirst, ReadsBehind};
 ghost use Rattle.cx_edge.specs.Source.{ReadKeepsCount};
 ghost use Rattle.cx_edge.specs.declared.source.ReadEnd.TheVariants as read_end;
 
@@ -32,7 +32,7 @@ pub enum Next {
     Failed,
 }
 
-// What held bytes begin with.
+// What buffered bytes begin with.
 #[derive(Clone, Copy)]
 enum First {
     // A line of this many bytes, and how many it takes with its line feed.
@@ -64,11 +64,11 @@ fn text_length(part: &[u8]) -> usize
     }
 }
 
-fn first_in(held: &[u8], max: usize) -> First
-    ensures { IsFirst max held.now result }
+fn first_in(buffered: &[u8], max: usize) -> First
+    ensures { IsFirst max buffered.now result }
 {
-    let place = feed_in(held);
-    let len = text_length(&held[..place.unwrap_or(held.len())]);
+    let place = feed_in(buffered);
+    let len = text_length(&buffered[..place.unwrap_or(buffered.len())]);
     match place {
         _ if len > max => First::Long,
         Some(place) => First::Line {
@@ -88,16 +88,16 @@ fn move_to_front(bytes: &mut [u8], start: usize, count: usize)
     bytes.copy_within(start..start + count, 0);
 }
 
-// Reads into the bytes after the first `held`.
-fn read_behind<S: Source>(source: &mut S, bytes: &mut [u8], held: usize) -> ReadEnd
-    requires { held < length bytes.old }
-    ensures bytes { ReadsBehind (S.left source.old) (S.left source.new) held bytes.old bytes.new result }
+// Reads into the bytes after the first `buffered`.
+fn read_behind<S: Source>(source: &mut S, bytes: &mut [u8], buffered: usize) -> ReadEnd
+    requires { buffered < length bytes.old }
+    ensures bytes { ReadsBehind (S.left source.old) (S.left source.new) buffered bytes.old bytes.new result }
     ensures len { length bytes.new ≡ length bytes.old }
     ensures cause { result ≡ read_end.Failed → Rises (S.faults source.old) (S.faults source.new) }
     ensures still { ReadKeepsCount result (S.faults source.old) (S.faults source.new) }
     ensures later { S.faults source.old ≤ S.faults source.new }
 {
-    source.read(&mut bytes[held..])
+    source.read(&mut bytes[buffered..])
 }
 
 /// Reads a source line by line, through a buffer of 20,480 bytes.
@@ -119,7 +119,7 @@ impl Model for Lines {
     ghost Value = { LinesState };
 
     ghost view = { λ s. record {
-      held = take (s.end - s.start) (drop s.start s.bytes.items);
+      buffered = take (s.end - s.start) (drop s.start s.bytes.items);
       text = take (s.text_end - s.text_start) (drop s.text_start s.bytes.items);
     } };
 
@@ -128,9 +128,9 @@ impl Model for Lines {
 }
 
 impl Lines {
-    /// Nothing is held yet. All memory is taken here, none by a call.
+    /// Nothing is buffered yet. All memory is taken here, none by a call.
     pub fn new(alloc: Global) -> Result<Self, NoMemory>
-        ensures { IfOk result (λ lines. lines ≡ record { held = []; text = [] }) }
+        ensures { IfOk result (λ lines. lines ≡ record { buffered = []; text = [] }) }
     {
         Ok(Lines {
             bytes: vec![in alloc; 0; ROOM]?,
@@ -148,14 +148,14 @@ impl Lines {
         &self.bytes[self.text_start..self.text_end]
     }
 
-    /// Whether the next line's line feed is held, so that `next` reads nothing for it.
+    /// Whether the next line's line feed is buffered, so that `next` reads nothing for it.
     pub fn has_line(&self) -> bool
-        ensures { result ≡ list_any (λ b. b == 10) self.now.held }
+        ensures { result ≡ list_any (λ b. b == 10) self.now.buffered }
     {
         has_feed(&self.bytes[self.start..self.end])
     }
 
-    // Cuts the first line off what is held, if it is whole.
+    // Cuts the first line off what is buffered, if it is whole.
     fn cut(&mut self, max: usize) -> First
         ensures { Cuts max self.old self.new result }
     {
@@ -168,30 +168,30 @@ impl Lines {
         first
     }
 
-    // Reads bytes after those that are held, which are moved to the start.
+    // Reads bytes after those that are buffered, which are moved to the start.
     fn fill<S: Source>(&mut self, source: &mut S) -> ReadEnd
-        requires { length self.old.held < 20480 }
-        ensures bytes { Fills (S.left source.old) (S.left source.new) self.old.held self.new.held result }
+        requires { length self.old.buffered < 20480 }
+        ensures bytes { Fills (S.left source.old) (S.left source.new) self.old.buffered self.new.buffered result }
         ensures cause { result ≡ read_end.Failed → Rises (S.faults source.old) (S.faults source.new) }
         ensures still { ReadKeepsCount result (S.faults source.old) (S.faults source.new) }
         ensures later { S.faults source.old ≤ S.faults source.new }
     {
-        let (start, held) = (self.start, self.end - self.start);
+        let (start, buffered) = (self.start, self.end - self.start);
         self.start = 0;
-        self.end = held;
+        self.end = buffered;
         self.text_start = 0;
         self.text_end = 0;
-        move_to_front(&mut self.bytes, start, held);
-        let end = read_behind(source, &mut self.bytes, held);
+        move_to_front(&mut self.bytes, start, buffered);
+        let end = read_behind(source, &mut self.bytes, buffered);
         if let ReadEnd::Got(count) = end {
             self.end += count;
         }
         end
     }
 
-    // Gives what is held as the last line, if there is one.
+    // Gives what is buffered as the last line, if there is one.
     fn empty(&mut self) -> Next
-        ensures { EmptiedAs self.old.held self.new result }
+        ensures { EmptiedAs self.old.buffered self.new result }
     {
         if self.start == self.end {
             return Next::End;
@@ -203,10 +203,10 @@ impl Lines {
     }
 
     /// Reads up to the end of the next line, of at most `max` bytes, which `text` then gives. What was read and is not given
-    /// yet is held for the next call, so that nothing is lost where a read fails. The count of faults changes exactly then.
+    /// yet is buffered for the next call, so that nothing is lost where a read fails. The count of faults changes exactly then.
     pub fn next<S: Source>(&mut self, source: &mut S, max: usize) -> Next
         requires { max ≤ 16384 }
-        ensures gives { Gives max (S.left source.old) (S.left source.new) self.old self.new result }
+        ensures gives { GivesNext max (S.left source.old) (S.left source.new) self.old self.new result }
         ensures cause { result ≡ next.Failed → Rises (S.faults source.old) (S.faults source.new) }
         ensures still { (result ≡ next.Failed → ⊥) → S.faults source.new ≡ S.faults source.old }
         ensures later { S.faults source.old ≤ S.faults source.new }

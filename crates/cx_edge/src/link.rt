@@ -22,7 +22,7 @@ pub enum TakeEnd {
 /// What carries datagrams between ports. They may be lost, repeated, and come in any order.
 pub trait Link {
     /// Its history, where it is known.
-    ghost told: { Self → Option LinkHistory };
+    ghost history: { Self → Option LinkHistory };
 
     /// How often a bind or a take has failed.
     ghost faults: { Self → ℕ };
@@ -33,21 +33,21 @@ pub trait Link {
     /// Gives the role a port of its own, from which it sends and to which others send. It fails where the role or the port is
     /// bound already.
     fn bind(&mut self, role: RoleId, port: u16) -> Result<(), Failed>
-        ensures told { Binds (told self.old) (told self.new) role port result }
-        ensures once { OnOk result (IfSome (told self.old) (IsUnbound role port)) }
+        ensures history { Binds (history self.old) (history self.new) role port result }
+        ensures once { OnOk result (IfSome (history self.old) (IsUnbound role port)) }
         ensures cause { HasCause (faults self.old) (faults self.new) result }
         ensures still { OnOk result (faults self.new ≡ faults self.old) }
         ensures losses { losses self.new ≡ losses self.old };
 
     /// Sends bytes from a role to a port. A send that fails is a loss, and counted as one.
     fn send(&mut self, from: RoleId, port: u16, bytes: &[u8]) -> Result<(), Failed>
-        ensures told { Sends (told self.old) (told self.new) from port bytes.now result }
+        ensures history { Sends (history self.old) (history self.new) from port bytes.now result }
         ensures losses { HasCause (losses self.old) (losses self.new) result }
         ensures still { faults self.new ≡ faults self.old };
 
     /// Takes one datagram that was sent to a bound port, if one is there. A datagram that is longer than the buffer is cut to it.
     fn take(&mut self, buffer: &mut [u8]) -> TakeEnd
-        ensures told { Takes (told self.old) (told self.new) buffer.new result }
+        ensures history { Takes (history self.old) (history self.new) buffer.new result }
         ensures cause { result ≡ take_end.Failed → Rises (faults self.old) (faults self.new) }
         ensures still { (result ≡ take_end.Failed → ⊥) → faults self.new ≡ faults self.old }
         ensures losses { losses self.new ≡ losses self.old };

@@ -1,10 +1,10 @@
 //! A depot in memory: its disks, and a list of the openings that fail.
 
 ghost use Rattle.std.specs.Prelude.{◌≡◌, [], true, map, IfOk, IfSome};
-ghost use Rattle.cx_disk.specs.MemDiskViews.{told_by};
+ghost use Rattle.cx_disk.specs.MemDiskViews.{mem_disk_bytes};
 ghost use Rattle.cx_base.specs.declared.role.RoleId.{RoleId};
 ghost use Rattle.cx_edge.specs.Depot.{first_faults};
-ghost use Rattle.cx_edge.specs.Held.{store_of, role_of};
+ghost use Rattle.cx_edge.specs.Held.{store_of, shelf_role};
 ghost use Rattle.cx_edge.specs.MemDepot.{depot_held, depot_out, depot_faults};
 ghost use Rattle.cx_edge.specs.Shelf.{shelf};
 
@@ -53,7 +53,7 @@ impl MemDepot {
     ) -> Result<Self, NoMemory>
         ensures stores { IfOk result (λ depot. depot.stores ≡ map store_of stores.items) }
         ensures faults { IfOk result (λ depot. (role : RoleId)
-            → depot_faults depot role ≡ first_faults role (map role_of stores.items)) }
+            → depot_faults depot role ≡ first_faults role (map shelf_role stores.items)) }
         ensures out { IfOk result (λ depot. depot.out ≡ []) }
     {
         let roles = roles_of(alloc, &stores)?;
@@ -66,9 +66,9 @@ impl MemDepot {
         })
     }
 
-    /// The store on a side of a role, while it isn't out. It takes no memory.
+    /// The store on a side of a role, while it isn't out.
     pub fn store(&self, role: RoleId, side: u8) -> Option<&MemDisk>
-        ensures { IfSome result (λ disk. told_by disk.now ≡ depot_held self.now (shelf role side)) }
+        ensures { IfSome result (λ disk. mem_disk_bytes disk.now ≡ depot_held self.now (shelf role side)) }
     {
         store_in(&self.slots, Shelf::new(role, side))
     }
@@ -79,7 +79,7 @@ impl Depot for MemDepot {
 
     ghost tells = { λ d. true };
 
-    ghost held = { depot_held };
+    ghost stored = { depot_held };
 
     ghost out = { depot_out };
 

@@ -45,12 +45,12 @@ pub struct MemLink {
 }
 
 impl Model for MemLink {
-    ghost use Rattle.cx_edge.specs.MemLink.{LinkState, told_of};
+    ghost use Rattle.cx_edge.specs.MemLink.{LinkState, mem_link_history};
 
     ghost Value = { LinkState };
 
     ghost view = { λ m. record {
-      told = told_of m.is_silent m.binds.items m.notes;
+      history = mem_link_history m.is_silent m.binds.items m.notes;
       faults = m.faults;
       losses = m.losses;
     } };
@@ -74,7 +74,7 @@ impl MemLink {
         failing: LinkFailing,
         fronts: &[Front],
     ) -> Result<Self, NoMemory>
-        ensures { IfOk result (λ link. link ≡ record { told = Some no_history; faults = 0; losses = 0 }) }
+        ensures { IfOk result (λ link. link ≡ record { history = Some no_history; faults = 0; losses = 0 }) }
     {
         Ok(MemLink {
             notes: Notes::new(alloc, room, fronts)?,
@@ -91,7 +91,7 @@ impl MemLink {
 }
 
 impl Link for MemLink {
-    ghost told = { link_told };
+    ghost history = { link_told };
 
     ghost faults = { link_faults };
 

@@ -5,7 +5,7 @@ ghost use Rattle.cx_base.specs.Faults.{Rises};
 ghost use Rattle.cx_base.specs.Grid.{is_in};
 ghost use Rattle.cx_edge.specs.Memory.{source_left, source_faults, source_read, source_after, sink_taken, sink_faults, sink_write, sink_after};
 ghost use Rattle.cx_edge.specs.Sink.{Writes, WriteKeepsCount};
-ghost use Rattle.cx_edge.specs.Source.{Reads, ReadKeepsCount};
+ghost use Rattle.cx_edge.specs.Source.{ReadsBytes, ReadKeepsCount};
 ghost use Rattle.cx_edge.specs.declared.sink.WriteEnd.TheVariants as write_end;
 ghost use Rattle.cx_edge.specs.declared.source.ReadEnd.TheVariants as read_end;
 
@@ -48,7 +48,7 @@ impl Model for MemSource {
 
 impl MemSource {
     /// The source that gives these bytes, each read as many as there is room for, and fails at the calls with these numbers,
-    /// which are counted from 0. It takes no memory.
+    /// which are counted from 0.
     pub fn new(bytes: Vec<u8>, failing: Vec<u64>) -> Self
         ensures { result ≡ record { left = bytes.items; call = 0; failing = failing.items; faults = 0 } }
     {
@@ -70,7 +70,7 @@ impl Source for MemSource {
     fn read(&mut self, buffer: &mut [u8]) -> ReadEnd
         ensures answer { result ≡ source_read self.old (length buffer.old) }
         ensures after { self.new ≡ source_after self.old (length buffer.old) }
-        ensures bytes { Reads (source_left self.old) (source_left self.new) result buffer.new }
+        ensures bytes { ReadsBytes (source_left self.old) (source_left self.new) result buffer.new }
         ensures cause { result ≡ read_end.Failed → Rises (source_faults self.old) (source_faults self.new) }
         ensures still { ReadKeepsCount result (source_faults self.old) (source_faults self.new) }
         ensures later { source_faults self.old ≤ source_faults self.new }

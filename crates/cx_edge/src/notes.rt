@@ -43,11 +43,11 @@ pub(crate) struct Notes {
 
 impl Model for Notes {
     ghost use Rattle.std.specs.Prelude.{vec_len};
-    ghost use Rattle.cx_edge.specs.Notes.{NotesState, NotesFit, noted};
+    ghost use Rattle.cx_edge.specs.Notes.{NotesState, NotesFit, notes_state};
 
     ghost Value = { NotesState };
 
-    ghost view = { λ n. noted n.bytes.items n.taken.items n.sent.items n.waiting.items };
+    ghost view = { λ n. notes_state n.bytes.items n.taken.items n.sent.items n.waiting.items };
 
     ghost invariant = { λ n. NotesFit (vec_len n.bytes) n.taken.items n.sent.items n.waiting.items n.fronts.items };
 }
@@ -96,7 +96,7 @@ impl Notes {
         })
     }
 
-    /// Notes what a role sends, and lets it wait unless it is lost. Without room nothing changes. It takes no memory.
+    /// Notes what a role sends, and lets it wait unless it is lost. Without room nothing changes.
     pub(crate) fn send(&mut self, from: RoleId, port: u16, bytes: &[u8], is_lost: bool) -> bool
         ensures sent { result ≡ true
             → self.new ≡ with_sending is_lost
@@ -119,7 +119,7 @@ impl Notes {
         true
     }
 
-    /// Puts those before all that wait that come before the take with this number. It takes no memory.
+    /// Puts those before all that wait that come before the take with this number.
     pub(crate) fn put_in_front(&mut self, call: u64)
         ensures taken { self.new.taken ≡ self.old.taken }
         ensures sent { self.new.sent ≡ self.old.sent }
@@ -127,7 +127,7 @@ impl Notes {
         put_all(&mut self.waiting, &self.fronts, call);
     }
 
-    /// Takes the first that waits. It takes no memory.
+    /// Takes the first that waits.
     pub(crate) fn take(&mut self, buffer: &mut [u8]) -> TakeEnd
         ensures { NotesTake self.old self.new buffer.new result }
     {

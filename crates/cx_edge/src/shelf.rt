@@ -14,14 +14,14 @@ pub struct Shelf {
 }
 
 impl Shelf {
-    /// The place on this side of this role. It takes no memory.
+    /// The place on this side of this role.
     pub fn new(role: RoleId, side: u8) -> Self
         ensures { result ≡ shelf role side }
     {
         Shelf { role, side }
     }
 
-    /// Whether it is the other place. It takes no memory.
+    /// Whether it is the other place.
     pub fn is(self, other: Shelf) -> bool
         ensures { result ≡ same_shelf self other }
     {

@@ -3,8 +3,8 @@
 ghost use Rattle.std.specs.Prelude.{◌≡◌, true, map, IfSome, IfOk};
 ghost use Rattle.std.specs.List.{position};
 ghost use Rattle.cx_disk.specs.Disk.{Only};
-ghost use Rattle.cx_disk.specs.MemDiskViews.{told_by, left_by};
-ghost use Rattle.cx_edge.specs.Held.{held_by, has_store, with_bytes, store_of, role_of};
+ghost use Rattle.cx_disk.specs.MemDiskViews.{mem_disk_bytes, IsCrashImage};
+ghost use Rattle.cx_edge.specs.Held.{shelf_bytes, has_store, with_bytes, store_of, shelf_role};
 ghost use Rattle.cx_edge.specs.Slot.{slot_held, is_slot_at};
 
 use crate::Shelf;
@@ -21,9 +21,9 @@ fn slot_at(slots: &[Slot], place: Shelf) -> Option<usize>
 
 /// Syncs the disk, so that a crash leaves what it holds, and copies that into room that is there.
 fn settled(disk: &mut MemDisk, before: &mut Vec<u8>) -> bool
-    ensures told { told_by disk.new ≡ told_by disk.old }
-    ensures durable { result ≡ true → Only (told_by disk.old) (left_by disk.new) }
-    ensures before { result ≡ true → before.new.items ≡ told_by disk.old }
+    ensures bytes { mem_disk_bytes disk.new ≡ mem_disk_bytes disk.old }
+    ensures durable { result ≡ true → Only (mem_disk_bytes disk.old) (IsCrashImage disk.new) }
+    ensures before { result ≡ true → before.new.items ≡ mem_disk_bytes disk.old }
 {
     if disk.sync().is_err() || disk.bytes().len() > before.capacity() {
         return false;
@@ -35,9 +35,9 @@ fn settled(disk: &mut MemDisk, before: &mut Vec<u8>) -> bool
 
 /// Hands out the store of one slot.
 fn handed_from(slot: &mut Slot) -> Option<MemDisk>
-    ensures held { slot_held slot.new ≡ slot_held slot.old }
-    ensures told { IfSome result (λ disk. told_by disk ≡ (slot_held slot.old).bytes) }
-    ensures durable { IfSome result (λ disk. Only (slot_held slot.old).bytes (left_by disk)) }
+    ensures stored { slot_held slot.new ≡ slot_held slot.old }
+    ensures bytes { IfSome result (λ disk. mem_disk_bytes disk ≡ (slot_held slot.old).bytes) }
+    ensures durable { IfSome result (λ disk. Only (slot_held slot.old).bytes (IsCrashImage disk)) }
 {
     match slot.disk.take() {
         None => None,
@@ -54,10 +54,10 @@ fn handed_from(slot: &mut Slot) -> Option<MemDisk>
 
 /// Hands out the store in a place, unless there is none, it is out, can't be synced, or holds more than the room for a copy.
 pub(crate) fn hand_out(slots: &mut Vec<Slot>, place: Shelf) -> Option<MemDisk>
-    ensures held { map slot_held slots.new.items ≡ map slot_held slots.old.items }
+    ensures stored { map slot_held slots.new.items ≡ map slot_held slots.old.items }
     ensures known { IfSome result (λ disk. has_store place (map slot_held slots.old.items) ≡ true) }
-    ensures told { IfSome result (λ disk. told_by disk ≡ held_by (map slot_held slots.old.items) place) }
-    ensures durable { IfSome result (λ disk. Only (held_by (map slot_held slots.old.items) place) (left_by disk)) }
+    ensures bytes { IfSome result (λ disk. mem_disk_bytes disk ≡ shelf_bytes (map slot_held slots.old.items) place) }
+    ensures durable { IfSome result (λ disk. Only (shelf_bytes (map slot_held slots.old.items) place) (IsCrashImage disk)) }
 {
     match slot_at(slots, place) {
         None => None,
@@ -67,7 +67,7 @@ pub(crate) fn hand_out(slots: &mut Vec<Slot>, place: Shelf) -> Option<MemDisk>
 
 /// Puts a store back in its place, if there is one.
 pub(crate) fn put_back(slots: &mut Vec<Slot>, place: Shelf, disk: MemDisk)
-    ensures { map slot_held slots.new.items ≡ with_bytes place (told_by disk) (map slot_held slots.old.items) }
+    ensures { map slot_held slots.new.items ≡ with_bytes place (mem_disk_bytes disk) (map slot_held slots.old.items) }
 {
     match slot_at(slots, place) {
         None => {}
@@ -77,7 +77,7 @@ pub(crate) fn put_back(slots: &mut Vec<Slot>, place: Shelf, disk: MemDisk)
 
 /// The store of one slot.
 fn shown(slot: &Slot) -> Option<&MemDisk>
-    ensures { IfSome result (λ disk. told_by disk.now ≡ (slot_held slot.now).bytes) }
+    ensures { IfSome result (λ disk. mem_disk_bytes disk.now ≡ (slot_held slot.now).bytes) }
 {
     match &slot.disk {
         None => None,
@@ -87,7 +87,7 @@ fn shown(slot: &Slot) -> Option<&MemDisk>
 
 /// The store in a place, while it isn't out.
 pub(crate) fn store_in(slots: &[Slot], place: Shelf) -> Option<&MemDisk>
-    ensures { IfSome result (λ disk. told_by disk.now ≡ held_by (map slot_held slots.now) place) }
+    ensures { IfSome result (λ disk. mem_disk_bytes disk.now ≡ shelf_bytes (map slot_held slots.now) place) }
 {
     match slot_at(slots, place) {
         None => None,
@@ -97,7 +97,7 @@ pub(crate) fn store_in(slots: &[Slot], place: Shelf) -> Option<&MemDisk>
 
 /// The roles of the stores, one for each store.
 pub(crate) fn roles_of(alloc: Global, stores: &[(Shelf, MemDisk)]) -> Result<Vec<RoleId>, NoMemory>
-    ensures { IfOk result (λ roles. roles.items ≡ map role_of stores.now) }
+    ensures { IfOk result (λ roles. roles.items ≡ map shelf_role stores.now) }
 {
     let mut roles = Vec::with_capacity(alloc, stores.len())?;
     for store in stores {

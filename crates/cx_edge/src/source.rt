@@ -3,7 +3,7 @@
 ghost use Rattle.std.specs.Prelude.{◌≡◌, ◌≤◌, ℕ, Option, List};
 ghost use Rattle.cx_base.specs.Faults.{Rises};
 ghost use Rattle.cx_edge.specs.declared.source.ReadEnd.TheVariants.{Failed};
-ghost use Rattle.cx_edge.specs.Source.{Reads, ReadKeepsCount, ReadsAll, ReadAllTellsFault, ReadAllKeepsCount};
+ghost use Rattle.cx_edge.specs.Source.{ReadsBytes, ReadKeepsCount, ReadsAll, ReadAllTellsFault, ReadAllKeepsCount};
 
 use std::alloc::{AllocError, Global};
 
@@ -27,7 +27,7 @@ pub trait Source {
     /// Reads the next bytes into the start of the buffer; no bytes, for a buffer that isn't empty, are the end. Where it
     /// fails nothing is lost, and the count of faults rises (or is at its end); else the count stays.
     fn read(&mut self, buffer: &mut [u8]) -> ReadEnd
-        ensures bytes { Reads (left self.old) (left self.new) result buffer.new }
+        ensures bytes { ReadsBytes (left self.old) (left self.new) result buffer.new }
         ensures cause { result ≡ Failed → Rises (faults self.old) (faults self.new) }
         ensures still { ReadKeepsCount result (faults self.old) (faults self.new) }
         ensures later { faults self.old ≤ faults self.new };

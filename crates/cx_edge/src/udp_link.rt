@@ -188,7 +188,7 @@ impl<N> UdpLink<N> {
 }
 
 impl<N: Net + Clock> Link for UdpLink<N> {
-    ghost told = { λ l. None };
+    ghost history = { λ l. None };
 
     ghost faults = { λ l. l.faults };
 

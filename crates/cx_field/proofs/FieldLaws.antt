@@ -15,7 +15,7 @@ use Rattle.cx_base.specs.declared.command.Value.{Value}
 use Rattle.cx_base.specs.declared.command.Value.TheVariants.{Noop, Batch}
 use Rattle.cx_base.specs.declared.command.Reply.{Reply}
 use Rattle.cx_base.specs.declared.command.Reply.TheVariants.{Okay, Was, Absent, Len, Full}
-use Rattle.cx_wire.specs.Format.{bad, ◌>>=◌, u8, u16, u32, u64, only, whole, then_by, ◌▷◌, nothing, each_read, times}
+use Rattle.cx_wire.specs.Format.{bad, ◌>>=◌, u8, u16, u32, u64, only, whole, then_by, ◌▷◌, no_bytes, each_read, times}
 use Rattle.cx_wire.proofs.Laws.{IsExact, bind_ok, guard_ok, ok_is, u8-exact, u16-exact, u32-exact, u64-exact, only-exact, whole-exact, then_by-exact, ▷-exact, nothing-exact, shaped-exact, times-exact, counted-exact, case-sound, case-again, AllSound, tagged-exact, ReadsAgain, both}
 use Rattle.cx_field.specs.declared.parts.Entry.{Entry}
 use Rattle.cx_field.specs.declared.parts.NackReason.{NackReason}
@@ -212,7 +212,7 @@ value-again floors (Batch list) left rest fits = case-again {A = Value} 1 (comma
 pub value_with-exact : (floors : Bool) → IsExact (value_with floors)
 unfolding value_with
 value_with-exact floors = tagged-exact (value_shape floors) (value_cases floors) (
-  case-sound (value_shape floors) 0 nothing (λ _. Noop) nothing-exact (λ _. refl),
+  case-sound (value_shape floors) 0 no_bytes (λ _. Noop) nothing-exact (λ _. refl),
   (case-sound (value_shape floors) 1 (commands_with floors) (λ x. Batch x) (commands_with-exact floors) (λ _. refl), tt),
 ) (value-small floors) (value-again floors)
 
@@ -241,14 +241,14 @@ reply-again Full left rest fits = refl
 pub reply-exact : IsExact reply
 unfolding reply
 reply-exact = tagged-exact reply_shape reply_cases (
-  case-sound reply_shape 0 nothing (λ _. Okay) nothing-exact (λ _. refl),
+  case-sound reply_shape 0 no_bytes (λ _. Okay) nothing-exact (λ _. refl),
   (
     case-sound reply_shape 1 (name 64) (λ x. Was x) (name-exact 64) (λ _. refl),
     (
-      case-sound reply_shape 2 nothing (λ _. Absent) nothing-exact (λ _. refl),
+      case-sound reply_shape 2 no_bytes (λ _. Absent) nothing-exact (λ _. refl),
       (
         case-sound reply_shape 3 reply_len (λ x. Len x) reply_len-exact (λ _. refl),
-        (case-sound reply_shape 4 nothing (λ _. Full) nothing-exact (λ _. refl), tt),
+        (case-sound reply_shape 4 no_bytes (λ _. Full) nothing-exact (λ _. refl), tt),
       ),
     ),
   ),
@@ -339,7 +339,7 @@ found-again (Some text) left rest fits = case-again {A = Option (List ℕ)} 1 (n
 pub found-exact : IsExact found
 unfolding found
 found-exact = tagged-exact found_shape found_cases (
-  case-sound found_shape 0 nothing (λ _. None) nothing-exact (λ _. refl),
+  case-sound found_shape 0 no_bytes (λ _. None) nothing-exact (λ _. refl),
   (case-sound found_shape 1 (name 64) (λ x. Some x) (name-exact 64) (λ _. refl), tt),
 ) found-small found-again
 
@@ -356,10 +356,10 @@ reason-again nack.Full left rest fits = refl
 pub reason-exact : IsExact reason
 unfolding reason
 reason-exact = tagged-exact reason_shape reason_cases (
-  case-sound reason_shape 0 nothing (λ _. nack.Collected) nothing-exact (λ _. refl),
+  case-sound reason_shape 0 no_bytes (λ _. nack.Collected) nothing-exact (λ _. refl),
   (
-    case-sound reason_shape 1 nothing (λ _. nack.Later) nothing-exact (λ _. refl),
-    (case-sound reason_shape 2 nothing (λ _. nack.Full) nothing-exact (λ _. refl), tt),
+    case-sound reason_shape 1 no_bytes (λ _. nack.Later) nothing-exact (λ _. refl),
+    (case-sound reason_shape 2 no_bytes (λ _. nack.Full) nothing-exact (λ _. refl), tt),
   ),
 ) reason-small reason-again
 

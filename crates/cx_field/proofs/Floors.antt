@@ -8,7 +8,7 @@ use Rattle.cx_base.specs.declared.command.Op.{Op}
 use Rattle.cx_base.specs.declared.command.Op.TheVariants.{Put, Del, App}
 use Rattle.cx_base.specs.declared.command.Value.{Value}
 use Rattle.cx_base.specs.declared.command.Value.TheVariants.{Noop, Batch}
-use Rattle.cx_wire.specs.Format.{Format, u8, u16, only, then_by, ◌▷◌, nothing}
+use Rattle.cx_wire.specs.Format.{Format, u8, u16, only, then_by, ◌▷◌, no_bytes}
 use Rattle.cx_wire.proofs.Parts.{IsPart, IsShapePart, same-part, then_by-part, ▷-part, counted-part, tagged-part, shape-part}
 use Rattle.cx_field.specs.declared.parts.Vote.{Vote}
 use Rattle.cx_field.specs.Fields.{seq, slot, round, name, floor_below, told_shape, told_cases, told_op, told_floor, command_parts, command_with, command, tells_floor, commands_with, value_shape, value_cases, value_with, value, value_tells, in_window, last_passes, vote_with, votes_with}
@@ -56,7 +56,7 @@ unfolding commands_with
 commands-part = counted-part (only (λ n. nat_le 1 n && nat_le n 8) u8) (λ _. command_with false) (λ _. command_with true) tells_floor (λ _. command-part)
 
 value_shape-part : (v : Value) → IsShapePart (value_tells v) (value_shape false v) (value_shape true v)
-value_shape-part Noop = told_none 0 nothing tt
+value_shape-part Noop = told_none 0 no_bytes tt
 value_shape-part (Batch list) = shape-part 1 (commands_with false) (commands_with true) (list_any tells_floor) commands-part list
 
 pub value-part : IsPart value_tells (value_with false) (value_with true)

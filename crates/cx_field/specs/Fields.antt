@@ -24,7 +24,7 @@ use Rattle.cx_field.specs.declared.parts.NackReason.TheVariants as nack
 use Rattle.cx_field.specs.declared.parts.Vote.{Vote}
 use Rattle.cx_field.specs.declared.parts.Token.{Token}
 use Rattle.cx_field.specs.declared.parts.Asking.{Asking}
-use Rattle.cx_wire.specs.Format.{Format, u8, u16, u32, u64, only, whole, then_by, ◌▷◌, nothing, shaped, times, counted, Shape, shape, Case, case, tagged}
+use Rattle.cx_wire.specs.Format.{Format, u8, u16, u32, u64, only, whole, then_by, ◌▷◌, no_bytes, shaped, times, counted, TaggedBytes, shape, Case, case, tagged}
 
 -- a slot, below 2^40
 unfoldable pub slot : Format ℕ
@@ -84,7 +84,7 @@ allowed false f = record { fits = λ _. false; spell = f.spell; read = f.read }
 
 -- an operation, with the floor that is told before its key, if one is: 1 put, 2 del, 3 app, with a floor 4 put, 5 del, 6 app. A floor may
 -- be told only where that is allowed.
-abbrev pub told_shape : Bool → ℕ → Option ℕ × Op → Shape
+abbrev pub told_shape : Bool → ℕ → Option ℕ × Op → TaggedBytes
 told_shape floors number (None, Put key text) = shape 1 (name 32 ▷ name 64) (key, text)
 told_shape floors number (None, Del key) = shape 2 (name 32) key
 told_shape floors number (None, App key text) = shape 3 (name 32 ▷ name 64) (key, text)
@@ -146,13 +146,13 @@ unfoldable pub commands : Format (List Command)
 commands = commands_with true
 
 -- a value: 0 nothing to do, 1 commands
-abbrev pub value_shape : Bool → Value → Shape
-value_shape floors Noop = shape 0 nothing tt
+abbrev pub value_shape : Bool → Value → TaggedBytes
+value_shape floors Noop = shape 0 no_bytes tt
 value_shape floors (Batch list) = shape 1 (commands_with floors) list
 
 -- how each value is read
 abbrev pub value_cases : Bool → List (Case Value)
-value_cases floors = case 0 nothing (λ _. Noop) ∷ case 1 (commands_with floors) (λ x. Batch x) ∷ []
+value_cases floors = case 0 no_bytes (λ _. Noop) ∷ case 1 (commands_with floors) (λ x. Batch x) ∷ []
 
 -- a value
 unfoldable pub value_with : Bool → Format Value
@@ -170,21 +170,21 @@ unfoldable pub reply_len : Format ℕ
 reply_len = only (λ n. nat_le 1 n && nat_le n 64) u8
 
 -- a reply: 0 okay, 1 the text that was, 2 there was none, 3 a length, 4 no room
-abbrev pub reply_shape : Reply → Shape
-reply_shape Okay = shape 0 nothing tt
+abbrev pub reply_shape : Reply → TaggedBytes
+reply_shape Okay = shape 0 no_bytes tt
 reply_shape (Was text) = shape 1 (name 64) text
-reply_shape Absent = shape 2 nothing tt
+reply_shape Absent = shape 2 no_bytes tt
 reply_shape (Len n) = shape 3 reply_len n
-reply_shape Full = shape 4 nothing tt
+reply_shape Full = shape 4 no_bytes tt
 
 -- how each reply is read
 abbrev pub reply_cases : List (Case Reply)
 reply_cases =
-    case 0 nothing (λ _. Okay) ∷
+    case 0 no_bytes (λ _. Okay) ∷
     case 1 (name 64) (λ x. Was x) ∷
-    case 2 nothing (λ _. Absent) ∷
+    case 2 no_bytes (λ _. Absent) ∷
     case 3 reply_len (λ x. Len x) ∷
-    case 4 nothing (λ _. Full) ∷ []
+    case 4 no_bytes (λ _. Full) ∷ []
 
 -- a reply
 unfoldable pub reply : Format Reply
@@ -267,27 +267,27 @@ unfoldable pub notes : Format (List Note)
 notes = counted (only (λ n. nat_le 1 n && nat_le n 64) u8) (λ _. note)
 
 -- what a read found: 0 nothing, 1 a text
-abbrev pub found_shape : Option (List ℕ) → Shape
-found_shape None = shape 0 nothing tt
+abbrev pub found_shape : Option (List ℕ) → TaggedBytes
+found_shape None = shape 0 no_bytes tt
 found_shape (Some text) = shape 1 (name 64) text
 
 -- how each is read
 abbrev pub found_cases : List (Case (Option (List ℕ)))
-found_cases = case 0 nothing (λ _. None) ∷ case 1 (name 64) (λ x. Some x) ∷ []
+found_cases = case 0 no_bytes (λ _. None) ∷ case 1 (name 64) (λ x. Some x) ∷ []
 
 -- what a read found
 unfoldable pub found : Format (Option (List ℕ))
 found = tagged found_shape found_cases
 
 -- why a matchmaker refuses a round: 0 it is collected, 1 a later one is recorded, 2 there is no room
-abbrev pub reason_shape : NackReason → Shape
-reason_shape nack.Collected = shape 0 nothing tt
-reason_shape nack.Later = shape 1 nothing tt
-reason_shape nack.Full = shape 2 nothing tt
+abbrev pub reason_shape : NackReason → TaggedBytes
+reason_shape nack.Collected = shape 0 no_bytes tt
+reason_shape nack.Later = shape 1 no_bytes tt
+reason_shape nack.Full = shape 2 no_bytes tt
 
 -- how each reason is read
 abbrev pub reason_cases : List (Case NackReason)
-reason_cases = case 0 nothing (λ _. nack.Collected) ∷ case 1 nothing (λ _. nack.Later) ∷ case 2 nothing (λ _. nack.Full) ∷ []
+reason_cases = case 0 no_bytes (λ _. nack.Collected) ∷ case 1 no_bytes (λ _. nack.Later) ∷ case 2 no_bytes (λ _. nack.Full) ∷ []
 
 -- why a matchmaker refuses a round
 unfoldable pub reason : Format NackReason

@@ -1,6 +1,6 @@
 -- What a reader of the code answers, against what a format reads.
 use Rattle.std.specs.Prelude.{◌≡◌, ℕ, List, Result, Ok, Err}
-use Rattle.cx_wire.specs.Format.{Format, Miss, bad, cut}
+use Rattle.cx_wire.specs.Format.{Format, Miss, bad, short_field}
 use Rattle.cx_field.specs.declared.fault.ReadFault.{ReadFault}
 use Rattle.cx_field.specs.declared.fault.ReadFault.TheVariants as faults
 
@@ -8,7 +8,7 @@ use Rattle.cx_field.specs.declared.fault.ReadFault.TheVariants as faults
 abbrev pub Fails : {Y : Type 0} → ReadFault → Result Y Miss → Type 0
 Fails faults.NoMemory read = Unit {0}
 Fails (faults.Bad left) read = read ≡ Err (bad left)
-Fails (faults.Cut left need) read = read ≡ Err (cut left need)
+Fails (faults.Cut left need) read = read ≡ Err (short_field left need)
 
 -- What was answered, seen by view, is what reading gives, and the bytes after it are left; unless memory ran out.
 abbrev pub Gives : {X Y : Type 0} → (X → Y) → Result X ReadFault → Result (Y × List ℕ) Miss → List ℕ → Type 0

@@ -17,7 +17,7 @@ pub enum ReadFault {
     /// The first bad field takes `need` bytes, and fewer are left from it on.
     #[error("{left} bytes for a field of {need}")]
     Cut { left: usize, need: usize },
-    #[error("out of memory")]
+    #[error("no memory")]
     NoMemory,
 }
 

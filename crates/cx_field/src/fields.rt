@@ -2,32 +2,25 @@
 //! how many bytes are left from the first bad field on: `Bad` where a value is out of its range, `Cut` where a number or a round
 //! takes more bytes than there are. The formats are this project's own.
 
-ghost use Rattle.std.specs.Prelude.{◌≡◌, [], ◌∷◌, ◌≤◌, ◌<◌, length, IfOk, IsTrue};
-ghost use Rattle.std.specs.List.{list_all};
-ghost use Rattle.cx_base.specs.Name.{is_name_byte, IsName};
-ghost use Rattle.cx_base.specs.Grid.{IsGrid};
-ghost use Rattle.cx_wire.specs.Format as wire;
+ghost use Rattle.std.specs.Prelude.{◌≡◌, [], ◌∷◌, ◌≤◌, ◌<◌, IfOk};
 ghost use Rattle.cx_wire.specs.Format.{◌▷◌};
 ghost use Rattle.cx_field.specs.Fields as field;
-ghost use Rattle.cx_field.specs.Reading.{Reads, Gives};
+ghost use Rattle.cx_field.specs.Reading.{Reads};
 
+use crate::command_fields::name_from;
 use crate::fault::ReadFault;
 use crate::items::{items_from, list_from};
 use crate::lists::{
-    AnsweredItems, CommandItems, EntryItems, MemberItems, NoteItems, PairItems, SetItems,
-    ValueItems, VoteItems,
+    AnsweredItems, EntryItems, MemberItems, NoteItems, PairItems, SetItems, ValueItems, VoteItems,
 };
 use crate::parts::{Answers, Asking, Entries, LogValues, NackReason, Notes, Pairs, Token, Votes};
-use crate::reader::Reader;
-use cx_base::{
-    Command, Commands, Few, Grid, Key, MEMBERS, Name, OUTSTANDING, Op, Reply, Round, SET_LENGTH,
-    SLOTS, Set, Text, Value, is_name_byte,
-};
+use crate::reader::ByteReader;
+use cx_base::{Few, Grid, MEMBERS, Round, SET_LENGTH, SLOTS, Set, Text};
 use std::alloc::Global;
 
 /// A slot, below 2^40, in eight bytes.
 #[tactic(auto, unfolding(crate::specs::Fields::slot))]
-pub fn slot_from(reader: &mut Reader<'_>) -> Result<u64, ReadFault>
+pub fn slot_from(reader: &mut ByteReader<'_>) -> Result<u64, ReadFault>
     ensures { Reads field.slot reader.old result reader.new }
 {
     let left = reader.left();
@@ -40,7 +33,7 @@ pub fn slot_from(reader: &mut Reader<'_>) -> Result<u64, ReadFault>
 
 /// A watermark, a number of slots, at most 2^40, in eight bytes.
 #[tactic(auto, unfolding(crate::specs::Fields::mark))]
-pub fn mark_from(reader: &mut Reader<'_>) -> Result<u64, ReadFault>
+pub fn mark_from(reader: &mut ByteReader<'_>) -> Result<u64, ReadFault>
     ensures { Reads field.mark reader.old result reader.new }
 {
     let left = reader.left();
@@ -53,7 +46,7 @@ pub fn mark_from(reader: &mut Reader<'_>) -> Result<u64, ReadFault>
 
 /// One more than a slot: 1 to 2^40, in eight bytes.
 #[tactic(auto, unfolding(crate::specs::Fields::at))]
-pub fn at_from(reader: &mut Reader<'_>) -> Result<u64, ReadFault>
+pub fn at_from(reader: &mut ByteReader<'_>) -> Result<u64, ReadFault>
     ensures { Reads field.at reader.old result reader.new }
 {
     let left = reader.left();
@@ -66,7 +59,7 @@ pub fn at_from(reader: &mut Reader<'_>) -> Result<u64, ReadFault>
 
 /// A client's number of a request, or a reader's turn: 1 or more, in eight bytes.
 #[tactic(auto, unfolding(crate::specs::Fields::seq))]
-pub fn seq_from(reader: &mut Reader<'_>) -> Result<u64, ReadFault>
+pub fn seq_from(reader: &mut ByteReader<'_>) -> Result<u64, ReadFault>
     ensures read { Reads field.seq reader.old result reader.new }
     ensures some { IfOk result (λ n. 1 ≤ n) }
 {
@@ -78,7 +71,7 @@ pub fn seq_from(reader: &mut Reader<'_>) -> Result<u64, ReadFault>
     Ok(seq)
 }
 
-fn round_fields_from(reader: &mut Reader<'_>) -> Result<Round, ReadFault>
+fn round_fields_from(reader: &mut ByteReader<'_>) -> Result<Round, ReadFault>
     ensures { Reads field.round_fields reader.old result reader.new }
 {
     let r = reader.u32()?;
@@ -89,7 +82,7 @@ fn round_fields_from(reader: &mut Reader<'_>) -> Result<Round, ReadFault>
 
 /// A round, whose first number is 1 or more, in ten bytes; a fault is at its first byte.
 #[tactic(auto, unfolding(crate::specs::Fields::round))]
-pub fn round_from(reader: &mut Reader<'_>) -> Result<Round, ReadFault>
+pub fn round_from(reader: &mut ByteReader<'_>) -> Result<Round, ReadFault>
     ensures { Reads field.round reader.old result reader.new }
 {
     let left = reader.left();
@@ -103,7 +96,7 @@ pub fn round_from(reader: &mut Reader<'_>) -> Result<Round, ReadFault>
 
 /// A round, or none, which is ten zeros; a fault is at its first byte.
 #[tactic(auto, unfolding(crate::specs::Fields::round0))]
-pub fn round0_from(reader: &mut Reader<'_>) -> Result<Round, ReadFault>
+pub fn round0_from(reader: &mut ByteReader<'_>) -> Result<Round, ReadFault>
     ensures { Reads field.round0 reader.old result reader.new }
 {
     let left = reader.left();
@@ -113,34 +106,6 @@ pub fn round0_from(reader: &mut Reader<'_>) -> Result<Round, ReadFault>
         Err(ReadFault::NoMemory) => Err(ReadFault::NoMemory),
         Err(_) => Err(ReadFault::Cut { left, need: 10 }),
     }
-}
-
-#[tactic(auto, unfolding(crate::specs::Fields::name_byte))]
-fn name_byte_from(reader: &mut Reader<'_>) -> Result<u8, ReadFault>
-    ensures read { Reads field.name_byte reader.old result reader.new }
-    ensures front { IfOk result (λ x. reader.old ≡ x ∷ reader.new) }
-    ensures name { IfOk result (λ x. IsTrue (is_name_byte x)) }
-{
-    let left = reader.left();
-    let byte = reader.u8()?;
-    if !is_name_byte(byte) {
-        return Err(ReadFault::Bad { left });
-    }
-    Ok(byte)
-}
-
-// A floor that is told with a client's number.
-#[tactic(auto, unfolding(crate::specs::Fields::floor_below))]
-fn floor_below_from(number: u64, reader: &mut Reader<'_>) -> Result<u64, ReadFault>
-    ensures { Reads (field.floor_below number) reader.old result reader.new }
-{
-    let left = reader.left();
-    let floor = reader.u64()?;
-    let below = number.saturating_sub(floor);
-    if below < 2 || below > OUTSTANDING {
-        return Err(ReadFault::Bad { left });
-    }
-    Ok(floor)
 }
 
 // Whether a set of this many goes with the round in which it was accepted.
@@ -154,172 +119,10 @@ fn goes_with(accepted: &Round, count: usize) -> bool
     }
 }
 
-fn key_text_from(reader: &mut Reader<'_>) -> Result<(Key, Text), ReadFault>
-    ensures { Reads (field.name 32 ▷ field.name 64) reader.old result reader.new }
-{
-    let key = name_from(reader)?;
-    let text = name_from(reader)?;
-    Ok((key, text))
-}
-
-// An operation of the command with this number, and the floor that is told before its key, if one is.
-#[tactic(auto, unfolding(crate::specs::Fields::told_op))]
-fn told_op_from(
-    floors: bool,
-    number: u64,
-    reader: &mut Reader<'_>,
-) -> Result<(Option<u64>, Op), ReadFault>
-    ensures { Reads (field.told_op floors number) reader.old result reader.new }
-{
-    let left = reader.left();
-    match reader.u8()? {
-        1 => {
-            let (key, text) = key_text_from(reader)?;
-            Ok((None, Op::Put(key, text)))
-        }
-        2 => Ok((None, Op::Del(name_from(reader)?))),
-        3 => {
-            let (key, text) = key_text_from(reader)?;
-            Ok((None, Op::App(key, text)))
-        }
-        4 if floors => {
-            let floor = floor_below_from(number, reader)?;
-            let (key, text) = key_text_from(reader)?;
-            Ok((Some(floor), Op::Put(key, text)))
-        }
-        5 if floors => {
-            let floor = floor_below_from(number, reader)?;
-            Ok((Some(floor), Op::Del(name_from(reader)?)))
-        }
-        6 if floors => {
-            let floor = floor_below_from(number, reader)?;
-            let (key, text) = key_text_from(reader)?;
-            Ok((Some(floor), Op::App(key, text)))
-        }
-        _ => Err(ReadFault::Bad { left }),
-    }
-}
-
-/// A key or a text: its length in a byte, 1 to `N`, and its bytes, each one of a name.
-#[tactic(auto, unfolding(crate::specs::Fields::name))]
-pub fn name_from<const N: usize>(reader: &mut Reader<'_>) -> Result<Name<N>, ReadFault>
-    ensures { Reads (field.name N) reader.old result reader.new }
-{
-    let left = reader.left();
-    let len = reader.u8()? as usize;
-    if len < 1 || len > N {
-        return Err(ReadFault::Bad { left });
-    }
-    let name = name_bytes_from(len, reader)?;
-    Ok(Name::new(name))
-}
-
-// Whether all bytes are a name's. Each is looked at, whatever the others are, so that many are tested at once.
-fn are_name_bytes(bytes: &[u8]) -> bool
-    ensures { result ≡ list_all is_name_byte bytes.now }
-{
-    let mut all = true;
-    for byte in bytes {
-        all &= is_name_byte(*byte);
-    }
-    all
-}
-
-// The bytes of a name. Where they are refused, the letters one by one tell where the fault lies.
-fn name_bytes_from<'a>(count: usize, reader: &mut Reader<'a>) -> Result<&'a [u8], ReadFault>
-    ensures read { Gives (λ x. x.now) result (wire.each_read (λ _. field.name_byte) [] count reader.old) reader.new }
-    ensures len { IfOk result (λ x. length x.now ≡ count) }
-    ensures names { IfOk result (λ x. IsTrue (list_all is_name_byte x.now)) }
-{
-    let bytes = reader.bytes();
-    if bytes.len() >= count && are_name_bytes(&bytes[..count]) {
-        reader.skip(count);
-        return Ok(&bytes[..count]);
-    }
-    for _ in 0..count {
-        name_byte_from(reader)?;
-    }
-    Ok(&bytes[..count])
-}
-
-/// A command: its client in two bytes, its number, a byte for its operation (1 put, 2 del, 3 app, with a floor 4 put,
-/// 5 del, 6 app), the floor in eight bytes where one is told, and the key and text. A floor that isn't told is the number
-/// just below the command's. One that is told is below that, and at most 64 below the command's; a floor may be told only
-/// where `floors` says so, else the operations 4 to 6 are out of range.
-#[tactic(auto, unfolding(crate::specs::Fields::command_with))]
-pub fn command_from(floors: bool, reader: &mut Reader<'_>) -> Result<Command, ReadFault>
-    ensures { Reads (field.command_with floors) reader.old result reader.new }
-{
-    let client = reader.u16()?;
-    let seq = seq_from(reader)?;
-    let (told, op) = told_op_from(floors, seq, reader)?;
-    let floor = told.unwrap_or(seq - 1);
-    Ok(Command {
-        client,
-        seq,
-        floor,
-        op,
-    })
-}
-
-/// Commands: how many in a byte, 1 to 8, and each, which may tell its floor where `floors` says so.
-#[tactic(auto, unfolding(crate::specs::Fields::commands_with))]
-pub fn commands_from(
-    alloc: Global,
-    floors: bool,
-    reader: &mut Reader<'_>,
-) -> Result<Commands, ReadFault>
-    ensures { Reads (field.commands_with floors) reader.old result reader.new }
-{
-    let list = list_from(alloc, &CommandItems { floors }, 1, 8, reader)?;
-    Ok(Few::from_vec(list))
-}
-
-/// A value: a byte, 0 for none to do or 1 before commands, which may tell their floors where `floors` says so.
-#[tactic(auto, unfolding(crate::specs::Fields::value_with))]
-pub fn value_from(alloc: Global, floors: bool, reader: &mut Reader<'_>) -> Result<Value, ReadFault>
-    ensures { Reads (field.value_with floors) reader.old result reader.new }
-{
-    let left = reader.left();
-    match reader.u8()? {
-        0 => Ok(Value::Noop),
-        1 => Ok(Value::Batch(commands_from(alloc, floors, reader)?)),
-        _ => Err(ReadFault::Bad { left }),
-    }
-}
-
-#[tactic(auto, unfolding(crate::specs::Fields::reply_len))]
-fn reply_len_from(reader: &mut Reader<'_>) -> Result<u8, ReadFault>
-    ensures { Reads field.reply_len reader.old result reader.new }
-{
-    let left = reader.left();
-    let len = reader.u8()?;
-    if len < 1 || len > 64 {
-        return Err(ReadFault::Bad { left });
-    }
-    Ok(len)
-}
-
-/// A reply: a byte, 0 okay, 1 before the text that was, 2 there was none, 3 before a length of 1 to 64, 4 no room.
-#[tactic(auto, unfolding(crate::specs::Fields::reply))]
-pub fn reply_from(reader: &mut Reader<'_>) -> Result<Reply, ReadFault>
-    ensures { Reads field.reply reader.old result reader.new }
-{
-    let left = reader.left();
-    match reader.u8()? {
-        0 => Ok(Reply::Okay),
-        1 => Ok(Reply::Was(name_from(reader)?)),
-        2 => Ok(Reply::Absent),
-        3 => Ok(Reply::Len(reply_len_from(reader)?)),
-        4 => Ok(Reply::Full),
-        _ => Err(ReadFault::Bad { left }),
-    }
-}
-
 /// A grid: its rows and columns in a byte each, 1 or more and at most 16 members, and its members row by row, none
 /// twice.
 #[tactic(auto, unfolding(crate::specs::Fields::grid))]
-pub fn grid_from(alloc: Global, reader: &mut Reader<'_>) -> Result<Grid, ReadFault>
+pub fn grid_from(alloc: Global, reader: &mut ByteReader<'_>) -> Result<Grid, ReadFault>
     ensures { Reads field.grid reader.old result reader.new }
 {
     let left = reader.left();
@@ -339,7 +142,7 @@ pub fn grid_from(alloc: Global, reader: &mut Reader<'_>) -> Result<Grid, ReadFau
 
 /// A client's read: the client in two bytes, and its number.
 #[tactic(auto, unfolding(crate::specs::Fields::token))]
-pub fn token_from(reader: &mut Reader<'_>) -> Result<Token, ReadFault>
+pub fn token_from(reader: &mut ByteReader<'_>) -> Result<Token, ReadFault>
     ensures { Reads field.token reader.old result reader.new }
 {
     let client = reader.u16()?;
@@ -349,7 +152,7 @@ pub fn token_from(reader: &mut Reader<'_>) -> Result<Token, ReadFault>
 
 /// An asking of a reader: the reader in two bytes, and its turn.
 #[tactic(auto, unfolding(crate::specs::Fields::asking))]
-pub fn asking_from(reader: &mut Reader<'_>) -> Result<Asking, ReadFault>
+pub fn asking_from(reader: &mut ByteReader<'_>) -> Result<Asking, ReadFault>
     ensures { Reads field.asking reader.old result reader.new }
 {
     let who = reader.u16()?;
@@ -359,7 +162,7 @@ pub fn asking_from(reader: &mut Reader<'_>) -> Result<Asking, ReadFault>
 
 /// Why a matchmaker refuses a round: a byte, 0 it is collected, 1 a later one is recorded, 2 there is no room.
 #[tactic(auto, unfolding(crate::specs::Fields::reason))]
-pub fn reason_from(reader: &mut Reader<'_>) -> Result<NackReason, ReadFault>
+pub fn reason_from(reader: &mut ByteReader<'_>) -> Result<NackReason, ReadFault>
     ensures { Reads field.reason reader.old result reader.new }
 {
     let left = reader.left();
@@ -373,7 +176,7 @@ pub fn reason_from(reader: &mut Reader<'_>) -> Result<NackReason, ReadFault>
 
 /// What a read found: a byte, 0 for nothing or 1 before a text.
 #[tactic(auto, unfolding(crate::specs::Fields::found))]
-pub fn found_from(reader: &mut Reader<'_>) -> Result<Option<Text>, ReadFault>
+pub fn found_from(reader: &mut ByteReader<'_>) -> Result<Option<Text>, ReadFault>
     ensures { Reads field.found reader.old result reader.new }
 {
     let left = reader.left();
@@ -386,7 +189,7 @@ pub fn found_from(reader: &mut Reader<'_>) -> Result<Option<Text>, ReadFault>
 
 /// Entries of a matchmaker: how many in a byte, and each, a round above the one before and its grid.
 #[tactic(auto, unfolding(crate::specs::Fields::entries))]
-pub fn entries_from(alloc: Global, reader: &mut Reader<'_>) -> Result<Entries, ReadFault>
+pub fn entries_from(alloc: Global, reader: &mut ByteReader<'_>) -> Result<Entries, ReadFault>
     ensures { Reads field.entries reader.old result reader.new }
 {
     let list = list_from(alloc, &EntryItems, 0, 255, reader)?;
@@ -396,7 +199,7 @@ pub fn entries_from(alloc: Global, reader: &mut Reader<'_>) -> Result<Entries, R
 /// Entries with which a matchmaker begins: how many in a byte, at most 254, and each, a round above the one before and its
 /// grid.
 #[tactic(auto, unfolding(crate::specs::Fields::joined))]
-pub fn joined_from(alloc: Global, reader: &mut Reader<'_>) -> Result<Entries, ReadFault>
+pub fn joined_from(alloc: Global, reader: &mut ByteReader<'_>) -> Result<Entries, ReadFault>
     ensures { Reads field.joined reader.old result reader.new }
 {
     let list = list_from(alloc, &EntryItems, 0, 254, reader)?;
@@ -405,7 +208,7 @@ pub fn joined_from(alloc: Global, reader: &mut Reader<'_>) -> Result<Entries, Re
 
 /// A set of matchmakers: how many in a byte, at most 7, and the id of each in two bytes, above the one before.
 #[tactic(auto, unfolding(crate::specs::Fields::set))]
-pub fn set_from(alloc: Global, reader: &mut Reader<'_>) -> Result<Set, ReadFault>
+pub fn set_from(alloc: Global, reader: &mut ByteReader<'_>) -> Result<Set, ReadFault>
     ensures { Reads field.set reader.old result reader.new }
 {
     let left = reader.left();
@@ -423,7 +226,7 @@ pub fn set_from(alloc: Global, reader: &mut Reader<'_>) -> Result<Set, ReadFault
 pub fn accepted_set_from(
     alloc: Global,
     accepted: &Round,
-    reader: &mut Reader<'_>,
+    reader: &mut ByteReader<'_>,
 ) -> Result<Set, ReadFault>
     ensures { Reads (field.accepted_set accepted.now) reader.old result reader.new }
 {
@@ -443,7 +246,7 @@ pub fn votes_from(
     alloc: Global,
     floors: bool,
     cw: u64,
-    reader: &mut Reader<'_>,
+    reader: &mut ByteReader<'_>,
 ) -> Result<Votes, ReadFault>
     ensures { Reads (field.votes_with floors cw) reader.old result reader.new }
 {
@@ -453,7 +256,7 @@ pub fn votes_from(
 
 /// Answers: how many in a byte, 1 to 8, and each: a client, its number, one more than its slot, and the reply.
 #[tactic(auto, unfolding(crate::specs::Fields::answers))]
-pub fn answers_from(alloc: Global, reader: &mut Reader<'_>) -> Result<Answers, ReadFault>
+pub fn answers_from(alloc: Global, reader: &mut ByteReader<'_>) -> Result<Answers, ReadFault>
     ensures { Reads field.answers reader.old result reader.new }
 {
     let list = list_from(alloc, &AnsweredItems, 1, 8, reader)?;
@@ -462,7 +265,7 @@ pub fn answers_from(alloc: Global, reader: &mut Reader<'_>) -> Result<Answers, R
 
 /// Values: how many in a byte, 1 to 32, and each, whose commands may tell their floors.
 #[tactic(auto, unfolding(crate::specs::Fields::values))]
-pub fn values_from(alloc: Global, reader: &mut Reader<'_>) -> Result<LogValues, ReadFault>
+pub fn values_from(alloc: Global, reader: &mut ByteReader<'_>) -> Result<LogValues, ReadFault>
     ensures { Reads field.values reader.old result reader.new }
 {
     let list = list_from(alloc, &ValueItems, 1, 32, reader)?;
@@ -471,7 +274,7 @@ pub fn values_from(alloc: Global, reader: &mut Reader<'_>) -> Result<LogValues, 
 
 /// Pairs of a map: how many in a byte, 1 to 255, and each, a key and a text.
 #[tactic(auto, unfolding(crate::specs::Fields::pairs))]
-pub fn pairs_from(alloc: Global, reader: &mut Reader<'_>) -> Result<Pairs, ReadFault>
+pub fn pairs_from(alloc: Global, reader: &mut ByteReader<'_>) -> Result<Pairs, ReadFault>
     ensures { Reads field.pairs reader.old result reader.new }
 {
     let list = list_from(alloc, &PairItems, 1, 255, reader)?;
@@ -480,7 +283,7 @@ pub fn pairs_from(alloc: Global, reader: &mut Reader<'_>) -> Result<Pairs, ReadF
 
 /// Notes of a client: how many in a byte, 1 to 64, and each: a number, one more than its command's slot, and the reply.
 #[tactic(auto, unfolding(crate::specs::Fields::notes))]
-pub fn notes_from(alloc: Global, reader: &mut Reader<'_>) -> Result<Notes, ReadFault>
+pub fn notes_from(alloc: Global, reader: &mut ByteReader<'_>) -> Result<Notes, ReadFault>
     ensures { Reads field.notes reader.old result reader.new }
 {
     let list = list_from(alloc, &NoteItems, 1, 64, reader)?;

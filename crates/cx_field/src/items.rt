@@ -5,7 +5,7 @@ ghost use Rattle.cx_wire.specs.Format.{Format, u8, only, counted, each_read, eac
 ghost use Rattle.cx_field.specs.Reading.{Reads, Gives};
 
 use crate::fault::ReadFault;
-use crate::reader::Reader;
+use crate::reader::ByteReader;
 use cx_base::NoMemory;
 use std::alloc::Global;
 
@@ -24,7 +24,7 @@ pub trait Items {
         &self,
         alloc: Global,
         before: &[Self::Item],
-        reader: &mut Reader<'_>,
+        reader: &mut ByteReader<'_>,
     ) -> Result<Self::Item, ReadFault>
         ensures { Reads (format self.now before.now) reader.old result reader.new };
 
@@ -40,7 +40,7 @@ pub fn items_from<I: Items>(
     alloc: Global,
     items: &I,
     count: usize,
-    reader: &mut Reader<'_>,
+    reader: &mut ByteReader<'_>,
 ) -> Result<Vec<I::Item>, ReadFault>
 where
     I::Item: Drop,
@@ -56,7 +56,7 @@ where
 }
 
 // How many values a list has.
-fn count_from(least: u8, most: u8, reader: &mut Reader<'_>) -> Result<usize, ReadFault>
+fn count_from(least: u8, most: u8, reader: &mut ByteReader<'_>) -> Result<usize, ReadFault>
     ensures { Reads (only (λ n. nat_le least n && nat_le n most) u8) reader.old result reader.new }
 {
     let left = reader.left();
@@ -73,7 +73,7 @@ pub fn list_from<I: Items>(
     items: &I,
     least: u8,
     most: u8,
-    reader: &mut Reader<'_>,
+    reader: &mut ByteReader<'_>,
 ) -> Result<Vec<I::Item>, ReadFault>
 where
     I::Item: Drop,

@@ -5,6 +5,7 @@
 //! it reads is spelled so, and what it spells is read again.
 #![tactic(auto)]
 
+mod command_fields;
 mod fault;
 mod fields;
 mod items;
@@ -14,12 +15,12 @@ mod put;
 mod ranges;
 mod reader;
 
+pub use command_fields::{command_from, commands_from, name_from, reply_from, value_from};
 pub use fault::ReadFault;
 pub use fields::{
-    accepted_set_from, answers_from, asking_from, at_from, command_from, commands_from,
-    entries_from, found_from, grid_from, joined_from, mark_from, name_from, notes_from, pairs_from,
-    reason_from, reply_from, round_from, round0_from, seq_from, set_from, slot_from, token_from,
-    value_from, values_from, votes_from,
+    accepted_set_from, answers_from, asking_from, at_from, entries_from, found_from, grid_from,
+    joined_from, mark_from, notes_from, pairs_from, reason_from, round_from, round0_from, seq_from,
+    set_from, slot_from, token_from, values_from, votes_from,
 };
 pub use parts::{
     Answers, Asking, Entries, Entry, LogValues, NackReason, Notes, Pairs, Token, Vote, Votes,
@@ -33,4 +34,4 @@ pub use ranges::{
     accepted_set_fits, command_fits, found_fits, grid_fits, name_fits, reason_fits, reply_fits,
     set_fits,
 };
-pub use reader::Reader;
+pub use reader::ByteReader;

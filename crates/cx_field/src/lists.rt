@@ -4,17 +4,15 @@ ghost use Rattle.std.specs.Prelude.{◌≡◌};
 ghost use Rattle.cx_base.specs.Grid.{is_in};
 ghost use Rattle.cx_field.specs.Fields as field;
 
+use crate::command_fields::{command_from, name_from, reply_from, value_from};
 use crate::fault::ReadFault;
-use crate::fields::{
-    at_from, command_from, grid_from, name_from, reply_from, round_from, seq_from, slot_from,
-    value_from,
-};
+use crate::fields::{at_from, grid_from, round_from, seq_from, slot_from};
 use crate::items::Items;
 use crate::parts::{Entry, Vote};
 use crate::put::{
     put_at, put_command, put_grid, put_name, put_reply, put_round, put_seq, put_slot, put_value,
 };
-use crate::reader::Reader;
+use crate::reader::ByteReader;
 use cx_base::{Answered, Command, NoMemory, Note, Pair, Value, WINDOW};
 use cx_wire::put_u16;
 use std::alloc::Global;
@@ -36,7 +34,7 @@ impl Items for CommandItems {
         &self,
         _alloc: Global,
         _before: &[Command],
-        reader: &mut Reader<'_>,
+        reader: &mut ByteReader<'_>,
     ) -> Result<Command, ReadFault> {
         command_from(self.floors, reader)
     }
@@ -69,7 +67,7 @@ impl Items for MemberItems {
         &self,
         _alloc: Global,
         before: &[u16],
-        reader: &mut Reader<'_>,
+        reader: &mut ByteReader<'_>,
     ) -> Result<u16, ReadFault> {
         let left = reader.left();
         let id = reader.u16()?;
@@ -100,7 +98,7 @@ impl Items for SetItems {
         &self,
         _alloc: Global,
         before: &[u16],
-        reader: &mut Reader<'_>,
+        reader: &mut ByteReader<'_>,
     ) -> Result<u16, ReadFault> {
         let left = reader.left();
         let id = reader.u16()?;
@@ -132,7 +130,7 @@ impl Items for EntryItems {
         &self,
         alloc: Global,
         before: &[Entry],
-        reader: &mut Reader<'_>,
+        reader: &mut ByteReader<'_>,
     ) -> Result<Entry, ReadFault> {
         let left = reader.left();
         let round = round_from(reader)?;
@@ -173,7 +171,7 @@ impl Items for VoteItems {
         &self,
         alloc: Global,
         before: &[Vote],
-        reader: &mut Reader<'_>,
+        reader: &mut ByteReader<'_>,
     ) -> Result<Vote, ReadFault> {
         let round = round_from(reader)?;
         let left = reader.left();
@@ -209,7 +207,7 @@ impl Items for AnsweredItems {
         &self,
         _alloc: Global,
         _before: &[Answered],
-        reader: &mut Reader<'_>,
+        reader: &mut ByteReader<'_>,
     ) -> Result<Answered, ReadFault> {
         let client = reader.u16()?;
         let seq = seq_from(reader)?;
@@ -247,7 +245,7 @@ impl Items for PairItems {
         &self,
         _alloc: Global,
         _before: &[Pair],
-        reader: &mut Reader<'_>,
+        reader: &mut ByteReader<'_>,
     ) -> Result<Pair, ReadFault> {
         let key = name_from(reader)?;
         let text = name_from(reader)?;
@@ -276,7 +274,7 @@ impl Items for NoteItems {
         &self,
         _alloc: Global,
         _before: &[Note],
-        reader: &mut Reader<'_>,
+        reader: &mut ByteReader<'_>,
     ) -> Result<Note, ReadFault> {
         let seq = seq_from(reader)?;
         let at = at_from(reader)?;
@@ -307,7 +305,7 @@ impl Items for ValueItems {
         &self,
         alloc: Global,
         _before: &[Value],
-        reader: &mut Reader<'_>,
+        reader: &mut ByteReader<'_>,
     ) -> Result<Value, ReadFault> {
         value_from(alloc, true, reader)
     }

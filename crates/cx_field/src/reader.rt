@@ -10,11 +10,11 @@ use std::marker::Model;
 
 /// The bytes that are left.
 #[derive(Drop)]
-pub struct Reader<'a> {
+pub struct ByteReader<'a> {
     rest: &'a [u8],
 }
 
-impl<'a> Model for Reader<'a> {
+impl<'a> Model for ByteReader<'a> {
     ghost use Rattle.std.specs.Prelude.{ℕ, List};
 
     ghost Value = { List ℕ };
@@ -22,12 +22,12 @@ impl<'a> Model for Reader<'a> {
     ghost view = { λ r. r.rest.now };
 }
 
-impl<'a> Reader<'a> {
+impl<'a> ByteReader<'a> {
     /// Reads from the first of these bytes on.
-    pub fn new(bytes: &'a [u8]) -> Reader<'a>
+    pub fn new(bytes: &'a [u8]) -> ByteReader<'a>
         ensures { result ≡ bytes.now }
     {
-        Reader { rest: bytes }
+        ByteReader { rest: bytes }
     }
 
     /// How many bytes are left.

@@ -11,7 +11,7 @@ use Rattle.cx_base.specs.declared.event.Happened.{Happened}
 use Rattle.cx_base.specs.Same.{same_op}
 use Rattle.cx_field.specs.declared.parts.Token.{Token}
 use Rattle.cx_model.specs.Request.{floor_in, is_past, same_request, same_token, token_of, was_sent}
-use Rattle.cx_history.specs.Requests.{asked, asked_op, asks_another, has_token, sent_token, tells_floor}
+use Rattle.cx_history.specs.Requests.{asked, asked_op, asks_another, has_token, sent_token, has_floor_past}
 
 -- two lists, one after the other, and the length of the first
 both_eq : (k l t u : List ℕ) → ((length k == length l) && bytes_eq (k ++ t) (l ++ u)) ≡ (bytes_eq k l && bytes_eq t u)
@@ -102,7 +102,7 @@ pub token_alone : (t : Token) (h : Happened) → has_token t h ≡ same_token t 
 token_alone t h =
     elim (was_sent h) as (λ b. (b && same_token t (token_of h.event)) ≡ same_token t (if b then token_of h.event else None)) [ true ↦ refl | false ↦ refl ]
 
-pub floor_alone : (t : Token) (h : Happened) → tells_floor t h ≡ is_past t (sent_token h) (floor_in h.event)
+pub floor_alone : (t : Token) (h : Happened) → has_floor_past t h ≡ is_past t (sent_token h) (floor_in h.event)
 floor_alone t h =
     elim (was_sent h) as (λ b. (b && is_past t (token_of h.event) (floor_in h.event)) ≡ is_past t (if b then token_of h.event else None) (floor_in h.event)) [
       | true ↦ refl

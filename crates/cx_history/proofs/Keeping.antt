@@ -13,23 +13,23 @@ use Rattle.cx_msg.specs.declared.input.Written.{Written}
 use Rattle.cx_msg.specs.declared.input.Written.TheVariants as written
 use Rattle.cx_msg.proofs.RecordLaws.{recorded-again}
 use Rattle.cx_keeper.specs.Pieces.{record_or}
-use Rattle.cx_history.specs.Kept.{IsChange, IsKept, change_fits, change_in, changes_in, holds_slot, IsSlot, kept_by, piece_of, slot_in}
+use Rattle.cx_history.specs.Kept.{IsChangePiece, AreKeptPieces, change_fits, change_in, changes_in, holds_slot, HasU64Slot, kept_with_roles, piece_of, slot_in}
 use Rattle.cx_history.proofs.Steps.{All-push}
 
-pub length-kept : (roles : List RoleId) (changes : List Written) → length roles ≡ length changes → length (kept_by roles changes) ≡ length roles
+pub length-kept : (roles : List RoleId) (changes : List Written) → length roles ≡ length changes → length (kept_with_roles roles changes) ≡ length roles
 length-kept [] records h = refl
 length-kept (role ∷ roles) [] h = absurd (omega arith)
 length-kept (role ∷ roles) (what ∷ changes) h = ap suc (length-kept roles changes (omega (arith, h)))
 
 pub one_kept : (roles : List RoleId) (changes : List Written) (n : ℕ) (role : RoleId) (what : Written) → slice_get roles n ≡ Some role → slice_get changes n ≡ Some what
-    → slice_get (kept_by roles changes) n ≡ Some (record { role = role; what = what })
+    → slice_get (kept_with_roles roles changes) n ≡ Some (record { role = role; what = what })
 one_kept [] records n role what h k = cc
 one_kept (r ∷ roles) [] n role what h k = cc
 one_kept (r ∷ roles) (w ∷ changes) zero role what h k = let same : r ≡ role = cc in let also : w ≡ what = cc in rw (same, also) refl
 one_kept (r ∷ roles) (w ∷ changes) (suc n) role what h k = one_kept roles changes n role what h k
 
 pub kept_more : (roles : List RoleId) (changes : List Written) (role : RoleId) (what : Written) → length roles ≡ length changes
-    → kept_by (roles ++ role ∷ []) (changes ++ what ∷ []) ≡ kept_by roles changes ++ record { role = role; what = what } ∷ []
+    → kept_with_roles (roles ++ role ∷ []) (changes ++ what ∷ []) ≡ kept_with_roles roles changes ++ record { role = role; what = what } ∷ []
 kept_more [] [] role what h = refl
 kept_more [] (w ∷ changes) role what h = absurd (omega arith)
 kept_more (r ∷ roles) [] role what h = absurd (omega arith)
@@ -66,24 +66,24 @@ tag_first (kept.Turn n) = refl
 slot_again : (first : ℕ) → first < 256 ^ 8 → slot_in (0 ∷ big_bytes 8 first) ≡ first
 slot_again first small = ap (λ l. big_number 8 l) (sym (append-nil (big_bytes 8 first))) ∙ big_number-reads_back 8 first [] small
 
-change_again : (what : Written) → change_fits what ≡ true → IsSlot what → change_in (piece_of what) ≡ what
+change_again : (what : Written) → change_fits what ≡ true → HasU64Slot what → change_in (piece_of what) ≡ what
 change_again (written.Record r) fit small = rw (tag_first r) (ap (λ x. written.Record (record_or x)) (recorded-again r fit))
 change_again (written.Snap first) fit small = ap (λ n. written.Snap n) (slot_again first small)
 
-is_change : (what : Written) → change_fits what ≡ true → IsChange (piece_of what)
+is_change : (what : Written) → change_fits what ≡ true → IsChangePiece (piece_of what)
 is_change (written.Record r) fit =
     let again = recorded-again r fit in
     rw (tag_first r) (again ∙ ap Ok (sym (ap record_or again)))
 is_change (written.Snap first) fit = let long = length-bytes_high_first 8 first in omega (arith, long)
 
-pub changes_more : (what : Written) (pieces : List (List ℕ)) → change_fits what ≡ true → IsSlot what → changes_in (pieces ++ piece_of what ∷ []) ≡ changes_in pieces ++ what ∷ []
+pub changes_more : (what : Written) (pieces : List (List ℕ)) → change_fits what ≡ true → HasU64Slot what → changes_in (pieces ++ piece_of what ∷ []) ≡ changes_in pieces ++ what ∷ []
 changes_more what pieces fit small = map-append (λ (p : List ℕ). change_in p) pieces (piece_of what ∷ []) ∙ ap (λ x. changes_in pieces ++ x ∷ []) (change_again what fit small)
 
-pub are_changes_more : (what : Written) (pieces : List (List ℕ)) → change_fits what ≡ true → All IsChange pieces → All IsChange (pieces ++ piece_of what ∷ [])
-are_changes_more what pieces fit all = All-push IsChange pieces (piece_of what) all (is_change what fit)
+pub are_changes_more : (what : Written) (pieces : List (List ℕ)) → change_fits what ≡ true → All IsChangePiece pieces → All IsChangePiece (pieces ++ piece_of what ∷ [])
+are_changes_more what pieces fit all = All-push IsChangePiece pieces (piece_of what) all (is_change what fit)
 
 -- as many changes as roles and as pieces
-pub counts : (roles : List RoleId) (pieces : List (List ℕ)) → IsKept roles pieces → length (kept_by roles (changes_in pieces)) ≡ length pieces
+pub counts : (roles : List RoleId) (pieces : List (List ℕ)) → AreKeptPieces roles pieces → length (kept_with_roles roles (changes_in pieces)) ≡ length pieces
 counts roles pieces h =
     let long : length (changes_in pieces) ≡ length pieces = length-map pieces (λ (p : List ℕ). change_in p) in
     length-kept roles (changes_in pieces) (h.same_count ∙ sym long) ∙ h.same_count

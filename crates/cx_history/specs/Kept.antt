@@ -3,7 +3,7 @@ use Rattle.std.specs.Prelude.{◌≡◌, ◌≤◌, ◌<◌, ◌^◌, ◌==◌, 
 use Rattle.std.specs.List.{list_all}
 use Rattle.byteorder.specs.Endian.{big_bytes, big_number}
 use Rattle.cx_base.specs.declared.role.RoleId.{RoleId}
-use Rattle.cx_msg.specs.Records.{fits, recorded, spelling}
+use Rattle.cx_msg.specs.Records.{fits, record_of_bytes, spelling}
 use Rattle.cx_msg.specs.declared.kept.Record.{Record}
 use Rattle.cx_msg.specs.declared.input.KeptRecord.{KeptRecord}
 use Rattle.cx_msg.specs.declared.input.Written.{Written}
@@ -19,15 +19,15 @@ abbrev pub all_changes_fit : List Written → Bool
 all_changes_fit changes = list_all (λ (w : Written). change_fits w) changes
 
 -- eight bytes hold the slot of a change
-abbrev pub IsSlot : Written → Type 0
-IsSlot (written.Record r) = Unit {0}
-IsSlot (written.Snap first) = first < 256 ^ 8
+abbrev pub HasU64Slot : Written → Type 0
+HasU64Slot (written.Record r) = Unit {0}
+HasU64Slot (written.Snap first) = first < 256 ^ 8
 
 -- each change with its role
-abbrev pub kept_by : List RoleId → List Written → List KeptRecord
-kept_by [] changes = []
-kept_by (role ∷ roles) [] = []
-kept_by (role ∷ roles) (what ∷ changes) = record { role = role; what = what } ∷ kept_by roles changes
+abbrev pub kept_with_roles : List RoleId → List Written → List KeptRecord
+kept_with_roles [] changes = []
+kept_with_roles (role ∷ roles) [] = []
+kept_with_roles (role ∷ roles) (what ∷ changes) = record { role = role; what = what } ∷ kept_with_roles roles changes
 
 -- the changes alone
 abbrev pub changes_kept : List KeptRecord → List Written
@@ -48,7 +48,7 @@ abbrev pub slot_in : List ℕ → ℕ
 slot_in piece = big_number 8 (drop 1 piece)
 
 abbrev pub record_in : List ℕ → Record
-record_in piece = record_or (recorded piece)
+record_in piece = record_or (record_of_bytes piece)
 
 -- the change that a piece holds
 abbrev pub change_in : List ℕ → Written
@@ -60,12 +60,12 @@ changes_in pieces = map (λ (piece : List ℕ). change_in piece) pieces
 -- a piece holds a slot, or else a record
 abbrev pub IsOneOf : Bool → List ℕ → Type 0
 IsOneOf true piece = 9 ≤ length piece
-IsOneOf false piece = recorded piece ≡ Ok (record_in piece)
+IsOneOf false piece = record_of_bytes piece ≡ Ok (record_in piece)
 
-abbrev pub IsChange : List ℕ → Type 0
-IsChange piece = IsOneOf (holds_slot piece) piece
+abbrev pub IsChangePiece : List ℕ → Type 0
+IsChangePiece piece = IsOneOf (holds_slot piece) piece
 
 -- each piece holds a change, and for each there is a role
-pub record IsKept (roles : List RoleId) (pieces : List (List ℕ)) : Type 0 where
+pub record AreKeptPieces (roles : List RoleId) (pieces : List (List ℕ)) : Type 0 where
   pub same_count : length roles ≡ length pieces
-  pub are_changes : All IsChange pieces
+  pub are_changes : All IsChangePiece pieces

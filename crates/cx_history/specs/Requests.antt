@@ -39,5 +39,5 @@ has_token t h = was_sent h && same_token t (token_of h.event)
 abbrev pub asks_another : Token → Event → Happened → Bool
 asks_another t e h = was_sent h && same_token t (token_of h.event) && not (same_request e h.event)
 
-abbrev pub tells_floor : Token → Happened → Bool
-tells_floor t h = was_sent h && is_past t (token_of h.event) (floor_in h.event)
+abbrev pub has_floor_past : Token → Happened → Bool
+has_floor_past t h = was_sent h && is_past t (token_of h.event) (floor_in h.event)

@@ -9,7 +9,7 @@ abbrev pub letters_of : List (List ℕ) → List Letter
 letters_of pieces = map (λ (piece : List ℕ). letter_of piece) pieces
 
 -- each piece holds a datagram, and of them this many answer a command, and this many a read or a session read
-pub record IsSent (pieces : List (List ℕ)) (answers reads : ℕ) : Type 0 where
+pub record AreSentPieces (pieces : List (List ℕ)) (answers reads : ℕ) : Type 0 where
   pub are_short : All IsShort pieces
   pub answers_are : answers ≡ answers_in (letters_of pieces)
   pub reads_are : reads ≡ read_answers_in (letters_of pieces)

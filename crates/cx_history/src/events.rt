@@ -6,7 +6,7 @@ ghost use Rattle.cx_model.specs.Request.{is_stale};
 use crate::requests::Requests;
 use cx_base::{Event, Happened, NoMemory};
 use cx_field::Token;
-use cx_ring::{Tells, Told};
+use cx_ring::{GhostList, GhostListOf};
 use std::alloc::Global;
 use std::marker::Model;
 
@@ -14,7 +14,7 @@ use std::marker::Model;
 /// that were sent what tells whether another is stale.
 #[derive(Drop)]
 pub struct Events {
-    told: Told<Happened>,
+    events: GhostList<Happened>,
     count: u64,
     requests: Requests,
 }
@@ -22,25 +22,25 @@ pub struct Events {
 impl Model for Events {
     ghost use Rattle.std.specs.Prelude.{List};
     ghost use Rattle.cx_base.specs.declared.event.Happened.{Happened};
-    ghost use Rattle.cx_history.specs.Held.{AreHeld};
+    ghost use Rattle.cx_history.specs.Held.{IsEventsSummary};
 
     ghost Value = { List Happened };
 
-    ghost view = { λ h. h.told.items };
+    ghost view = { λ h. h.events.items };
 
-    ghost invariant = { λ h. AreHeld h.told.items h.count h.requests };
+    ghost invariant = { λ h. IsEventsSummary h.events.items h.count h.requests };
 }
 
 struct Nothing;
 
-impl Tells<(), Happened> for Nothing {
-    ghost told = { λ _. [] };
+impl GhostListOf<(), Happened> for Nothing {
+    ghost list_shown = { λ _. [] };
 }
 
 struct OneMore;
 
-impl<'a> Tells<(&'a Told<Happened>, &'a Happened), Happened> for OneMore {
-    ghost told = { λ x. x.0.now.items ++ x.1.now ∷ [] };
+impl<'a> GhostListOf<(&'a GhostList<Happened>, &'a Happened), Happened> for OneMore {
+    ghost list_shown = { λ x. x.0.now.items ++ x.1.now ∷ [] };
 }
 
 // One more. More than a count can tell are answered as out of memory.
@@ -56,13 +56,13 @@ impl Events {
         ensures { result ≡ [] }
     {
         Events {
-            told: Told::of::<(), Nothing>(&()),
+            events: GhostList::of::<(), Nothing>(&()),
             count: 0,
             requests: Requests::new(alloc),
         }
     }
 
-    /// How many events happened. It takes no memory.
+    /// How many events happened.
     pub fn len(&self) -> u64
         ensures { result ≡ length self.now }
     {
@@ -77,13 +77,16 @@ impl Events {
     {
         let count = next(self.count)?;
         self.requests.push(happened)?;
-        self.told = Told::of::<(&Told<Happened>, &Happened), OneMore>(&(&self.told, happened));
+        self.events = GhostList::of::<(&GhostList<Happened>, &Happened), OneMore>(&(
+            &self.events,
+            happened,
+        ));
         self.count = count;
         Ok(())
     }
 
     /// Whether a request may not be made any more: with its number something else was asked; or nothing was, and its client told a
-    /// floor that the number isn't above. It takes no memory.
+    /// floor that the number isn't above.
     pub fn is_stale(&self, token: Token, event: &Event) -> bool
         ensures { result ≡ is_stale token event.now self.now }
     {

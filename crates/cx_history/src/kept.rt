@@ -2,8 +2,8 @@
 
 ghost use Rattle.std.specs.Prelude.{◌≡◌, ◌≤◌, ◌<◌, ◌^◌, ◌++◌, ◌∷◌, [], All, IfOk, OnOk, OnErr, IsTrue, Ok, Some, length, slice_get};
 ghost use Rattle.byteorder.specs.Endian.{big_bytes};
-ghost use Rattle.cx_msg.specs.Records.{recorded};
-ghost use Rattle.cx_history.specs.Kept.{IsChange, IsKept, IsSlot, change_fits, change_in, changes_in, holds_slot, kept_by, piece_of, record_in, slot_in};
+ghost use Rattle.cx_msg.specs.Records.{record_of_bytes};
+ghost use Rattle.cx_history.specs.Kept.{IsChangePiece, AreKeptPieces, HasU64Slot, change_fits, change_in, changes_in, holds_slot, kept_with_roles, piece_of, record_in, slot_in};
 
 use byteorder::{BigEndian, ByteOrder};
 use cx_base::{NoMemory, RoleId};
@@ -28,13 +28,13 @@ pub struct Kept {
 impl Model for Kept {
     ghost use Rattle.std.specs.Prelude.{List};
     ghost use Rattle.cx_msg.specs.declared.input.KeptRecord.{KeptRecord};
-    ghost use Rattle.cx_history.specs.Kept.{IsKept, changes_in, kept_by};
+    ghost use Rattle.cx_history.specs.Kept.{AreKeptPieces, changes_in, kept_with_roles};
 
     ghost Value = { List KeptRecord };
 
-    ghost view = { λ k. kept_by k.roles.items (changes_in k.changes) };
+    ghost view = { λ k. kept_with_roles k.roles.items (changes_in k.changes) };
 
-    ghost invariant = { λ k. IsKept k.roles.items k.changes };
+    ghost invariant = { λ k. AreKeptPieces k.roles.items k.changes };
 }
 
 // Puts a 0 and a slot behind bytes.
@@ -51,7 +51,7 @@ fn put_slot(first: u64, bytes: &mut Vec<u8>) -> Result<(), NoMemory>
 // The bytes of a change, in the place of those that are there.
 fn spell(alloc: Global, what: &Written, bytes: &mut Vec<u8>) -> Result<(), NoMemory>
     ensures bytes { OnOk result (bytes.new.items ≡ piece_of what.now) }
-    ensures slot { OnOk result (IsSlot what.now) }
+    ensures slot { OnOk result (HasU64Slot what.now) }
 {
     bytes.clear();
     match what {
@@ -70,7 +70,7 @@ fn put_change(
 ) -> Result<(), NoMemory>
     requires { IsTrue (change_fits what.now) }
     ensures changes { OnOk result (changes_in pieces.new ≡ changes_in pieces.old ++ what.now ∷ []) }
-    ensures pieces { All IsChange pieces.old → All IsChange pieces.new }
+    ensures pieces { All IsChangePiece pieces.old → All IsChangePiece pieces.new }
     ensures err { OnErr result (pieces.new ≡ pieces.old) }
 {
     spell(alloc, what, bytes)?;
@@ -95,7 +95,7 @@ fn read_slot(piece: &[u8]) -> u64
 
 // The record of a piece.
 fn read_record(alloc: Global, piece: &[u8]) -> Result<Record, NoMemory>
-    requires { recorded piece.now ≡ Ok (record_in piece.now) }
+    requires { record_of_bytes piece.now ≡ Ok (record_in piece.now) }
     ensures { IfOk result (λ what. what ≡ record_in piece.now) }
 {
     match record_from(alloc, piece) {
@@ -108,7 +108,7 @@ fn read_record(alloc: Global, piece: &[u8]) -> Result<Record, NoMemory>
 
 // The change of a piece.
 fn read_piece(alloc: Global, piece: &[u8]) -> Result<Written, NoMemory>
-    requires { IsChange piece.now }
+    requires { IsChangePiece piece.now }
     ensures { IfOk result (λ what. what ≡ change_in piece.now) }
 {
     if holds_slot(piece) {
@@ -122,7 +122,7 @@ fn read_piece(alloc: Global, piece: &[u8]) -> Result<Written, NoMemory>
 
 // The change of a number.
 fn read_change(alloc: Global, pieces: &Pieces, number: usize) -> Result<Written, NoMemory>
-    requires pieces { All IsChange pieces.now }
+    requires pieces { All IsChangePiece pieces.now }
     requires number { number < length pieces.now }
     ensures what { IfOk result (λ what. slice_get (changes_in pieces.now) number ≡ Some what) }
 {
@@ -145,7 +145,7 @@ impl Kept {
         }
     }
 
-    /// How many changes were made. It takes no memory.
+    /// How many changes were made.
     pub fn len(&self) -> usize
         ensures { result ≡ length self.now }
     {

@@ -5,7 +5,7 @@ ghost use Rattle.std.specs.Str.{bytes_eq};
 ghost use Rattle.indexmap.specs.IndexMap.{spare};
 ghost use Rattle.cx_field.specs.declared.parts.Token.{Token as Named};
 ghost use Rattle.cx_model.specs.Request.{floor_in, same_read, token_of};
-ghost use Rattle.cx_history.specs.Held.{ArePlaces, IsPlace, Notes, asked_with, asks_other, floor_told, is_stale_by, number_of, raised};
+ghost use Rattle.cx_history.specs.Held.{ArePlaces, IsPiecePlace, NotesRequest, asked_with, asks_other, floor_told, is_stale_by, token_number, max_floor};
 ghost use Rattle.cx_history.specs.Requests.{asked, sent_token};
 
 use crate::scratch::Scratch;
@@ -43,15 +43,15 @@ pub struct Requests {
 }
 
 impl Model for Requests {
-    ghost use Rattle.cx_history.specs.Held.{Held};
+    ghost use Rattle.cx_history.specs.Held.{RequestsState};
 
-    ghost Value = { Held };
+    ghost Value = { RequestsState };
 
     ghost view = { λ r. record { asked = r.asked.entries; pieces = r.pieces; floors = r.floors.entries } };
 }
 
-fn number_of(token: Token) -> Number
-    ensures { result ≡ number_of token }
+fn token_number(token: Token) -> Number
+    ensures { result ≡ token_number token }
 {
     Number {
         client: token.client,
@@ -106,7 +106,7 @@ fn floor_in(event: &Event) -> u64
 fn asked_with(asked: &IndexMap<Number, Asked>, token: Token) -> Option<Asked>
     ensures { result ≡ asked_with token asked.now.entries }
 {
-    asked.get(&number_of(token)).copied()
+    asked.get(&token_number(token)).copied()
 }
 
 // The greatest floor that a client told.
@@ -138,9 +138,9 @@ fn small(number: usize) -> Result<u32, NoMemory>
 
 // What was asked with a number, once this is asked with it too.
 fn ask(pieces: &mut Pieces, earlier: Option<Asked>, asks: &[u8]) -> Result<Asked, NoMemory>
-    requires { IsPlace pieces.old earlier }
+    requires { IsPiecePlace pieces.old earlier }
     ensures grows { OnOk result ((more : List (List ℕ)) × (pieces.new ≡ pieces.old ++ more)) }
-    ensures place { IfOk result (λ asked. IsPlace pieces.new (Some asked)) }
+    ensures place { IfOk result (λ asked. IsPiecePlace pieces.new (Some asked)) }
     ensures others { IfOk result (λ asked. (other : List ℕ)
         → asks_other pieces.new (Some asked) other
         ≡ (asks_other pieces.old earlier other || not (bytes_eq other asks.now))) }
@@ -167,7 +167,7 @@ fn put_asked(map: &mut IndexMap<Number, Asked>, token: Token, asked: Asked)
     ensures { (t : Named) → asked_with t map.new.entries
         ≡ (if same_read token t then Some asked else asked_with t map.old.entries) }
 {
-    match map.insert(number_of(token), asked) {
+    match map.insert(token_number(token), asked) {
         Ok(_) => {}
         // There is room.
         Err(_) => unreachable!(),
@@ -178,7 +178,7 @@ fn put_asked(map: &mut IndexMap<Number, Asked>, token: Token, asked: Asked)
 fn raise(floors: &mut IndexMap<u16, u64>, client: u16, floor: u64)
     requires { 0 < spare floors.old }
     ensures { (c : ℕ) → floor_told c floors.new.entries
-        ≡ (if client == c then Some (raised (floor_told client floors.old.entries) floor)
+        ≡ (if client == c then Some (max_floor (floor_told client floors.old.entries) floor)
         else floor_told c floors.old.entries) }
 {
     let greatest = match floor_told(floors, client) {
@@ -207,7 +207,7 @@ impl Requests {
     // Notes a request that was sent.
     fn note(&mut self, token: Token, event: &Event) -> Result<(), NoMemory>
         requires { ArePlaces self.old.pieces self.old.asked }
-        ensures ok { OnOk result (Notes (Some token) event.now self.old self.new) }
+        ensures ok { OnOk result (NotesRequest (Some token) event.now self.old self.new) }
         ensures err { OnErr result (self.new ≡ self.old) }
     {
         self.asked.reserve(1)?;
@@ -224,7 +224,7 @@ impl Requests {
     /// answered as out of memory too.
     pub fn push(&mut self, happened: &Happened) -> Result<(), NoMemory>
         requires { ArePlaces self.old.pieces self.old.asked }
-        ensures ok { OnOk result (Notes (sent_token happened.now) happened.now.event self.old self.new) }
+        ensures ok { OnOk result (NotesRequest (sent_token happened.now) happened.now.event self.old self.new) }
         ensures err { OnErr result (self.new ≡ self.old) }
     {
         match sent_token(happened) {
@@ -234,7 +234,7 @@ impl Requests {
     }
 
     /// Whether a request may not be made any more: something else was asked with its number; or nothing was, and its client told a
-    /// floor that the number isn't above. It takes no memory.
+    /// floor that the number isn't above.
     pub fn is_stale(&self, token: Token, event: &Event) -> bool
         ensures { result ≡ is_stale_by token (asked event.now) self.now }
     {

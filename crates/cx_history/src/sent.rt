@@ -29,13 +29,13 @@ pub struct Sent {
 impl Model for Sent {
     ghost use Rattle.std.specs.Prelude.{List};
     ghost use Rattle.cx_msg.specs.Letter.{Letter};
-    ghost use Rattle.cx_history.specs.Short.{IsSent, letters_of};
+    ghost use Rattle.cx_history.specs.Short.{AreSentPieces, letters_of};
 
     ghost Value = { List Letter };
 
     ghost view = { λ s. letters_of s.pieces };
 
-    ghost invariant = { λ s. IsSent s.pieces s.answers s.reads };
+    ghost invariant = { λ s. AreSentPieces s.pieces s.answers s.reads };
 }
 
 // One more where there is one.
@@ -60,21 +60,21 @@ impl Sent {
         }
     }
 
-    /// How many were sent. It takes no memory.
+    /// How many were sent.
     pub fn len(&self) -> u64
         ensures { result ≡ length self.now }
     {
         self.pieces.len() as u64
     }
 
-    /// How many of them answer a command. It takes no memory.
+    /// How many of them answer a command.
     pub fn answers(&self) -> u64
         ensures { result ≡ answers_in self.now }
     {
         self.answers
     }
 
-    /// How many of them answer a read or a session read. It takes no memory.
+    /// How many of them answer a read or a session read.
     pub fn read_answers(&self) -> u64
         ensures { result ≡ read_answers_in self.now }
     {

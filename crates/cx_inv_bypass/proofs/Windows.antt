@@ -1,4 +1,4 @@
--- The slots of a window as numbers: one more at its end, the ones below a mark dropped, and those of the values that a plan places.
+-- The slots of a window as numbers: one more at its end, the ones below a bound dropped, and those of the values that a plan places.
 use Rattle.std.proofs.Common.{◌≡◌, ◌≤◌, ◌<◌, ◌+◌, ◌-◌, ℕ, zero, suc, Bool, true, false, cond, List, [], ◌∷◌, ◌++◌, map, filter, max, ap, ◌∙◌, refl, inl, inr, arith}
 use Rattle.std.specs.Prelude.{nat_le}
 use Rattle.std.proofs.lemmas.Bool.{cases_Bool}
@@ -33,7 +33,7 @@ slots-more ps p cw l e =
     slots-append ps p ∙ ap (λ (ns : List ℕ). ns ++ p.slot ∷ []) e ∙ ap (λ (n : ℕ). numbers cw (p.slot - cw) ++ n ∷ []) last
     ∙ numbers-more cw (p.slot - cw) ∙ ap (λ n. numbers cw n) count
 
--- those below a mark dropped
+-- those below a bound dropped
 
 taken : (b : Bool) (n : ℕ) (ns : List ℕ) → b ≡ true → cond b (n ∷ ns) ns ≡ n ∷ ns
 taken true n ns t = refl
@@ -43,44 +43,44 @@ dropped : (b : Bool) (n : ℕ) (ns : List ℕ) → b ≡ false → cond b (n ∷
 dropped true n ns f = cc
 dropped false n ns f = refl
 
-filter-kept : (mark : ℕ) (n : ℕ) (ns : List ℕ) → mark ≤ n → filter (λ s. nat_le mark s) (n ∷ ns) ≡ n ∷ filter (λ s. nat_le mark s) ns
-filter-kept mark n ns l = taken (nat_le mark n) n (filter (λ s. nat_le mark s) ns) (grind (arith, nat_tests))
+filter-kept : (bound : ℕ) (n : ℕ) (ns : List ℕ) → bound ≤ n → filter (λ s. nat_le bound s) (n ∷ ns) ≡ n ∷ filter (λ s. nat_le bound s) ns
+filter-kept bound n ns l = taken (nat_le bound n) n (filter (λ s. nat_le bound s) ns) (grind (arith, nat_tests))
 
-filter-dropped : (mark : ℕ) (n : ℕ) (ns : List ℕ) → n < mark → filter (λ s. nat_le mark s) (n ∷ ns) ≡ filter (λ s. nat_le mark s) ns
-filter-dropped mark n ns l = dropped (nat_le mark n) n (filter (λ s. nat_le mark s) ns) (grind (arith, nat_tests))
+filter-dropped : (bound : ℕ) (n : ℕ) (ns : List ℕ) → n < bound → filter (λ s. nat_le bound s) (n ∷ ns) ≡ filter (λ s. nat_le bound s) ns
+filter-dropped bound n ns l = dropped (nat_le bound n) n (filter (λ s. nat_le bound s) ns) (grind (arith, nat_tests))
 
-numbers-all : (mark first count : ℕ) → mark ≤ first → filter (λ s. nat_le mark s) (numbers first count) ≡ numbers first count
-numbers-all mark first zero l = refl
-numbers-all mark first (suc count) l =
-    filter-kept mark first (numbers (first + 1) count) l ∙ ap (λ (ns : List ℕ). first ∷ ns) (numbers-all mark (first + 1) count (omega arith))
+numbers-all : (bound first count : ℕ) → bound ≤ first → filter (λ s. nat_le bound s) (numbers first count) ≡ numbers first count
+numbers-all bound first zero l = refl
+numbers-all bound first (suc count) l =
+    filter-kept bound first (numbers (first + 1) count) l ∙ ap (λ (ns : List ℕ). first ∷ ns) (numbers-all bound (first + 1) count (omega arith))
 
-numbers-from : (mark first count : ℕ) → first ≤ mark → filter (λ s. nat_le mark s) (numbers first count) ≡ numbers mark (first + count - mark)
-numbers-from mark first zero l = let e : 0 ≡ first + zero - mark = omega arith in ap (λ n. numbers mark n) e
-numbers-from mark first (suc count) l = elim (cases_Bool (nat_le mark first)) [
-  | inl t ↦ (let same : first ≡ mark = grind (arith, nat_tests) in
-      let n : suc count ≡ first + suc count - mark = omega arith in
-      numbers-all mark first (suc count) (omega arith) ∙ ap (λ k. numbers k (suc count)) same ∙ ap (λ k. numbers mark k) n)
-  | inr f ↦ (let below : first < mark = grind (arith, nat_tests) in
-      let n : first + 1 + count - mark ≡ first + suc count - mark = omega arith in
-      filter-dropped mark first (numbers (first + 1) count) below ∙ numbers-from mark (first + 1) count (omega arith) ∙ ap (λ k. numbers mark k) n)
+numbers-from : (bound first count : ℕ) → first ≤ bound → filter (λ s. nat_le bound s) (numbers first count) ≡ numbers bound (first + count - bound)
+numbers-from bound first zero l = let e : 0 ≡ first + zero - bound = omega arith in ap (λ n. numbers bound n) e
+numbers-from bound first (suc count) l = elim (cases_Bool (nat_le bound first)) [
+  | inl t ↦ (let same : first ≡ bound = grind (arith, nat_tests) in
+      let n : suc count ≡ first + suc count - bound = omega arith in
+      numbers-all bound first (suc count) (omega arith) ∙ ap (λ k. numbers k (suc count)) same ∙ ap (λ k. numbers bound k) n)
+  | inr f ↦ (let below : first < bound = grind (arith, nat_tests) in
+      let n : first + 1 + count - bound ≡ first + suc count - bound = omega arith in
+      filter-dropped bound first (numbers (first + 1) count) below ∙ numbers-from bound (first + 1) count (omega arith) ∙ ap (λ k. numbers bound k) n)
 ]
 
-slots-step : (mark : ℕ) (p : Placed) (ps : List Placed) (b : Bool)
-    → slots_of (filter (λ (q : Placed). nat_le mark q.slot) ps) ≡ filter (λ s. nat_le mark s) (slots_of ps)
-    → slots_of (cond b (p ∷ filter (λ (q : Placed). nat_le mark q.slot) ps) (filter (λ (q : Placed). nat_le mark q.slot) ps))
-    ≡ cond b (p.slot ∷ filter (λ s. nat_le mark s) (slots_of ps)) (filter (λ s. nat_le mark s) (slots_of ps))
-slots-step mark p ps true e = ap (λ (l : List ℕ). p.slot ∷ l) e
-slots-step mark p ps false e = e
+slots-step : (bound : ℕ) (p : Placed) (ps : List Placed) (b : Bool)
+    → slots_of (filter (λ (q : Placed). nat_le bound q.slot) ps) ≡ filter (λ s. nat_le bound s) (slots_of ps)
+    → slots_of (cond b (p ∷ filter (λ (q : Placed). nat_le bound q.slot) ps) (filter (λ (q : Placed). nat_le bound q.slot) ps))
+    ≡ cond b (p.slot ∷ filter (λ s. nat_le bound s) (slots_of ps)) (filter (λ s. nat_le bound s) (slots_of ps))
+slots-step bound p ps true e = ap (λ (l : List ℕ). p.slot ∷ l) e
+slots-step bound p ps false e = e
 
-slots-filter : (mark : ℕ) (ps : List Placed) → slots_of (filter (λ (p : Placed). nat_le mark p.slot) ps) ≡ filter (λ s. nat_le mark s) (slots_of ps)
-slots-filter mark [] = refl
-slots-filter mark (p ∷ ps) = slots-step mark p ps (nat_le mark p.slot) (slots-filter mark ps)
+slots-filter : (bound : ℕ) (ps : List Placed) → slots_of (filter (λ (p : Placed). nat_le bound p.slot) ps) ≡ filter (λ s. nat_le bound s) (slots_of ps)
+slots-filter bound [] = refl
+slots-filter bound (p ∷ ps) = slots-step bound p ps (nat_le bound p.slot) (slots-filter bound ps)
 
-pub slots-from : (ps : List Placed) (cw next mark : ℕ) → cw ≤ mark → cw ≤ next → slots_of ps ≡ numbers cw (next - cw)
-    → slots_of (filter (λ (p : Placed). nat_le mark p.slot) ps) ≡ numbers mark (max next mark - mark)
-slots-from ps cw next mark l k e =
-    let n : cw + (next - cw) - mark ≡ max next mark - mark = omega arith in
-    slots-filter mark ps ∙ ap (λ (ns : List ℕ). filter (λ s. nat_le mark s) ns) e ∙ numbers-from mark cw (next - cw) l ∙ ap (λ k. numbers mark k) n
+pub slots-from : (ps : List Placed) (cw next bound : ℕ) → cw ≤ bound → cw ≤ next → slots_of ps ≡ numbers cw (next - cw)
+    → slots_of (filter (λ (p : Placed). nat_le bound p.slot) ps) ≡ numbers bound (max next bound - bound)
+slots-from ps cw next bound l k e =
+    let n : cw + (next - cw) - bound ≡ max next bound - bound = omega arith in
+    slots-filter bound ps ∙ ap (λ (ns : List ℕ). filter (λ s. nat_le bound s) ns) e ∙ numbers-from bound cw (next - cw) l ∙ ap (λ k. numbers bound k) n
 
 -- those of a plan
 

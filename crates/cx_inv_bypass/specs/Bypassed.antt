@@ -33,13 +33,13 @@ pub record GoesOn (w : World) (e : Event) (i : Round) : Type 0 where
   pub cw : ℕ
   pub end : ℕ
   pub finish : finish_at w e ≡ record { event = length w.events + 1; round = i; cw = cw; end = end } ∷ []
-  -- it proposes in each slot from the watermark to the end what the round before proposed there, and nothing else
+  -- it proposes in each slot from the chosen watermark to the end what the round before proposed there, and nothing else
   pub proposes : (s : ℕ) → cw ≤ s → s < end → (v : Value) × IsProposed w.sent before s v × IsProposed (change w e).sends i s v
   pub only : (j : Round) (s : ℕ) (v : Value) → IsProposed (change w e).sends j s v
       → (j ≡ i) × (cw ≤ s) × (s < end) × IsProposed w.sent before s v
 
--- A round that bypasses the first phase asks no acceptor, and proposes in each slot from its watermark to its end what the round before proposed
--- there (phase 1 bypassing, JSys 2021).
+-- A round that bypasses the first phase asks no acceptor, and proposes in each slot from its chosen watermark to its end what the round before
+-- proposed there (phase 1 bypassing, JSys 2021).
 abbrev pub BypassedRounds : Cluster → List Event → Type 0
 BypassedRounds c es =
     (then later : List Event) (e : Event) → es ≡ then ++ e ∷ later → (i : Round) → Bypasses (run c then) e i → GoesOn (run c then) e i

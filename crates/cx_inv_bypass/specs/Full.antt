@@ -14,7 +14,7 @@ use Rattle.cx_model.specs.Leader.{leader_rules, is_changed, round_of}
 use Rattle.cx_model.specs.Member.{Member}
 use Rattle.cx_inv_run.specs.States.{State, LeaderIn, durable_of}
 
--- the values fill the slots from the watermark up to the next one, in order, and each was proposed in this round
+-- the values fill the slots from the chosen watermark up to the next one, in order, and each was proposed in this round
 pub record IsFull (sent : List Letter) (i : Round) (cw next : ℕ) (proposed : List Placed) : Type 0 where
   pub window : cw ≤ next
   pub slots : map (λ (p : Placed). p.slot) proposed ≡ numbers cw (next - cw)

@@ -18,7 +18,8 @@ use Rattle.cx_model.specs.Replica.{replica_rules}
 use Rattle.cx_model.specs.Unbatcher.{unbatcher_rules}
 use Rattle.cx_model.specs.World.{World, Turns, act_of, durable_part}
 use Rattle.cx_inv_run.specs.Kinds.{IsSender, OfKind}
-use Rattle.cx_inv_run.proofs.Senders.{batcher_kinds, leader_kinds, proxy_kinds, acceptor_kinds, matchmaker_kinds, replica_kinds, unbatcher_kinds, reader_kinds, replacer_kinds}
+use Rattle.cx_inv_run.proofs.Senders.{batcher_kinds, proxy_kinds, acceptor_kinds, matchmaker_kinds, replica_kinds, unbatcher_kinds, reader_kinds}
+use Rattle.cx_inv_run.proofs.LeaderSenders.{leader_kinds, replacer_kinds}
 use Rattle.cx_inv_facts.proofs.Turns.{IsStill, by_turn}
 
 module _ (w : World) (act : Act) (me : RoleId) where

@@ -23,12 +23,12 @@ use Rattle.cx_msg.specs.declared.kept.Record.{Record}
 use Rattle.cx_msg.specs.declared.kept.Record.TheVariants as kept
 use Rattle.cx_msg.specs.declared.message.Msg.{Msg}
 use Rattle.cx_msg.specs.declared.message.Msg.TheVariants as msg
-use Rattle.cx_model.specs.Acceptor.{AcceptorDurable, acceptor_rules, acceptor_takes, acceptor_row, vote_at, is_of}
+use Rattle.cx_model.specs.Acceptor.{AcceptorDurable, acceptor_rules, acceptor_takes, acceptor_row, vote_at, is_of_round}
 use Rattle.cx_model.specs.Leader.{leader_rules}
 use Rattle.cx_model.specs.Matchmaker.{MatchmakerDurable, matchmaker_rules, matchmaker_takes, matchmaker_row, entry, entries_before, has_round, is_stopped, is_booted, set_of, in_set, at_work, match_a_row, garbage_a_row, match_read_row, stop_a_row, next_a_row, boot_in}
 use Rattle.cx_model.specs.Member.{Member}
 use Rattle.cx_model.specs.Names.{names}
-use Rattle.cx_model.specs.Outcome.{Outcome, answered, by_test, either_way}
+use Rattle.cx_model.specs.Outcome.{Outcome, only_word, by_test, either_way}
 use Rattle.cx_model.specs.Reader.{reader_rules}
 use Rattle.cx_model.specs.Replacer.{replacer_rules}
 use Rattle.cx_model.specs.Replica.{replica_rules}
@@ -40,7 +40,8 @@ use Rattle.cx_inv_run.specs.States.{State, BatcherIn, LeaderIn, ProxyIn, Replica
 use Rattle.cx_inv_run.proofs.Histories.{kept_longer}
 use Rattle.cx_inv_run.proofs.Members.{Member-both, Member-one, filter-Member}
 use Rattle.cx_inv_run.proofs.Rounds.{before_cases, before-both, same_round-true}
-use Rattle.cx_inv_run.proofs.Senders.{batcher_kinds, leader_kinds, proxy_kinds, replica_kinds, unbatcher_kinds, reader_kinds, replacer_kinds}
+use Rattle.cx_inv_run.proofs.Senders.{batcher_kinds, proxy_kinds, replica_kinds, unbatcher_kinds, reader_kinds}
+use Rattle.cx_inv_run.proofs.LeaderSenders.{leader_kinds, replacer_kinds}
 use Rattle.cx_inv_run.proofs.Steps.{always}
 use Rattle.cx_inv_match.specs.Facts.{Facts}
 use Rattle.cx_inv_match.specs.Words.{HasMark, HasPromise}
@@ -135,7 +136,7 @@ module _ (c : Cluster) (history : List KeptRecord) (sent : List Letter) (states 
   acceptor_told from (msg.Phase2A i s cw v) =
       either_way Told (is_before i voter.promise) _ _ (Member-one (SaysIn history) _ tt)
       (either_way Told (nat_lt s voter.cw) _ _ (λ d m. absurd m)
-      (either_way Told (is_of i (vote_at s voter.votes)) _ _ (Member-one (SaysIn history) _ tt)
+      (either_way Told (is_of_round i (vote_at s voter.votes)) _ _ (Member-one (SaysIn history) _ tt)
       (Member-one (SaysIn (entry_by acceptor (kept.Vote i s cw v) ∷ history)) _ tt)))
   acceptor_told from (msg.Inform i n) =
       either_way Told (is_before i voter.promise) _ _ (Member-one (SaysIn history) _ tt)
@@ -187,7 +188,7 @@ module _ (c : Cluster) (history : List KeptRecord) (sent : List Letter) (states 
 
   at_work_told : (o : Outcome (Unit {0})) → Answers o → Answers (at_work c matchmaker log o)
   at_work_told o h =
-      in_set_told (if is_stopped log then answered why.Stopped tt else o) (either_way Answers (is_stopped log) _ _ (λ d n. absurd n) h)
+      in_set_told (if is_stopped log then only_word why.Stopped tt else o) (either_way Answers (is_stopped log) _ _ (λ d n. absurd n) h)
 
   begins_told : (from : RoleId) (s : List ℕ) (w : Round) (es : List Entry) (o : Option (List ℕ)) → Answers (boot_in matchmaker from s w es o)
   begins_told from s w es None = one_more (kept.Boot s w es) _ tt

@@ -39,12 +39,13 @@ use Rattle.cx_inv_run.proofs.Histories.{durable_own, durable_other, set_running,
 use Rattle.cx_inv_run.proofs.Members.{Member-first, Member-one}
 use Rattle.cx_inv_run.proofs.Rounds.{before-itself}
 use Rattle.cx_inv_run.proofs.Snaps.{snap_same}
-use Rattle.cx_inv_run.proofs.Senders.{batcher_kinds, leader_kinds, proxy_kinds, acceptor_kinds, matchmaker_kinds, replica_kinds, unbatcher_kinds, reader_kinds, replacer_kinds}
+use Rattle.cx_inv_run.proofs.Senders.{batcher_kinds, proxy_kinds, acceptor_kinds, matchmaker_kinds, replica_kinds, unbatcher_kinds, reader_kinds}
+use Rattle.cx_inv_run.proofs.LeaderSenders.{leader_kinds, replacer_kinds}
 use Rattle.cx_inv_match.specs.Facts.{InState}
 use Rattle.cx_inv_match.specs.Words.{IsChosenIn}
 use Rattle.cx_inv_vote.proofs.Leaders.{leader_lands}
 use Rattle.cx_inv_vote.proofs.Send.{proposed_cases, retiring_cases}
-use Rattle.cx_inv_facts.specs.Ended.{IsColumnInformed, Retires, EndedIn, EndedState, IsEnded, Known, EndedSince}
+use Rattle.cx_inv_facts.specs.Ended.{IsColumnInformed, StageFacts, EndedIn, EndedState, IsEnded, Known, EndedSince}
 use Rattle.cx_inv_facts.proofs.EndedRows.{MsgFits, ends_on}
 use Rattle.cx_inv_facts.proofs.LeaderRows.{leader_next}
 use Rattle.cx_inv_facts.proofs.Next.{AllNext}
@@ -77,7 +78,7 @@ module _ (i : Round) (cw end : ℕ) where
       chosen = λ s l k. let x = h.chosen s l k in (x.0, chosen_more s x.0 x.1);
     }
 
-    retires_more : (k : Collection) (s : Stage) → Retires history sent i cw end k s → Retires longer more i cw end k s
+    retires_more : (k : Collection) (s : Stage) → StageFacts history sent i cw end k s → StageFacts longer more i cw end k s
     retires_more k Off h = tt
     retires_more k Informing h = h
     retires_more k Collecting h = column_more h

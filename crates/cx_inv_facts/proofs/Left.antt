@@ -33,9 +33,10 @@ use Rattle.cx_inv_run.specs.States.{State, BatcherIn, LeaderIn, ProxyIn, Replica
 use Rattle.cx_inv_run.proofs.KindLaws.{kinds_hold}
 use Rattle.cx_inv_run.proofs.Members.{Member-second}
 use Rattle.cx_inv_run.proofs.Rounds.{before-both}
-use Rattle.cx_inv_run.proofs.Senders.{batcher_kinds, proxy_kinds, acceptor_kinds, matchmaker_kinds, replica_kinds, unbatcher_kinds, reader_kinds, replacer_kinds}
+use Rattle.cx_inv_run.proofs.Senders.{batcher_kinds, proxy_kinds, acceptor_kinds, matchmaker_kinds, replica_kinds, unbatcher_kinds, reader_kinds}
+use Rattle.cx_inv_run.proofs.LeaderSenders.{replacer_kinds}
 use Rattle.cx_inv_run.proofs.Steps.{run_append, run_cluster, run_from_keeps, all_allowed}
-use Rattle.cx_inv_match.specs.Facts.{IsLast}
+use Rattle.cx_inv_match.specs.Facts.{IsLastRound}
 use Rattle.cx_inv_match.specs.Words.{IsLeft}
 use Rattle.cx_inv_match.proofs.Grow.{Grows}
 use Rattle.cx_inv_vote.proofs.Send.{proposed_cases}
@@ -48,7 +49,7 @@ use Rattle.cx_inv_facts.proofs.Ordered.{ordered}
 
 -- what is proposed in a round that was left in the past was proposed then
 abbrev Unproposed : List KeptRecord → List Letter → List KeptRecord → List Letter → (RoleId → State) → Type 0
-Unproposed past told history sent states = (j : Round) (s : ℕ) (v : Value) → IsLeft past j → IsProposed sent j s v → IsProposed told j s v
+Unproposed past sent_then history sent states = (j : Round) (s : ℕ) (v : Value) → IsLeft past j → IsProposed sent j s v → IsProposed sent_then j s v
 
 request_proposes : (n : ℕ) (e : Event) (j : Round) (s : ℕ) (v : Value) → IsProposed (request n e) j s v → ⊥
 request_proposes n (event.Write command batcher) j s v (from, to, g, cw, inl p) =
@@ -68,11 +69,11 @@ request_proposes n (event.Crash r) j s v x = x.4
 request_proposes n (event.Snap replica cut) j s v x = x.4
 request_proposes n (event.Restart r) j s v x = x.4
 
-module _ (past : List KeptRecord) (told : List Letter) where
-  module _ (history : List KeptRecord) (sent : List Letter) (states : RoleId → State) (h : Unproposed past told history sent states) where
+module _ (past : List KeptRecord) (sent_then : List Letter) where
+  module _ (history : List KeptRecord) (sent : List Letter) (states : RoleId → State) (h : Unproposed past sent_then history sent states) where
     -- a row that proposes nothing in such a round
     landed : {V : Type 0} (me : RoleId) (make : V → State) (o : Outcome V)
-        → ((j : Round) (s : ℕ) (v : Value) → IsLeft past j → IsProposed o.sends j s v → ⊥) → Lands (Unproposed past told) history sent states me make o
+        → ((j : Round) (s : ℕ) (v : Value) → IsLeft past j → IsProposed o.sends j s v → ⊥) → Lands (Unproposed past sent_then) history sent states me make o
     landed me make o none = record {
       whole = λ j s v l x. elim (proposed_cases sent o.sends j s v x) [ inl y ↦ h j s v l y | inr y ↦ absurd (none j s v l y) ];
       cut = λ r e j s v l x. h j s v l x;
@@ -80,7 +81,7 @@ module _ (past : List KeptRecord) (told : List Letter) where
 
     -- another kind of role
     calm : {V : Type 0} (me : RoleId) (make : V → State) (o : Outcome V) → (me.kind ≡ kind.Leader → ⊥) → OfKind me o
-        → Lands (Unproposed past told) history sent states me make o
+        → Lands (Unproposed past sent_then) history sent states me make o
     calm me make o other kinds = landed me make o (λ j s v l x. other (kinds.sends _ x.4).1)
 
   -- a leader proposes in its last round, which it hasn't left
@@ -93,7 +94,7 @@ module _ (past : List KeptRecord) (told : List Letter) where
 
     not_left : (own : Entry) → dur.own ≡ Some own → IsLeft past own.round → ⊥
     not_left own e x =
-        let last = subst (λ o. IsLast history me o) e (known.facts.last me) in
+        let last = subst (λ o. IsLastRound history me o) e (known.facts.last me) in
         let owner = known.facts.owner me own.round own.grid last.0 in
         before-both own.round x.0 x.2 (last.1 x.0 x.1 (subst (λ a. HasKept history a (kept.Round x.0 x.1)) (sym owner) (known.has _ x.3)))
 
@@ -102,7 +103,7 @@ module _ (past : List KeptRecord) (told : List Letter) where
         let own = (leads_on c me dur v i).own_sends _ x.4 in
         not_left own.0 own.1 (subst (λ k. IsLeft past k) own.2 l)
 
-  left_laws : (c : Cluster) → Laws c (λ n e. Unit {0}) (Known c past) (Unproposed past told)
+  left_laws : (c : Cluster) → Laws c (λ n e. Unit {0}) (Known c past) (Unproposed past sent_then)
   left_laws c = record {
     same = λ history sent states others same h j s v l x. h j s v l x;
     start = λ states starts j s v l x. absurd x.4;

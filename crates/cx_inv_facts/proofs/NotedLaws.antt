@@ -36,7 +36,7 @@ use Rattle.cx_inv_match.specs.Facts.{Facts, InState}
 use Rattle.cx_inv_vote.proofs.Steps.{facts_hold}
 use Rattle.cx_inv_facts.specs.Ended.{Known}
 use Rattle.cx_inv_facts.specs.Laws.{SourcesHold, OrderHolds}
-use Rattle.cx_inv_facts.specs.Sources.{IsNamed, LeaderNotes, ProxyNotes, SourceFacts, OrderFacts}
+use Rattle.cx_inv_facts.specs.Sources.{IsNamedByRefusal, LeaderNotes, ProxyNotes, SourceFacts, OrderFacts}
 use Rattle.cx_inv_facts.proofs.Done.{retires_after}
 use Rattle.cx_inv_facts.proofs.Moments.{to_turned, of_records}
 use Rattle.cx_inv_facts.proofs.NotedRows.{notes_on, proxy_notes}
@@ -80,7 +80,7 @@ module _ (c : Cluster) where
       retired = λ t. let r = h.retired t in (r.0, λ m k. has _ (r.1 m k));
     }
       where
-        named : IsNamed sent me v.seen → IsNamed more me v.seen
+        named : IsNamedByRefusal sent me v.seen → IsNamedByRefusal more me v.seen
         named (inl n) = inl (n.0, (n.1.0, has _ n.1.1))
         named (inr n) = inr (n.0, n.1, (n.2.0, has _ n.2.1))
 

@@ -36,11 +36,11 @@ use Rattle.cx_model.specs.declared.states.Promised.{Promised}
 use Rattle.cx_model.specs.declared.states.Stage.TheVariants.{Collecting, Retired}
 use Rattle.cx_model.specs.Collection.{Collection, collection_from, with_informed, with_forgotten, is_off, is_informing, is_collecting, is_retired}
 use Rattle.cx_model.specs.Facts.{LeaderWasTold}
-use Rattle.cx_model.specs.Leader.{LeaderDurable, LeaderVolatile, round_of, is_own, is_idle, is_matching, is_promising, is_leading, begin_in, finish, is_changed, matched_by, match_counted, promise_counted, with_seen, propose_in, collect_in, informed_counted, informed_in, forgotten_counted, is_past_window, is_settled, reaching, greatest_of, held_by, raised_to, set_learnt, leader_takes, tick_in, order_row, leader_row, has_no_room}
+use Rattle.cx_model.specs.Leader.{LeaderDurable, LeaderVolatile, round_of, is_own, is_idle, is_matching, is_promising, is_leading, begin_in, finish, is_changed, matched_by, match_counted, promise_counted, with_seen, propose_in, collect_in, informed_counted, informed_in, forgotten_counted, is_past_window, is_settled, count_reaching, greatest_of, held_by, raised_to, set_learnt, leader_takes, tick_in, order_row, leader_row, has_no_room}
 use Rattle.cx_model.specs.Matched.{enough, is_counted, live_entries, is_member_of, rows_whole}
 use Rattle.cx_model.specs.Member.{Member}
 use Rattle.cx_model.specs.Names.{names, names_grid}
-use Rattle.cx_model.specs.Outcome.{Outcome, answered, replied, by_test, either_way}
+use Rattle.cx_model.specs.Outcome.{Outcome, only_word, replied, by_test, either_way}
 use Rattle.cx_model.specs.Plan.{promised_by, has_promised, votes_told, greatest_cw, best_vote, voted_value, plan, placed_from}
 use Rattle.cx_model.specs.Proxy.{ProxyVolatile, pending_at, propose_over, vote_for, proxy_takes, proxy_tick, proxy_row}
 use Rattle.cx_model.specs.Proxy as proxy
@@ -51,7 +51,7 @@ use Rattle.cx_inv_run.proofs.Rounds.{same_round-true}
 use Rattle.cx_inv_match.specs.Facts.{AreOnce}
 use Rattle.cx_inv_vote.proofs.Moves.{is_informing-stage, is_collecting-stage}
 use Rattle.cx_inv_vote.proofs.Searches.{mark-cases, votes_from, Greatest, best_is_greatest, placed_at}
-use Rattle.cx_inv_facts.specs.Sources.{Came, IsNamed, IsPromised, IsReported, LeaderNotes, ProxyNotes}
+use Rattle.cx_inv_facts.specs.Sources.{Came, IsNamedByRefusal, IsPromised, IsReported, LeaderNotes, ProxyNotes}
 
 -- one that isn't counted is counted once
 once_marked : (a : ℕ) (ms : List ℕ) → (Member a ms → ⊥) → AreOnce ms → AreOnce (with_mark a ms)
@@ -67,7 +67,7 @@ not_in a ms f m = true≢false (sym (Member-is_in a ms m) ∙ f)
 -- what replicas reported
 
 -- a greater number in one place reaches no less
-reach_more : (k : ℕ) (held : List ℕ) (p n : ℕ) → slice_index_or held p 0 ≤ n → reaching k held ≤ reaching k (slice_set held p n)
+reach_more : (k : ℕ) (held : List ℕ) (p n : ℕ) → slice_index_or held p 0 ≤ n → count_reaching k held ≤ count_reaching k (slice_set held p n)
 reach_more k [] p n l = omega arith
 reach_more k (x ∷ xs) zero n l = elim (cases_Bool (nat_le k x)) [
   | inl t ↦ (let u : nat_le k n ≡ true = grind (arith, nat_tests) in rw (t, u) (omega arith))
@@ -88,10 +88,10 @@ greatest_there (n ∷ ns) = elim (cases_Bool (nat_le (greatest_of ns) n)) [
   ])
 ]
 
-held_reached : (count : ℕ) (held : List ℕ) → (held_by count held ≡ 0) ⊎ (count ≤ reaching (held_by count held) held)
-held_reached count held = elim (greatest_there (filter (λ n. nat_le count (reaching n held)) held)) [
+held_reached : (count : ℕ) (held : List ℕ) → (held_by count held ≡ 0) ⊎ (count ≤ count_reaching (held_by count held) held)
+held_reached count held = elim (greatest_there (filter (λ n. nat_le count (count_reaching n held)) held)) [
   | inl z ↦ inl z
-  | inr m ↦ inr (leb-true count (reaching (held_by count held) held) (Member-filter (λ n. nat_le count (reaching n held)) (held_by count held) held m).1)
+  | inr m ↦ inr (leb-true count (count_reaching (held_by count held) held) (Member-filter (λ n. nat_le count (count_reaching n held)) (held_by count held) held m).1)
 ]
 
 -- what acceptors reported
@@ -119,7 +119,7 @@ module _ (c : Cluster) (history : List KeptRecord) (sent : List Letter) (states 
   goes_on : (w : Why) (u : LeaderVolatile) (ds : List Letter) → Noted u → NotesOn (replied w u ds)
   goes_on w u ds h = record { after = λ j same. subst (λ r. LeaderNotes c sent me r u) (sym (same refl)) h }
 
-  stays : (w : Why) → NotesOn (answered w v)
+  stays : (w : Why) → NotesOn (only_word w v)
   stays w = goes_on w v [] notes
 
   -- what else changes doesn't matter
@@ -134,9 +134,9 @@ module _ (c : Cluster) (history : List KeptRecord) (sent : List Letter) (states 
   bypassed u h = record { seen = h.seen; proposed = h.proposed; cw = h.cw; once = h.once; retired = h.retired }
 
   -- a round that it heard of
-  heard : (mode : Mode) (j : Round) → IsNamed sent me j → Noted (record (with_seen j v) { mode = mode })
+  heard : (mode : Mode) (j : Round) → IsNamedByRefusal sent me j → Noted (record (with_seen j v) { mode = mode })
   heard mode j named = record {
-    seen = either_way (λ (r : Round). (r ≡ no_round) ⊎ IsNamed sent me r) (is_before v.seen j) j v.seen (inr named) notes.seen;
+    seen = either_way (λ (r : Round). (r ≡ no_round) ⊎ IsNamedByRefusal sent me r) (is_before v.seen j) j v.seen (inr named) notes.seen;
     proposed = notes.proposed;
     cw = notes.cw;
     once = notes.once;
@@ -185,7 +185,7 @@ module _ (c : Cluster) (history : List KeptRecord) (sent : List Letter) (states 
             let r = placed_at (λ s. voted_value (best_vote s (votes_told u.promises))) p.cw _ x m in
             elim (planned u.promises promises x.slot x refl (best_vote x.slot (votes_told u.promises)) refl r.2) [ inl e ↦ inl e | inr k ↦ inr (inl k) ];
         cw = elim (cw_told u.cw u.promises) [
-          | inl e ↦ subst (λ n. (n ≡ 0) ⊎ (IsPromised sent me n ⊎ (enough c ≤ reaching n u.held))) (sym e) h.cw
+          | inl e ↦ subst (λ n. (n ≡ 0) ⊎ (IsPromised sent me n ⊎ (enough c ≤ count_reaching n u.held))) (sym e) h.cw
           | inr q ↦ (let came = promises q.0 q.1 in
               inr (inl (subst (λ n. IsPromised sent me n) (sym q.2) (came.0, (q.0).votes, came.1))))
         ];
@@ -240,16 +240,16 @@ module _ (c : Cluster) (history : List KeptRecord) (sent : List Letter) (states 
         proposed = λ x m. notes.proposed x (Member-filter (λ (q : Placed). nat_le cw q.slot) x v.proposed m).0;
         cw = elim (cases_Bool (nat_le reached v.cw)) [
           | inl t ↦ (let e : max v.cw reached ≡ v.cw = grind (arith, nat_tests) in
-              subst (λ k. (k ≡ 0) ⊎ (IsPromised sent me k ⊎ (enough c ≤ reaching k held))) (sym e) still)
+              subst (λ k. (k ≡ 0) ⊎ (IsPromised sent me k ⊎ (enough c ≤ count_reaching k held))) (sym e) still)
           | inr f ↦ (let e : max v.cw reached ≡ reached = grind (arith, nat_tests) in
-              subst (λ k. (k ≡ 0) ⊎ (IsPromised sent me k ⊎ (enough c ≤ reaching k held))) (sym e)
+              subst (λ k. (k ≡ 0) ⊎ (IsPromised sent me k ⊎ (enough c ≤ count_reaching k held))) (sym e)
               (elim (held_reached (enough c) held) [ inl z ↦ inl z | inr l ↦ inr (inr l) ]))
         ];
         once = notes.once;
         retired = notes.retired;
       }
     where
-      still : (v.cw ≡ 0) ⊎ (IsPromised sent me v.cw ⊎ (enough c ≤ reaching v.cw (slice_set v.held p n)))
+      still : (v.cw ≡ 0) ⊎ (IsPromised sent me v.cw ⊎ (enough c ≤ count_reaching v.cw (slice_set v.held p n)))
       still = elim notes.cw [
         | inl z ↦ inl z
         | inr k ↦ (elim k [
@@ -338,7 +338,7 @@ module _ (c : Cluster) (history : List KeptRecord) (sent : List Letter) (states 
       (either_way NotesOn (is_counted from.index v.told) _ _ (stays why.Same)
       (answers_counted d.own _ (alike v.mode _ v.promises v.next v.end v.chosen) old_told))
   took from (msg.MatchNack j reason other) is_sent =
-      let named : IsNamed sent me other = inr (j, reason, (from, is_sent)) in
+      let named : IsNamedByRefusal sent me other = inr (j, reason, (from, is_sent)) in
       either_way NotesOn (is_idle v.mode || not (is_own d j) || not (is_in from.index v.set)) _ _ (goes_on why.Old _ [] (heard v.mode other named))
       (either_way NotesOn (has_no_room reason) _ _ (goes_on why.Full _ [] (heard v.mode other named)) (goes_on why.Nacked _ [] (heard Idle other named)))
   took from (msg.Phase1B j low votes) is_sent =
@@ -356,7 +356,7 @@ module _ (c : Cluster) (history : List KeptRecord) (sent : List Letter) (states 
         | inr n ↦ Member-one (λ (x : Promised). (i : Round) × Came sent me (msg.Phase1B i x.cw x.votes)) one (j, (from, is_sent)) q n
       ]
   took from (msg.Nack j promise) is_sent =
-      let named : IsNamed sent me promise = inl (j, (from, is_sent)) in
+      let named : IsNamedByRefusal sent me promise = inl (j, (from, is_sent)) in
       either_way NotesOn (is_idle v.mode || not (is_own d j)) _ _ (goes_on why.Old _ [] (heard v.mode promise named)) (goes_on why.Nacked _ [] (heard Idle promise named))
   took from (msg.Batch commands) is_sent = either_way NotesOn (is_leading v.mode) _ _ (proposed commands (from, is_sent) d.own) (stays why.Idle)
   took from (msg.ChosenIn j s) is_sent =

@@ -25,7 +25,8 @@ use Rattle.cx_inv_run.specs.Kinds.{IsKept, OfKind}
 use Rattle.cx_inv_run.specs.Laws.{Lands, Laws}
 use Rattle.cx_inv_run.specs.States.{State, BatcherIn, LeaderIn, ProxyIn, ReplicaIn, ReaderIn, ReplacerIn, plain, entry_by, with_record, durable_of, HoldsIn}
 use Rattle.cx_inv_run.proofs.Histories.{kept_cases, no_snap}
-use Rattle.cx_inv_run.proofs.Senders.{batcher_kinds, proxy_kinds, acceptor_kinds, matchmaker_kinds, replica_kinds, unbatcher_kinds, reader_kinds, replacer_kinds}
+use Rattle.cx_inv_run.proofs.Senders.{batcher_kinds, proxy_kinds, acceptor_kinds, matchmaker_kinds, replica_kinds, unbatcher_kinds, reader_kinds}
+use Rattle.cx_inv_run.proofs.LeaderSenders.{replacer_kinds}
 use Rattle.cx_inv_run.proofs.Steps.{always}
 use Rattle.cx_inv_match.specs.Facts.{Facts}
 use Rattle.cx_inv_vote.proofs.Steps.{facts_hold}

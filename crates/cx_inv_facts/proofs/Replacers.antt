@@ -25,7 +25,7 @@ use Rattle.cx_model.specs.Matched.{enough, first_set}
 use Rattle.cx_model.specs.Names.{names, names_set}
 use Rattle.cx_model.specs.Outcome.{Outcome, either_way}
 use Rattle.cx_model.specs.Promises.{HasKept}
-use Rattle.cx_model.specs.Replacer.{ReplacerDurable, ReplacerVolatile, replacer_rules, is_resting, is_stopping, is_deciding, is_booting, has_halted, joined, begin_in, halt_counted, next_counted, boot_counted, replacer_takes, tick_in, replacer_orders, replacer_row}
+use Rattle.cx_model.specs.Replacer.{ReplacerDurable, ReplacerVolatile, replacer_rules, is_resting, is_stopping, is_deciding, is_booting, has_halted, joined_entries, begin_in, halt_counted, next_counted, boot_counted, replacer_takes, tick_in, replacer_orders, replacer_row}
 use Rattle.cx_inv_run.specs.States.{State, durable_of}
 use Rattle.cx_inv_run.proofs.Rounds.{before-from_at_most}
 use Rattle.cx_inv_match.specs.Facts.{Facts}
@@ -51,7 +51,7 @@ module _ (c : Cluster) (history : List KeptRecord) (sent : List Letter) (states 
 
   halt_fine : (u : ReplacerVolatile) → Fine (halt_counted c me dur u)
   halt_fine u =
-      either_way Fine (nat_lt (length u.halts) (enough c)) _ _ tt (either_way Fine (nat_lt 254 (length (joined u.halts))) _ _ tt tt)
+      either_way Fine (nat_lt (length u.halts) (enough c)) _ _ tt (either_way Fine (nat_lt 254 (length (joined_entries u.halts))) _ _ tt tt)
 
   next_fine : (counted : List ℕ) → Fine (next_counted c me v counted)
   next_fine counted = either_way Fine (nat_lt (length counted) (enough c)) _ _ tt tt

@@ -20,7 +20,7 @@ use Rattle.cx_msg.specs.declared.message.Msg.{Msg}
 use Rattle.cx_msg.specs.declared.message.Msg.TheVariants as msg
 use Rattle.cx_model.specs.Collection.{is_retired}
 use Rattle.cx_model.specs.Facts.{HasRound, IsFinished, has_recorded, round_in}
-use Rattle.cx_model.specs.Leader.{LeaderVolatile, reaching}
+use Rattle.cx_model.specs.Leader.{LeaderVolatile, count_reaching}
 use Rattle.cx_model.specs.Matched.{enough}
 use Rattle.cx_model.specs.Member.{Member}
 use Rattle.cx_model.specs.Promises.{IsConfig}
@@ -33,10 +33,10 @@ abbrev pub Came : List Letter → RoleId → Msg → Type 0
 Came sent me m = (from : RoleId) × Member (letter from me m) sent
 
 -- a refusal that came to the leader names this round
-abbrev pub IsNamed : List Letter → RoleId → Round → Type 0
-IsNamed sent me j = ((i : Round) × Came sent me (msg.Nack i j)) ⊎ ((i : Round) × (reason : NackReason) × Came sent me (msg.MatchNack i reason j))
+abbrev pub IsNamedByRefusal : List Letter → RoleId → Round → Type 0
+IsNamedByRefusal sent me j = ((i : Round) × Came sent me (msg.Nack i j)) ⊎ ((i : Round) × (reason : NackReason) × Came sent me (msg.MatchNack i reason j))
 
--- a promise that came to the leader has this watermark
+-- a promise that came to the leader has this chosen watermark
 abbrev pub IsPromised : List Letter → RoleId → ℕ → Type 0
 IsPromised sent me cw = (i : Round) × (votes : List Vote) × Came sent me (msg.Phase1B i cw votes)
 
@@ -57,17 +57,17 @@ IsHandedIn sent me v = (commands : List Command) × (v ≡ Batch commands) × Ca
 
 pub record LeaderNotes (c : Cluster) (sent : List Letter) (me : RoleId) (i : Round) (v : LeaderVolatile) : Type 0 where
   -- the greatest round that it heard of
-  pub seen : (v.seen ≡ no_round) ⊎ IsNamed sent me v.seen
+  pub seen : (v.seen ≡ no_round) ⊎ IsNamedByRefusal sent me v.seen
   -- each value that it proposed, but for what fills a slot in which nothing was voted for
   pub proposed : (p : Placed) → Member p v.proposed → (p.value ≡ Noop) ⊎ (IsReported sent me p ⊎ IsHandedIn sent me p.value)
-  -- its watermark: enough of the numbers that replicas reported reach that far, where no promise has it
-  pub cw : (v.cw ≡ 0) ⊎ (IsPromised sent me v.cw ⊎ (enough c ≤ reaching v.cw v.held))
+  -- its chosen watermark: enough of the numbers that replicas reported reach that far, where no promise has it
+  pub cw : (v.cw ≡ 0) ⊎ (IsPromised sent me v.cw ⊎ (enough c ≤ count_reaching v.cw v.held))
   -- whom it counts while it retires rounds, it counts once; and once they are retired, enough matchmakers answered that they forgot them
   pub once : AreOnce v.collection.counted
   pub retired : is_retired v.collection.stage ≡ true → (enough c ≤ length v.collection.counted)
       × ((m : ℕ) → Member m v.collection.counted → Member (letter (role kind.Matchmaker m) me (msg.GarbageB i)) sent)
 
--- the greatest watermark that a proxy leader heard of
+-- the greatest chosen watermark that a proxy leader heard of
 abbrev pub ProxyNotes : List Letter → RoleId → ProxyVolatile → Type 0
 ProxyNotes sent me v = (v.known ≡ 0) ⊎ ((i : Round) × (g : Shape) × (s : ℕ) × (u : Value) × Came sent me (msg.Propose i g s v.known u))
 

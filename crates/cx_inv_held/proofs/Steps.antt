@@ -28,7 +28,8 @@ use Rattle.cx_model.specs.World.{run}
 use Rattle.cx_inv_run.specs.Laws.{Laws}
 use Rattle.cx_inv_run.specs.States.{State, Down, BatcherIn, LeaderIn, ProxyIn, ReplicaIn, ReaderIn, ReplacerIn, plain, fresh_state, durable_of, HoldsIn}
 use Rattle.cx_inv_run.proofs.Quorums.{length-below}
-use Rattle.cx_inv_run.proofs.Senders.{batcher_kinds, matchmaker_kinds, unbatcher_kinds, reader_kinds, replacer_kinds}
+use Rattle.cx_inv_run.proofs.Senders.{batcher_kinds, matchmaker_kinds, unbatcher_kinds, reader_kinds}
+use Rattle.cx_inv_run.proofs.LeaderSenders.{replacer_kinds}
 use Rattle.cx_inv_vote.proofs.Agree.{kept_is_chosen}
 use Rattle.cx_inv_held.specs.Held.{LowState, LowFacts}
 use Rattle.cx_inv_held.specs.Laws.{WatermarksHold, KeptWatermarks, SafeSnapshots}

@@ -35,9 +35,10 @@ use Rattle.cx_model.specs.Ordered.{machine_ordered}
 use Rattle.cx_model.specs.Outcome.{Outcome, by_test, either_way}
 use Rattle.cx_model.specs.Promises.{appended, held_in}
 use Rattle.cx_model.specs.Reader.{reader_rules}
-use Rattle.cx_model.specs.Renewed.{IsOrdered, renewed_folds}
+use Rattle.cx_model.specs.Renewed.{IsOrdered}
+use Rattle.cx_model.specs.RenewedLaws.{renewed_folds}
 use Rattle.cx_model.specs.Replacer.{replacer_rules}
-use Rattle.cx_model.specs.Replica.{IsTied, Machine, ReplicaDurable, ReplicaVolatile, before, chosen_row, fetch_found, fetch_row, fetched_by, held, notes_of, pieces, read_row, replica_after, replica_renewed, replica_row, replica_rules, replica_takes, snap_mark}
+use Rattle.cx_model.specs.Replica.{IsTied, Machine, ReplicaDurable, ReplicaVolatile, before, chosen_row, fetch_found, fetch_row, fetched_by, held, notes_of, pieces, read_row, replica_after, replica_renewed, replica_row, replica_rules, replica_takes, snap_limit}
 use Rattle.cx_model.specs.Request.{same_read}
 use Rattle.cx_model.specs.Rules.{folded}
 use Rattle.cx_model.specs.World.{list_after, list_of, log_of, run}
@@ -46,7 +47,8 @@ use Rattle.cx_inv_run.specs.Laws.{Lands, Laws}
 use Rattle.cx_inv_run.specs.States.{State, Down, BatcherIn, LeaderIn, ProxyIn, ReplicaIn, ReaderIn, ReplacerIn, plain, fresh_state, set_state, entry_by, snap_by, with_record, durable_of, log_in, Given, HoldsIn, Property}
 use Rattle.cx_inv_run.specs.Ties.{Ties}
 use Rattle.cx_inv_run.proofs.Histories.{by_role, durable_by_time, durable_else, durable_none, durable_other, durable_own, durable_snap, log_by_time, log_none, log_other, log_own, log_snap, set_running}
-use Rattle.cx_inv_run.proofs.Senders.{acceptor_kinds, batcher_kinds, leader_kinds, matchmaker_kinds, proxy_kinds, reader_kinds, replacer_kinds, replica_kinds, unbatcher_kinds}
+use Rattle.cx_inv_run.proofs.Senders.{acceptor_kinds, batcher_kinds, matchmaker_kinds, proxy_kinds, reader_kinds, replica_kinds, unbatcher_kinds}
+use Rattle.cx_inv_run.proofs.LeaderSenders.{leader_kinds, replacer_kinds}
 use Rattle.cx_inv_run.proofs.Sends.{keeps_only, replica_keeps}
 use Rattle.cx_inv_run.proofs.Steps.{always}
 use Rattle.cx_inv_run.proofs.TieLaws.{by_replica, ties_hold}
@@ -254,9 +256,9 @@ module _ (c : Cluster) (history : List KeptRecord) (sent : List Letter) (states 
       ∙ sym (ap (λ l. length l) (log_snap me p first history)))
       (λ f. ap (λ l. held_in l) (list_others (role kind.Replica q) me (written.Snap first) history f) ∙ h.lists q ∙ sym (ap (λ l. length l) (log_snap me q first history)))
 
-  mark_known : (p : ℕ) (d : ReplicaDurable) (v : ReplicaVolatile) → p < c.replicas → held d ≡ slots_held history p
-      → v.fetched ≤ slots_held history (before c (role kind.Replica p)) → snap_mark c d v ≤ slots_held history (before c (role kind.Replica p))
-  mark_known p d v within is few =
+  limit_known : (p : ℕ) (d : ReplicaDurable) (v : ReplicaVolatile) → p < c.replicas → held d ≡ slots_held history p
+      → v.fetched ≤ slots_held history (before c (role kind.Replica p)) → snap_limit c d v ≤ slots_held history (before c (role kind.Replica p))
+  limit_known p d v within is few =
       by_test (λ (n : ℕ). n ≤ slots_held history (before c (role kind.Replica p))) (c.replicas == 1) (held d) (min (held d) v.fetched)
       (λ t. subst (λ (k : ℕ). held d ≤ slots_held history k) (sym (alone c p t within)) (omega (arith, is)))
       (λ f. grind (arith, few))
@@ -288,11 +290,11 @@ module _ (c : Cluster) (history : List KeptRecord) (sent : List Letter) (states 
         let above = is.1 in
         let from : d.first ≤ first = omega (arith, above) in
         let few : v.fetched ≤ slots_held history (before c me) = subst (λ s. IsFetched c history p s) up (h.fetched p within) in
-        let mark : snap_mark c d v ≤ slots_held history (before c me) = mark_known p d v within (held_is d (log_in history p) (ties.tied p)) few in
+        let limit : snap_limit c d v ≤ slots_held history (before c me) = limit_known p d v within (held_is d (log_in history p) (ties.tied p)) few in
         let l = more (before c me) in
         let same : first_of longer me ≡ first = snap_first p first d refl (ties.tied p) from in
         let at = is.0 in
-        omega (arith, mark, l, same, at)
+        omega (arith, limit, l, same, at)
 
     others : (q : ℕ) → same_role (role kind.Replica q) me ≡ false → q < c.replicas → first_of longer (role kind.Replica q) ≤ slots_held longer (before c (role kind.Replica q))
     others q f within =

@@ -18,13 +18,13 @@ use Rattle.cx_msg.specs.declared.message.Msg.TheVariants as msg
 use Rattle.cx_model.specs.CommandList.{IsRight}
 use Rattle.cx_model.specs.Member.{Member, Begins}
 use Rattle.cx_model.specs.Outcome.{Outcome}
-use Rattle.cx_model.specs.Reader.{token}
+use Rattle.cx_model.specs.Reader.{make_token}
 use Rattle.cx_model.specs.World.{values_in}
 use Rattle.cx_inv_run.specs.Laws.{Lands}
 use Rattle.cx_inv_run.specs.States.{State, Down, set_state, entry_by, snap_by, with_record, log_in}
 use Rattle.cx_inv_run.proofs.Histories.{log_other, log_own, log_snap, same_role-true, set_running}
 use Rattle.cx_inv_run.proofs.Members.{Member-cases}
-use Rattle.cx_inv_list.specs.Told.{Requests, IsNoted, IsTold, ListSays, ListKeeps, InList, ListFacts, MayKeep, IsListed}
+use Rattle.cx_inv_list.specs.Told.{RequestPredicates, IsRightByReplica, IsAnswerToRead, ListSays, ListKeeps, InList, ListFacts, ListKeepsRecord, IsListed}
 use Rattle.cx_inv_list.proofs.Right.{grown_right}
 
 -- a replica's values only grow
@@ -40,16 +40,16 @@ log_grows me r history p = go (cases_Bool (same_role (role kind.Replica p) me))
 
 -- so what is said by them stays so
 
-module _ (q : Requests) (history longer : List KeptRecord) (grows : (p : ℕ) → Begins (log_in history p) (log_in longer p)) where
+module _ (q : RequestPredicates) (history longer : List KeptRecord) (grows : (p : ℕ) → Begins (log_in history p) (log_in longer p)) where
   still_right : (p client seq at : ℕ) (reply : Reply) → IsRight (log_in history p) client seq at reply → IsRight (log_in longer p) client seq at reply
   still_right p client seq at reply h =
       let more = grows p in
       subst (λ vs. IsRight vs client seq at reply) (sym more.1) (grown_right (log_in history p) more.0 client seq at reply h)
 
-  still_noted : (client seq at : ℕ) (reply : Reply) → IsNoted history client seq at reply → IsNoted longer client seq at reply
+  still_noted : (client seq at : ℕ) (reply : Reply) → IsRightByReplica history client seq at reply → IsRightByReplica longer client seq at reply
   still_noted client seq at reply (p, h) = (p, still_right p client seq at reply h)
 
-  still_told : (p : ℕ) (t : Token) (n : ℕ) (found : Option (List ℕ)) → IsTold q history p t n found → IsTold q longer p t n found
+  still_told : (p : ℕ) (t : Token) (n : ℕ) (found : Option (List ℕ)) → IsAnswerToRead q history p t n found → IsAnswerToRead q longer p t n found
   still_told p t n found h =
       let more = grows p in
       let l = h.within in
@@ -72,23 +72,23 @@ module _ (q : Requests) (history longer : List KeptRecord) (grows : (p : ℕ) �
   still_says from to (msg.ReadReq seq replica key) h = h
   still_says from to (msg.Read t n key) h = h
   still_says from to (msg.SessRead seq n key) h = h
-  still_says from to (msg.ReadAnswer seq n found) h = still_told from.index (token to.index seq) n found h
+  still_says from to (msg.ReadAnswer seq n found) h = still_told from.index (make_token to.index seq) n found h
   still_says from to other h = tt
 
-with_says : (q : Requests) (history : List KeptRecord) (me : RoleId) (o : Option Record) (from to : RoleId) (m : Msg)
+with_says : (q : RequestPredicates) (history : List KeptRecord) (me : RoleId) (o : Option Record) (from to : RoleId) (m : Msg)
     → ListSays q history from to m → ListSays q (with_record me o history) from to m
 with_says q history me None from to m h = h
 with_says q history me (Some r) from to m h = still_says q history (entry_by me r ∷ history) (log_grows me r history) from to m h
 
-with_keeps : (q : Requests) (history : List KeptRecord) (me : RoleId) (o : Option Record) → MayKeep q o → ((k : KeptRecord) → Member k history → ListKeeps q k.what)
+with_keeps : (q : RequestPredicates) (history : List KeptRecord) (me : RoleId) (o : Option Record) → ListKeepsRecord q o → ((k : KeptRecord) → Member k history → ListKeeps q k.what)
     → (k : KeptRecord) → Member k (with_record me o history) → ListKeeps q k.what
 with_keeps q history me None h old k m = old k m
 with_keeps q history me (Some r) h old k (inl e) = subst (λ (x : KeptRecord). ListKeeps q x.what) (sym e) h
 with_keeps q history me (Some r) h old k (inr m) = old k m
 
 -- the facts after a record or none, more datagrams, and a new state of one role
-pub list_after : (q : Requests) (history : List KeptRecord) (sent : List Letter) (states : RoleId → State) → ListFacts q history sent states
-    → (me : RoleId) (o : Option Record) (ds : List Letter) (s : State) → MayKeep q o
+pub list_after : (q : RequestPredicates) (history : List KeptRecord) (sent : List Letter) (states : RoleId → State) → ListFacts q history sent states
+    → (me : RoleId) (o : Option Record) (ds : List Letter) (s : State) → ListKeepsRecord q o
     → ((d : Letter) → Member d ds → ListSays q (with_record me o history) d.from d.to d.msg) → InList q s
     → ListFacts q (with_record me o history) (sent ++ ds) (set_state me s states)
 list_after q history sent states facts me o ds s keeps says running = record {
@@ -97,17 +97,17 @@ list_after q history sent states facts me o ds s keeps says running = record {
   running = set_running (λ a x. InList q x) me s states running (λ a e. facts.running a);
 }
 
-pub listed_lands : {V : Type 0} (q : Requests) (history : List KeptRecord) (sent : List Letter) (states : RoleId → State) → ListFacts q history sent states
+pub listed_lands : {V : Type 0} (q : RequestPredicates) (history : List KeptRecord) (sent : List Letter) (states : RoleId → State) → ListFacts q history sent states
     → (me : RoleId) (make : V → State) (o : Outcome V) → IsListed q history me make o → Lands (ListFacts q) history sent states me make o
 listed_lands q history sent states facts me make o h = record {
   whole = list_after q history sent states facts me o.kept o.sends (make o.volatile) h.keeps h.sends h.state;
   cut = λ r e.
       subst (λ ds. ListFacts q (entry_by me r ∷ history) ds (set_state me Down states)) (append-nil sent)
-      (list_after q history sent states facts me (Some r) [] Down (subst (λ k. MayKeep q k) e h.keeps) (λ d m. absurd m) tt);
+      (list_after q history sent states facts me (Some r) [] Down (subst (λ k. ListKeepsRecord q k) e h.keeps) (λ d m. absurd m) tt);
 }
 
 -- a replica forgets values
-pub list_snapped : (q : Requests) (history : List KeptRecord) (sent : List Letter) (states : RoleId → State) → ListFacts q history sent states
+pub list_snapped : (q : RequestPredicates) (history : List KeptRecord) (sent : List Letter) (states : RoleId → State) → ListFacts q history sent states
     → (me : RoleId) (first : ℕ) → ListFacts q (snap_by me first ∷ history) sent states
 list_snapped q history sent states facts me first = record {
   keeps = kept_one;

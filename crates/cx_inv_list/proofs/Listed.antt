@@ -22,54 +22,54 @@ use Rattle.cx_msg.specs.declared.kept.Record.{Record}
 use Rattle.cx_msg.specs.declared.kept.Record.TheVariants as kept
 use Rattle.cx_msg.specs.declared.message.Msg.{Msg}
 use Rattle.cx_msg.specs.declared.message.Msg.TheVariants as msg
-use Rattle.cx_model.specs.Acceptor.{AcceptorDurable, acceptor_rules, acceptor_row, acceptor_takes, with_vote, votes_from, vote_at, is_of}
+use Rattle.cx_model.specs.Acceptor.{AcceptorDurable, acceptor_rules, acceptor_row, acceptor_takes, with_vote, votes_from_slot, vote_at, is_of_round}
 use Rattle.cx_model.specs.Batcher.{BatcherVolatile, batcher_row, batcher_takes, send_batch}
 use Rattle.cx_model.specs.Member.{Member}
 use Rattle.cx_model.specs.Names.{names}
-use Rattle.cx_model.specs.Outcome.{Outcome, answered, replied, either_way}
+use Rattle.cx_model.specs.Outcome.{Outcome, only_word, replied, either_way}
 use Rattle.cx_model.specs.Rules.{written_after}
 use Rattle.cx_model.specs.Unbatcher.{answer_to, unbatcher_row, unbatcher_takes}
 use Rattle.cx_inv_run.specs.Kinds.{IsKept, IsSender, OfKind}
 use Rattle.cx_inv_run.specs.States.{State, BatcherIn, plain, Given, entry_by, durable_of, with_record}
 use Rattle.cx_inv_run.proofs.Members.{Member-both, Member-one, Member-map, Member-filter}
-use Rattle.cx_inv_list.specs.Told.{Requests, AreAsked, AreVotesAsked, ListSays, ListKeeps, InList, MayKeep, IsListed}
+use Rattle.cx_inv_list.specs.Told.{RequestPredicates, AreAsked, AreVotesAsked, ListSays, ListKeeps, InList, ListKeepsRecord, IsListed}
 
 -- what all rows share
 
-abbrev pub Sends : Requests → List KeptRecord → List Letter → Type 0
+abbrev pub Sends : RequestPredicates → List KeptRecord → List Letter → Type 0
 Sends q history ds = (d : Letter) → Member d ds → ListSays q history d.from d.to d.msg
 
-pub listed_if : {V : Type 0} {q : Requests} {history : List KeptRecord} {me : RoleId} {make : V → State} (b : Bool) (x y : Outcome V)
+pub listed_if : {V : Type 0} {q : RequestPredicates} {history : List KeptRecord} {me : RoleId} {make : V → State} (b : Bool) (x y : Outcome V)
     → IsListed q history me make x → IsListed q history me make y → IsListed q history me make (if b then x else y)
 listed_if {V = V} {q = q} {history = history} {me = me} {make = make} b x y f g = either_way (λ (o : Outcome V). IsListed q history me make o) b x y f g
 
-pub listed_answered : {V : Type 0} {q : Requests} {history : List KeptRecord} {me : RoleId} (make : V → State) (w : Why) (v : V)
-    → InList q (make v) → IsListed q history me make (answered w v)
+pub listed_answered : {V : Type 0} {q : RequestPredicates} {history : List KeptRecord} {me : RoleId} (make : V → State) (w : Why) (v : V)
+    → InList q (make v) → IsListed q history me make (only_word w v)
 listed_answered make w v h = record { state = h; keeps = tt; sends = λ d m. absurd m }
 
-pub listed_replied : {V : Type 0} {q : Requests} {history : List KeptRecord} {me : RoleId} (make : V → State) (w : Why) (v : V) (ds : List Letter)
+pub listed_replied : {V : Type 0} {q : RequestPredicates} {history : List KeptRecord} {me : RoleId} (make : V → State) (w : Why) (v : V) (ds : List Letter)
     → InList q (make v) → Sends q history ds → IsListed q history me make (replied w v ds)
 listed_replied make w v ds h s = record { state = h; keeps = tt; sends = s }
 
-pub one_send : (q : Requests) (history : List KeptRecord) (from to : RoleId) (m : Msg) → ListSays q history from to m → Sends q history (letter from to m ∷ [])
+pub one_send : (q : RequestPredicates) (history : List KeptRecord) (from to : RoleId) (m : Msg) → ListSays q history from to m → Sends q history (letter from to m ∷ [])
 one_send q history from to m h = Member-one (λ (d : Letter). ListSays q history d.from d.to d.msg) (letter from to m) h
 
-pub each_send : {X : Type 0} (q : Requests) (history : List KeptRecord) (make : X → Letter) (xs : List X)
+pub each_send : {X : Type 0} (q : RequestPredicates) (history : List KeptRecord) (make : X → Letter) (xs : List X)
     → ((x : X) → Member x xs → ListSays q history (make x).from (make x).to (make x).msg) → Sends q history (map make xs)
 each_send q history make xs h d m =
     let x = Member-map make d xs m in
     subst (λ (y : Letter). ListSays q history y.from y.to y.msg) (sym x.2) (h x.0 x.1)
 
-pub both_send : (q : Requests) (history : List KeptRecord) (xs ys : List Letter) → Sends q history xs → Sends q history ys → Sends q history (xs ++ ys)
+pub both_send : (q : RequestPredicates) (history : List KeptRecord) (xs ys : List Letter) → Sends q history xs → Sends q history ys → Sends q history (xs ++ ys)
 both_send q history xs ys f g = Member-both (λ (d : Letter). ListSays q history d.from d.to d.msg) xs ys f g
 
 -- a delivered datagram says what it says
-abbrev pub Heard : Requests → List KeptRecord → Input → Type 0
+abbrev pub Heard : RequestPredicates → List KeptRecord → Input → Type 0
 Heard q history (Take d) = ListSays q history d.from d.to d.msg
 Heard q history Tick = Unit {0}
 Heard q history (Order order) = Unit {0}
 
-pub heard : (q : Requests) (history : List KeptRecord) (sent : List Letter) → Sends q history sent → (me : RoleId) (i : Input) → Given sent me i → Heard q history i
+pub heard : (q : RequestPredicates) (history : List KeptRecord) (sent : List Letter) → Sends q history sent → (me : RoleId) (i : Input) → Given sent me i → Heard q history i
 heard q history sent says me (Take d) g = says d g.1
 heard q history sent says me Tick g = tt
 heard q history sent says me (Order order) g = tt
@@ -81,7 +81,7 @@ IsCalm kind.Matchmaker = Unit {0}
 IsCalm kind.Replacer = Unit {0}
 IsCalm other = ⊥
 
-module _ (q : Requests) (k : Kind) (calm : IsCalm k) where
+module _ (q : RequestPredicates) (k : Kind) (calm : IsCalm k) where
   calm_says : (history : List KeptRecord) (from to : RoleId) (m : Msg) → IsSender k m → ListSays q history from to m
   calm_says history from to (msg.Submit command) s = absurd (subst IsCalm s calm)
   calm_says history from to (msg.Batch commands) s = absurd (subst IsCalm s calm)
@@ -96,11 +96,11 @@ module _ (q : Requests) (k : Kind) (calm : IsCalm k) where
   calm_says history from to (msg.ReadAnswer seq n found) s = absurd (subst IsCalm s calm)
   calm_says history from to other s = tt
 
-  calm_keeps : (o : Option Record) → IsKept k o → MayKeep q o
+  calm_keeps : (o : Option Record) → IsKept k o → ListKeepsRecord q o
   calm_keeps (Some (kept.Vote i s cw v)) e = absurd (subst IsCalm e calm)
   calm_keeps other s = tt
 
-pub calm_listed : (q : Requests) (history : List KeptRecord) {V : Type 0} (make : V → State) (me : RoleId) (o : Outcome V)
+pub calm_listed : (q : RequestPredicates) (history : List KeptRecord) {V : Type 0} (make : V → State) (me : RoleId) (o : Outcome V)
     → IsCalm me.kind → InList q (make o.volatile) → OfKind me o → IsListed q history me make o
 calm_listed q history make me o calm state own = record {
   state = state;
@@ -119,19 +119,19 @@ with_vote-cases u v (w ∷ us) m =
     (λ j. j)
     (λ j. ⊎_elim (λ e. inr (inl e)) (λ x. ⊎_elim inl (λ y. inr (inr y)) (with_vote-cases u v us x)) j) k) m
 
-from_asked : (q : Requests) (low : ℕ) (votes : List Vote) → AreVotesAsked q votes → AreVotesAsked q (votes_from low votes)
+from_asked : (q : RequestPredicates) (low : ℕ) (votes : List Vote) → AreVotesAsked q votes → AreVotesAsked q (votes_from_slot low votes)
 from_asked q low votes h u m = h u (Member-filter (λ (v : Vote). nat_le low v.slot) u votes m).0
 
-after_asked : (q : Requests) (d : AcceptorDurable) (w : Written) → ListKeeps q w → AreVotesAsked q d.votes → AreVotesAsked q (written_after acceptor_rules d w).votes
+after_asked : (q : RequestPredicates) (d : AcceptorDurable) (w : Written) → ListKeeps q w → AreVotesAsked q d.votes → AreVotesAsked q (written_after acceptor_rules d w).votes
 after_asked q d (written.Record (kept.Vote i s cw v)) k h =
     λ u m. ⊎_elim (λ e. subst (λ (x : Vote). AreAsked q (commands_of x.value)) (sym e) k) (from_asked q (max d.cw cw) d.votes h u)
-    (with_vote-cases u (record { round = i; slot = s; value = v }) (votes_from (max d.cw cw) d.votes) m)
+    (with_vote-cases u (record { round = i; slot = s; value = v }) (votes_from_slot (max d.cw cw) d.votes) m)
 after_asked q d (written.Record (kept.Water i cw)) k h = from_asked q (max d.cw cw) d.votes h
 after_asked q d (written.Record other) k h = h
 after_asked q d (written.Snap first) k h = λ u m. absurd m
 
 -- what an acceptor remembers was asked for, since what it kept was
-pub votes_asked : (q : Requests) (history : List KeptRecord) (a : RoleId) → ((k : KeptRecord) → Member k history → ListKeeps q k.what)
+pub votes_asked : (q : RequestPredicates) (history : List KeptRecord) (a : RoleId) → ((k : KeptRecord) → Member k history → ListKeeps q k.what)
     → AreVotesAsked q (durable_of acceptor_rules a history).votes
 unfolding durable_of
 votes_asked q [] a h = λ u m. absurd m
@@ -140,7 +140,7 @@ votes_asked q (k ∷ history) a h =
     (after_asked q (durable_of acceptor_rules a history) k.what (h k (inl refl)) (votes_asked q history a (λ x m. h x (inr m))))
     (votes_asked q history a (λ x m. h x (inr m)))
 
-module _ (q : Requests) (c : Cluster) (history : List KeptRecord) (me : RoleId) where
+module _ (q : RequestPredicates) (c : Cluster) (history : List KeptRecord) (me : RoleId) where
   -- one datagram that says nothing of the list, or the votes, with a record or none
   plain_one : (w : Why) (to : RoleId) (m : Msg) → ListSays q history me to m → IsListed q history me plain (replied w tt (letter me to m ∷ []))
   plain_one w to m h = listed_replied plain w tt (letter me to m ∷ []) tt (one_send q history me to m h)
@@ -155,7 +155,7 @@ module _ (q : Requests) (c : Cluster) (history : List KeptRecord) (me : RoleId) 
       listed_if (is_before i d.promise) _ _ (plain_one _ _ _ tt) (listed_if (same_round i d.promise) _ _ (plain_one _ _ _ h) (keep_one _ _ _ _ tt h))
   acceptor_takes_listed d h from to (msg.Phase2A i s cw v) says =
       listed_if (is_before i d.promise) _ _ (plain_one _ _ _ tt)
-      (listed_if (nat_lt s d.cw) _ _ (listed_answered plain _ tt tt) (listed_if (is_of i (vote_at s d.votes)) _ _ (plain_one _ _ _ tt) (keep_one _ _ _ _ says tt)))
+      (listed_if (nat_lt s d.cw) _ _ (listed_answered plain _ tt tt) (listed_if (is_of_round i (vote_at s d.votes)) _ _ (plain_one _ _ _ tt) (keep_one _ _ _ _ says tt)))
   acceptor_takes_listed d h from to (msg.Inform i cw) says =
       listed_if (is_before i d.promise) _ _ (plain_one _ _ _ tt) (listed_if (same_round i d.promise && nat_le cw d.cw) _ _ (plain_one _ _ _ tt) (keep_one _ _ _ _ tt tt))
   acceptor_takes_listed d h from to (msg.PreRead u w) says = plain_one _ _ _ tt

@@ -32,7 +32,7 @@ use Rattle.cx_model.specs.Member.{Member}
 use Rattle.cx_model.specs.Names.{names}
 use Rattle.cx_model.specs.Outcome.{Outcome, either_way}
 use Rattle.cx_model.specs.Reader as reader
-use Rattle.cx_model.specs.Reader.{Asked, Batch, ReaderDurable, ReaderVolatile, token}
+use Rattle.cx_model.specs.Reader.{Asked, Batch, ReaderDurable, ReaderVolatile, make_token}
 use Rattle.cx_model.specs.Replica as replica
 use Rattle.cx_model.specs.Replica.{IsTied, Machine, ReplicaDurable, ReplicaVolatile, held, machine_from, machine_of, replica_after, replica_rules}
 use Rattle.cx_model.specs.Request.{same_read}
@@ -40,13 +40,13 @@ use Rattle.cx_inv_run.specs.States.{ReplicaIn, ReaderIn, entry_by, durable_of, l
 use Rattle.cx_inv_run.proofs.Histories.{log_own}
 use Rattle.cx_inv_run.proofs.Members.{Member-both, Member-one, Member-filter}
 use Rattle.cx_inv_run.proofs.Tying.{held_is, tied_more}
-use Rattle.cx_inv_list.specs.Told.{AreWanted, BatchWanted, Requests, Wants, IsTold, ListSays, InList, IsListed}
+use Rattle.cx_inv_list.specs.Told.{AreWanted, BatchWanted, RequestPredicates, Wants, IsAnswerToRead, ListSays, InList, IsListed}
 use Rattle.cx_inv_list.proofs.Listed.{Sends, Heard, listed_if, listed_answered, listed_replied, one_send, each_send, both_send}
 use Rattle.cx_inv_list.proofs.Right.{are_at, log_right, results_right, map_is_fold}
 
 -- a reader
 
-module _ (q : Requests) (c : Cluster) (history : List KeptRecord) (me : RoleId) where
+module _ (q : RequestPredicates) (c : Cluster) (history : List KeptRecord) (me : RoleId) where
   abbrev ReaderListed : Outcome ReaderVolatile → Type 0
   ReaderListed o = IsListed q history me ReaderIn o
 
@@ -122,7 +122,7 @@ module _ (q : Requests) (c : Cluster) (history : List KeptRecord) (me : RoleId) 
         (listed_if (rows_whole (live_entries one.told) (reader.acked_by one.acks)) _ _ (finish_listed one h (reader.greatest_mark one.acks)) (listed_answered ReaderIn _ _ (waiting, h)))))
 
     takes_listed : BatchWanted q v.running → (from to : RoleId) (m : Msg) → ListSays q history from to m → ReaderListed (reader.reader_takes c me d v from m)
-    takes_listed batch from to (msg.ReadReq seq r key) says = request_listed batch (reader.asked_for (token from.index seq) r key) says
+    takes_listed batch from to (msg.ReadReq seq r key) says = request_listed batch (reader.asked_for (make_token from.index seq) r key) says
     takes_listed batch from to (msg.MatchReadAck u w es) says = match_ack_listed batch from u w es v.running batch
     takes_listed batch from to (msg.PreReadAck u w n) says = pre_read_listed batch from u w n v.running batch
     takes_listed batch from to (msg.Sets s) says = listed_if (is_above s v.set) _ _ (anew_listed v.running batch) (listed_answered ReaderIn _ _ (waiting, batch))
@@ -146,8 +146,8 @@ module _ (q : Requests) (c : Cluster) (history : List KeptRecord) (me : RoleId) 
   reader_listed d v h (Order order) says = listed_answered ReaderIn _ _ h
 
 -- what a replica with these values answers to a read
-told_now : (q : Requests) (history : List KeptRecord) (p : ℕ) (log : List Value) → log_in history p ≡ log → (n : ℕ) (m : Machine) → n ≡ length log → m ≡ machine_of log
-    → (r : Deferred) → Wants q r.token r.key → IsTold q history p r.token n (text_at r.key m.map)
+told_now : (q : RequestPredicates) (history : List KeptRecord) (p : ℕ) (log : List Value) → log_in history p ≡ log → (n : ℕ) (m : Machine) → n ≡ length log → m ≡ machine_of log
+    → (r : Deferred) → Wants q r.token r.key → IsAnswerToRead q history p r.token n (text_at r.key m.map)
 told_now q history p log e n m count machine r h = record {
   key = r.key;
   wanted = h;
@@ -160,7 +160,7 @@ told_now q history p log e n m count machine r h = record {
 
 -- a replica, whose durable part is tied to all values that it kept
 
-module _ (q : Requests) (c : Cluster) (history : List KeptRecord) (p : ℕ) (tied : IsTied (durable_of replica_rules (role kind.Replica p) history) (log_in history p)) where
+module _ (q : RequestPredicates) (c : Cluster) (history : List KeptRecord) (p : ℕ) (tied : IsTied (durable_of replica_rules (role kind.Replica p) history) (log_in history p)) where
   abbrev me : RoleId
   me = role kind.Replica p
 
@@ -244,7 +244,7 @@ module _ (q : Requests) (c : Cluster) (history : List KeptRecord) (p : ℕ) (tie
     replica_takes_listed : (from to : RoleId) (m : Msg) → ListSays q history from to m → ReplicaListed (replica.replica_takes c me own v from m)
     replica_takes_listed from to (msg.Chosen s value) says = chosen_listed s value
     replica_takes_listed from to (msg.Read t n key) says = read_listed (record { token = t; mark = n; key = key }) (inl says)
-    replica_takes_listed from to (msg.SessRead seq n key) says = read_listed (record { token = token from.index seq; mark = n; key = key }) (inr says)
+    replica_takes_listed from to (msg.SessRead seq n key) says = read_listed (record { token = make_token from.index seq; mark = n; key = key }) (inr says)
     replica_takes_listed from to (msg.Fetch s) says = listed_if (nat_lt s own.first) _ _ (listed_answered ReplicaIn _ _ (still_deferred from s)) (fetch_listed from s (slice_get own.log (s - own.first)))
     replica_takes_listed from to other says = listed_answered ReplicaIn _ _ h
 

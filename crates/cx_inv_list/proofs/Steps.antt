@@ -19,7 +19,7 @@ use Rattle.cx_model.specs.Leader.{leader_rules}
 use Rattle.cx_model.specs.Matchmaker.{matchmaker_rules}
 use Rattle.cx_model.specs.Member.{Member}
 use Rattle.cx_model.specs.Promises.{WasRead, WasSession}
-use Rattle.cx_model.specs.Reader.{reader_rules, token}
+use Rattle.cx_model.specs.Reader.{reader_rules, make_token}
 use Rattle.cx_model.specs.Replacer.{replacer_rules}
 use Rattle.cx_model.specs.Request.{request, token_of}
 use Rattle.cx_model.specs.World.{World, change, step, run_from, run}
@@ -27,23 +27,24 @@ use Rattle.cx_inv_run.specs.Laws.{Laws, heard_of, AllAllowed}
 use Rattle.cx_inv_run.specs.States.{State, Down, BatcherIn, LeaderIn, ProxyIn, ReplicaIn, ReaderIn, ReplacerIn, plain, fresh_state, set_state, durable_of, HoldsIn}
 use Rattle.cx_inv_run.specs.Ties.{Ties}
 use Rattle.cx_inv_run.proofs.Members.{Member-first, Member-second, Member-cases}
-use Rattle.cx_inv_run.proofs.Senders.{matchmaker_kinds, replacer_kinds}
+use Rattle.cx_inv_run.proofs.Senders.{matchmaker_kinds}
+use Rattle.cx_inv_run.proofs.LeaderSenders.{replacer_kinds}
 use Rattle.cx_inv_run.proofs.Steps.{along, run_keeps}
 use Rattle.cx_inv_run.proofs.TieLaws.{ties_hold}
-use Rattle.cx_inv_list.specs.Told.{Requests, ListSays, InList, ListFacts}
+use Rattle.cx_inv_list.specs.Told.{RequestPredicates, ListSays, InList, ListFacts}
 use Rattle.cx_inv_list.proofs.Keep.{list_after, list_snapped, listed_lands}
 use Rattle.cx_inv_list.proofs.Leaders.{leader_listed, proxy_listed}
 use Rattle.cx_inv_list.proofs.Listed.{heard, one_send, votes_asked, acceptor_listed, batcher_listed, calm_listed, unbatcher_listed}
 use Rattle.cx_inv_list.proofs.Replicas.{reader_listed, replica_listed}
 
 -- what may be said of the requests that go out
-abbrev pub IsAllowed : Requests → ℕ → Event → Type 0
+abbrev pub IsAllowed : RequestPredicates → ℕ → Event → Type 0
 IsAllowed q n (event.Write command batcher) = q.asked command
-IsAllowed q n (event.Read client seq floor reader replica key) = q.wanted (token client seq) key
-IsAllowed q n (event.Session client seq floor replica key) = q.sought (token client seq) key
+IsAllowed q n (event.Read client seq floor reader replica key) = q.wanted (make_token client seq) key
+IsAllowed q n (event.Session client seq floor replica key) = q.sought (make_token client seq) key
 IsAllowed q n other = Unit {0}
 
-request_says : (q : Requests) (history : List KeptRecord) (n : ℕ) (e : Event) → IsAllowed q n e
+request_says : (q : RequestPredicates) (history : List KeptRecord) (n : ℕ) (e : Event) → IsAllowed q n e
     → (d : Letter) → Member d (request n e) → ListSays q history d.from d.to d.msg
 request_says q history n (event.Write command batcher) h = one_send q history (role kind.Client command.client) (role kind.Batcher batcher) (msg.Submit command) h
 request_says q history n (event.Read client seq floor reader replica key) h =
@@ -58,7 +59,7 @@ request_says q history n (event.Snap p cut) h = λ d m. absurd m
 request_says q history n (event.Crash r) h = λ d m. absurd m
 request_says q history n (event.Restart r) h = λ d m. absurd m
 
-fresh_in : (q : Requests) (c : Cluster) (k : Kind) → InList q (fresh_state c k)
+fresh_in : (q : RequestPredicates) (c : Cluster) (k : Kind) → InList q (fresh_state c k)
 fresh_in q c kind.Client = tt
 fresh_in q c kind.Batcher = λ k m. absurd m
 fresh_in q c kind.Leader = (λ p m. absurd m, λ p m. absurd m)
@@ -71,16 +72,16 @@ fresh_in q c kind.Reader = (λ r m. absurd m, tt)
 fresh_in q c kind.Replacer = tt
 
 -- one role's new state, and nothing else
-new_state : (q : Requests) (history : List KeptRecord) (sent : List Letter) (states : RoleId → State) → ListFacts q history sent states
+new_state : (q : RequestPredicates) (history : List KeptRecord) (sent : List Letter) (states : RoleId → State) → ListFacts q history sent states
     → (me : RoleId) (s : State) → InList q s → ListFacts q history sent (set_state me s states)
 new_state q history sent states facts me s h =
     subst (λ ds. ListFacts q history ds (set_state me s states)) (append-nil sent) (list_after q history sent states facts me None [] s tt (λ d m. absurd m) h)
 
-running_in : (q : Requests) (history : List KeptRecord) (sent : List Letter) (states : RoleId → State) → ListFacts q history sent states
+running_in : (q : RequestPredicates) (history : List KeptRecord) (sent : List Letter) (states : RoleId → State) → ListFacts q history sent states
     → (me : RoleId) (s : State) → states me ≡ s → InList q s
 running_in q history sent states facts me s e = subst (λ x. InList q x) e (facts.running me)
 
-pub list_laws : (q : Requests) (c : Cluster) → Laws c (IsAllowed q) Ties (ListFacts q)
+pub list_laws : (q : RequestPredicates) (c : Cluster) → Laws c (IsAllowed q) Ties (ListFacts q)
 list_laws q c = record {
   same = λ history sent states others e facts. record {
     keeps = facts.keeps;
@@ -153,7 +154,7 @@ run_has w [] h m = m
 run_has w (e ∷ es) h m = run_has (step w e) es h (step_has w e h m)
 
 -- what these events asked for
-abbrev pub requests_in : List Happened → Requests
+abbrev pub requests_in : List Happened → RequestPredicates
 requests_in events = record {
   asked = λ command. (b : ℕ) × Member {X = Happened} (record { event = event.Write command b; why = why.Sent }) events;
   wanted = λ t key. WasRead events t.client t.seq key;

@@ -18,7 +18,7 @@ use Rattle.cx_model.specs.Matched.{greatest_watermark, live_entries}
 use Rattle.cx_model.specs.Matchmaker.{entry}
 use Rattle.cx_model.specs.Member.{Member}
 use Rattle.cx_model.specs.Promises.{IsConfig}
-use Rattle.cx_model.specs.Replacer.{answers_of, with_entry, sorted_into, joined, later_halt, latest, next_of, to_decide}
+use Rattle.cx_model.specs.Replacer.{answers_of, with_entry, sorted_into, joined_entries, later_halt, latest, next_of, to_decide}
 use Rattle.cx_inv_run.proofs.Members.{Member-map, Member-filter, is_in-Member, Member-is_in}
 use Rattle.cx_inv_run.proofs.Quorums.{once_count}
 use Rattle.cx_inv_run.proofs.Rounds.{before_cases, before-not, before-to_at_least, at_most-trans, itself-not_before, least, same_round-true}
@@ -176,11 +176,11 @@ module _ (c : Cluster) (history : List KeptRecord) (sent : List Letter) (facts :
   low_water h m = top_above (answers_of halts) h.answer (answer_in halts h m)
 
   -- WHAT THEY TOLD IS A JOIN
-  join_told : (h : Halt) → Member h halts → (e : Entry) → is_before e.round water ≡ false → Member e h.answer.entries → Has e.round (joined halts)
+  join_told : (h : Halt) → Member h halts → (e : Entry) → is_before e.round water ≡ false → Member e h.answer.entries → Has e.round (joined_entries halts)
   join_told h m e l k =
       sorted_has [] (live_entries (answers_of halts)) e (live_has (answers_of halts) h.answer e l (answer_in halts h m) k)
 
-  join_only : (e : Entry) → Member e (joined halts) → IsConfig history e.round e.grid × (is_before e.round water ≡ false)
+  join_only : (e : Entry) → Member e (joined_entries halts) → IsConfig history e.round e.grid × (is_before e.round water ≡ false)
   join_only e m = go (sorted_of [] (live_entries (answers_of halts)) e m)
     where
       go : Member e [] ⊎ Member e (live_entries (answers_of halts)) → IsConfig history e.round e.grid × (is_before e.round water ≡ false)
@@ -197,17 +197,17 @@ module _ (c : Cluster) (history : List KeptRecord) (sent : List Letter) (facts :
 
   module _ (one_grid : (i : Round) (g h : Shape) → IsConfig history i g → IsConfig history i h → g ≡ h) where
     -- an entry that is told stands in the join itself, since a round has one grid
-    join_exact : (h : Halt) → Member h halts → (e : Entry) → is_before e.round water ≡ false → Member e h.answer.entries → Member e (joined halts)
+    join_exact : (h : Halt) → Member h halts → (e : Entry) → is_before e.round water ≡ false → Member e h.answer.entries → Member e (joined_entries halts)
     join_exact h m e l k =
         let r = join_told h m e l k in
         let same : r.0 ≡ e.grid = one_grid e.round r.0 e.grid (join_only (entry e.round r.0) r.1).0 ((says h m).only e k) in
-        subst (λ g. Member (entry e.round g) (joined halts)) same r.1
+        subst (λ g. Member (entry e.round g) (joined_entries halts)) same r.1
 
-    join_watermark : IsWatermark history water (joined halts)
+    join_watermark : IsWatermark history water (joined_entries halts)
     join_watermark = go (top_told (answers_of halts))
       where
         told : (h : Halt) → Member h halts → water ≡ h.answer.watermark → IsWatermark history h.answer.watermark h.answer.entries
-            → IsWatermark history water (joined halts)
+            → IsWatermark history water (joined_entries halts)
         told h m e (inl none) = inl (e ∙ none)
         told h m e (inr x) =
             let k : Member (entry water x.1.0) h.answer.entries = subst (λ w. Member (entry w x.1.0) h.answer.entries) (sym e) x.1.1 in
@@ -216,13 +216,13 @@ module _ (c : Cluster) (history : List KeptRecord) (sent : List Letter) (facts :
               (x.1.0, join_exact h m (entry water x.1.0) (itself-not_before water) k),
             )
 
-        go : (water ≡ no_round) ⊎ ((a : MatchAnswer) × Member a (answers_of halts) × (water ≡ a.watermark)) → IsWatermark history water (joined halts)
+        go : (water ≡ no_round) ⊎ ((a : MatchAnswer) × Member a (answers_of halts) × (water ≡ a.watermark)) → IsWatermark history water (joined_entries halts)
         go (inl e) = inl e
         go (inr r) =
             let h = answer_from halts r.0 r.1 in
             told h.0 h.1 (r.2 ∙ ap (λ (a : MatchAnswer). a.watermark) h.2) (says h.0 h.1).raised
 
-    pub halts_join : IsJoin c history set water (joined halts)
+    pub halts_join : IsJoin c history set water (joined_entries halts)
     halts_join = record {
       who = who;
       most = halted_count c set halts once known enough;

@@ -146,7 +146,7 @@ module _ (c : Cluster) (past history : List KeptRecord) (passed sent : List Lett
       ⊎ ((t : List ℕ) × (w : Round) × (es : List Entry) × HasBoot past (role kind.Matchmaker m) t w es × (is_before w i ≡ false))
 
   -- an answer that is given later: its watermark isn't below any that the member had at the earlier moment, nor below the one with which it began
-  pub record Marks (m : ℕ) (w : Round) : Type 0 where
+  pub record IsLaterAnswer (m : ℕ) (w : Round) : Type 0 where
     pub running : HasStopped past (role kind.Matchmaker m) → ⊥
     pub garbages : (v : Round) (g : Shape) → HasGarbage past (role kind.Matchmaker m) v g → is_before w v ≡ false
     pub boots : (t : List ℕ) (v : Round) (xs : List Entry) → HasBoot past (role kind.Matchmaker m) t v xs → is_before w v ≡ false
@@ -155,17 +155,17 @@ module _ (c : Cluster) (past history : List KeptRecord) (passed sent : List Lett
 
   module _ (i : Round) (n : ℕ) (p : List ℕ) (nth_p : IsNth c past n p) (forgot : ℕ → Bool) (enough : c.f < how_many p forgot)
       (have : (m : ℕ) → forgot m ≡ true → Forgot m i) (k : ℕ) (s : List ℕ) (nth : IsNth c history k s)
-      (who : ℕ → Bool) (most : c.f < how_many s who) (marks : (m : ℕ) → who m ≡ true → (w : Round) × Marks m w) where
+      (who : ℕ → Bool) (most : c.f < how_many s who) (later_answers : (m : ℕ) → who m ≡ true → (w : Round) × IsLaterAnswer m w) where
     -- once more than half of a set have forgotten the rounds below i, each later matching is told a watermark from i on
-    pub retired_told : (m : ℕ) × (t : who m ≡ true) × (is_before (marks m t).0 i ≡ false)
+    pub retired_told : (m : ℕ) × (t : who m ≡ true) × (is_before (later_answers m t).0 i ≡ false)
     retired_told = go (cases_lt n k) (cases_lt k n)
       where
         now : IsNth c history n p
         now = more_nth c past history more n p nth_p
 
-        at_common : (m : ℕ) → who m ≡ true → Forgot m i → (x : ℕ) × (t : who x ≡ true) × (is_before (marks x t).0 i ≡ false)
-        at_common m t (inl y) = (m, t, at_most-trans i y.0 (marks m t).0 y.3 ((marks m t).1.garbages y.0 y.1 y.2))
-        at_common m t (inr y) = (m, t, at_most-trans i y.1 (marks m t).0 y.4 ((marks m t).1.boots y.0 y.1 y.2 y.3))
+        at_common : (m : ℕ) → who m ≡ true → Forgot m i → (x : ℕ) × (t : who x ≡ true) × (is_before (later_answers x t).0 i ≡ false)
+        at_common m t (inl y) = (m, t, at_most-trans i y.0 (later_answers m t).0 y.3 ((later_answers m t).1.garbages y.0 y.1 y.2))
+        at_common m t (inr y) = (m, t, at_most-trans i y.1 (later_answers m t).0 y.4 ((later_answers m t).1.boots y.0 y.1 y.2 y.3))
 
         joined : (w : Round) (es : List Entry) (join : IsJoin c history p w es) (m : ℕ) → join.who m ≡ true → Forgot m i → is_before w i ≡ false
         joined w es join m t (inl y) = at_most-trans i y.0 w y.3 (join.garbages m t y.0 y.1 (more _ y.2))
@@ -182,7 +182,7 @@ module _ (c : Cluster) (past history : List KeptRecord) (passed sent : List Lett
             → (t : List ℕ) (v : Round) (xs : List Entry) → HasBoot history (role kind.Matchmaker m) t v xs → is_before v i ≡ false → is_before w i ≡ false
         on r w es join m t u v xs x low = at_most-trans i v w low (join.boots m t u v xs x)
 
-        later : (a : ℕ) → a ≡ k → n < a → (x : ℕ) × (t : who x ≡ true) × (is_before (marks x t).0 i ≡ false)
+        later : (a : ℕ) → a ≡ k → n < a → (x : ℕ) × (t : who x ≡ true) × (is_before (later_answers x t).0 i ≡ false)
         later zero e l = absurd (omega arith)
         later (suc a) e l =
             let x = some_passes c s who most in
@@ -190,18 +190,18 @@ module _ (c : Cluster) (past history : List KeptRecord) (passed sent : List Lett
             ⊎_elim
             (λ first. let r = nth_meet c history sent facts 0 (suc a) (first_set c) s refl h x.0 first x.1 in let q = r.0 in absurd (omega arith))
             (λ b. let low = tells_boot c history sent facts n (λ w es. is_before w i ≡ false) base on (suc a) s l h x.0 x.1 b.0 b.1 b.2 b.3 in
-            (x.0, x.2, at_most-trans i b.1 (marks x.0 x.2).0 low b.4))
-            (marks x.0 x.2).1.began
+            (x.0, x.2, at_most-trans i b.1 (later_answers x.0 x.2).0 low b.4))
+            (later_answers x.0 x.2).1.began
 
         member : (m : ℕ) → Forgot m i → IsMember c past (role kind.Matchmaker m)
         member m (inl y) = then.members (role kind.Matchmaker m) (inl (y.0, (y.1, inr y.2)))
         member m (inr y) = inr (y.0, y.1, y.2, y.3)
 
-        go : (n < k) ⊎ (k ≤ n) → (k < n) ⊎ (n ≤ k) → (x : ℕ) × (t : who x ≡ true) × (is_before (marks x t).0 i ≡ false)
+        go : (n < k) ⊎ (k ≤ n) → (k < n) ⊎ (n ≤ k) → (x : ℕ) × (t : who x ≡ true) × (is_before (later_answers x t).0 i ≡ false)
         go (inl l) o = later k refl l
         go (inr l) (inl b) =
             let x = some_passes c p forgot enough in
-            absurd (no_later n p nth_p x.0 x.1 (member x.0 (have x.0 x.2)) k s nth b who most (λ m t. (marks m t).1.running))
+            absurd (no_later n p nth_p x.0 x.1 (member x.0 (have x.0 x.2)) k s nth b who most (λ m t. (later_answers m t).1.running))
         go (inr l) (inr b) =
             let e : k ≡ n = omega arith in
             let same : p ≡ s = nth_once c history sent facts n p s now (subst (λ z. IsNth c history z s) e nth) in

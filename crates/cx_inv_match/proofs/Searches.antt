@@ -19,7 +19,7 @@ use Rattle.cx_model.specs.Matched.{is_counted, greatest_watermark, entries_told,
 use Rattle.cx_model.specs.Matchmaker.{entry, has_round}
 use Rattle.cx_model.specs.Member.{Member}
 use Rattle.cx_model.specs.Plan.{promised_by, votes_told, greatest_cw, end_told, greater_vote, best_vote, placed_from}
-use Rattle.cx_inv_match.specs.Facts.{AreOnce, told_by}
+use Rattle.cx_inv_match.specs.Facts.{AreOnce, answering_matchmakers}
 use Rattle.cx_inv_match.specs.Words.{how_many}
 use Rattle.cx_inv_run.proofs.Members.{Member-cases, Member-first, Member-second, Member-map, Member-filter, filter-Member, any-Member, Member-any, none-Member, all-Member, Member-is_in}
 use Rattle.cx_inv_run.proofs.Quorums.{row-Member, column-Member, once_count}
@@ -31,40 +31,40 @@ differ_number i j f e = true≢false (sym (subst (λ k. (i == k) ≡ true) e (nu
 -- the matchmakers that answered
 
 -- who is counted has reported
-pub told_by-counted : (m : ℕ) (told : List MatchAnswer) → Member m (told_by told) → is_counted m told ≡ true
+pub told_by-counted : (m : ℕ) (told : List MatchAnswer) → Member m (answering_matchmakers told) → is_counted m told ≡ true
 told_by-counted m [] k = absurd k
 told_by-counted m (a ∷ told) (inl e) = Member-any (λ (x : MatchAnswer). x.matchmaker == m) a (a ∷ told) (inl refl) (subst (λ n. (n == m) ≡ true) e (number_itself m))
 told_by-counted m (a ∷ told) (inr k) = let r = any-Member (λ (x : MatchAnswer). x.matchmaker == m) told (told_by-counted m told k) in
     Member-any (λ (x : MatchAnswer). x.matchmaker == m) r.0 (a ∷ told) (inr r.1) r.2
 
-pub told_member : (m : ℕ) (told : List MatchAnswer) → Member m (told_by told) → (a : MatchAnswer) × Member a told × (m ≡ a.matchmaker)
+pub told_member : (m : ℕ) (told : List MatchAnswer) → Member m (answering_matchmakers told) → (a : MatchAnswer) × Member a told × (m ≡ a.matchmaker)
 told_member m [] k = absurd k
 told_member m (a ∷ told) (inl e) = (a, inl refl, e)
 told_member m (a ∷ told) (inr k) = let r = told_member m told k in (r.0, inr r.1, r.2)
 
-pub told_more : (told : List MatchAnswer) (a : MatchAnswer) (m : ℕ) → Member m (told_by (told ++ a ∷ [])) → Member m (told_by told) ⊎ (m ≡ a.matchmaker)
+pub told_more : (told : List MatchAnswer) (a : MatchAnswer) (m : ℕ) → Member m (answering_matchmakers (told ++ a ∷ [])) → Member m (answering_matchmakers told) ⊎ (m ≡ a.matchmaker)
 told_more [] a m (inl e) = inr e
 told_more [] a m (inr k) = absurd k
 told_more (x ∷ told) a m (inl e) = inl (inl e)
 told_more (x ∷ told) a m (inr k) = elim (told_more told a m k) [ inl p ↦ inl (inr p) | inr q ↦ inr q ]
 
 -- one more that wasn't counted
-pub once_more : (told : List MatchAnswer) (a : MatchAnswer) → (Member a.matchmaker (told_by told) → ⊥) → AreOnce (told_by told) → AreOnce (told_by (told ++ a ∷ []))
+pub once_more : (told : List MatchAnswer) (a : MatchAnswer) → (Member a.matchmaker (answering_matchmakers told) → ⊥) → AreOnce (answering_matchmakers told) → AreOnce (answering_matchmakers (told ++ a ∷ []))
 once_more [] a new once = (λ m. m, tt)
 once_more (x ∷ told) a new once = (
   λ m. elim (told_more told a x.matchmaker m) [ inl p ↦ once.0 p | inr q ↦ new (inl (sym q)) ],
   once_more told a (λ m. new (inr m)) once.1,
 )
 
-told_length : (told : List MatchAnswer) → length (told_by told) ≡ length told
+told_length : (told : List MatchAnswer) → length (answering_matchmakers told) ≡ length told
 told_length [] = refl
 told_length (a ∷ told) = let e = told_length told in omega arith
 
 -- as many members of a set have answered as answers were counted
-pub told_count : (c : Cluster) (set : List ℕ) (told : List MatchAnswer) → AreOnce (told_by told) → ((m : ℕ) → Member m (told_by told) → Member m set)
-    → c.f < length told → c.f < how_many set (λ m. is_in m (told_by told))
+pub told_count : (c : Cluster) (set : List ℕ) (told : List MatchAnswer) → AreOnce (answering_matchmakers told) → ((m : ℕ) → Member m (answering_matchmakers told) → Member m set)
+    → c.f < length told → c.f < how_many set (λ m. is_in m (answering_matchmakers told))
 told_count c set told once known enough =
-    let l = once_count AreOnce (λ m ms o. o) (λ m. is_in m (told_by told)) (told_by told) set once known (λ m k. Member-is_in m (told_by told) k) in
+    let l = once_count AreOnce (λ m ms o. o) (λ m. is_in m (answering_matchmakers told)) (answering_matchmakers told) set once known (λ m k. Member-is_in m (answering_matchmakers told) k) in
     let e = told_length told in
     omega arith
 

@@ -10,14 +10,14 @@ use Rattle.cx_field.specs.declared.parts.Entry.{Entry}
 use Rattle.cx_msg.specs.Letter.{Letter}
 use Rattle.cx_msg.specs.declared.input.KeptRecord.{KeptRecord}
 use Rattle.cx_model.specs.Member.{Member}
-use Rattle.cx_inv_match.specs.Words.{HasMatch, HasBoot, HasNext, IsUsed, IsNext, IsBoot, IsMember, SetFacts}
+use Rattle.cx_inv_match.specs.Words.{HasMatch, HasBoot, HasNext, IsUsed, IsNextSet, IsBoot, IsMember, SetFacts}
 use Rattle.cx_inv_match.proofs.Grow.{Grows, grown_next, grown_boot, grown_member}
 
 module _ (c : Cluster) (history : List KeptRecord) (sent : List Letter) (longer : List KeptRecord) (wider : List Letter)
     (grows : Grows history sent longer wider) (facts : SetFacts c history) where
   -- The facts on sets, from what the longer history may have more: a set that was accepted, a log that began, a round that was recorded.
   pub grown_sets :
-      ((m : RoleId) (b : Round) (t : List ℕ) → HasNext longer m b t → HasNext history m b t ⊎ (IsNext c history m b t × ((o : RoleId) (u : List ℕ) → HasNext longer o b u → u ≡ t)))
+      ((m : RoleId) (b : Round) (t : List ℕ) → HasNext longer m b t → HasNext history m b t ⊎ (IsNextSet c history m b t × ((o : RoleId) (u : List ℕ) → HasNext longer o b u → u ≡ t)))
       → ((m : RoleId) (s : List ℕ) (w : Round) (es : List Entry) → HasBoot longer m s w es
       → HasBoot history m s w es ⊎ (Member m.index s × IsBoot c history s w es × ((i : Round) (g : Shape) → HasMatch longer m i g → (e : Entry) → Member e es → is_before e.round i ≡ true)))
       → ((m : RoleId) (i : Round) (g : Shape) → HasMatch longer m i g

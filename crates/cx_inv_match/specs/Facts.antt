@@ -38,7 +38,7 @@ use Rattle.cx_model.specs.Names.{names_set}
 use Rattle.cx_model.specs.Reader.{Batch, ReaderVolatile, is_matched}
 use Rattle.cx_model.specs.Replacer.{ReplacerDurable, ReplacerVolatile, replacer_rules}
 use Rattle.cx_inv_run.specs.States.{State, Down, Plain, BatcherIn, LeaderIn, ProxyIn, ReplicaIn, ReaderIn, ReplacerIn, durable_of, log_in}
-use Rattle.cx_inv_match.specs.Words.{HasMatch, HasGarbage, HasRound, HasMark, HasPromise, HasLow, IsChosenIn, IsChosen, IsMatched, IsSafe, IsCollected, IsAnswer, IsPromise, HasBoot, HasNext, HasBallot, IsHalt, IsKnown, IsDecided, IsClosed, IsNext, IsJoin, IsBoot, IsWatermark, HasStopped, SetFacts}
+use Rattle.cx_inv_match.specs.Words.{HasMatch, HasGarbage, HasRound, HasMark, HasPromise, HasLow, IsChosenIn, IsChosen, IsMatched, IsSafe, IsCollected, IsAnswer, IsPromise, HasBoot, HasNext, HasBallot, IsHalt, IsKnown, IsDecided, IsClosed, IsNextSet, IsJoin, IsBoot, IsWatermark, HasStopped, SetFacts}
 
 -- What each kind of datagram says of the history. A kind that isn't named says nothing here.
 abbrev pub Says : Cluster → List KeptRecord → List Letter → RoleId → Msg → Type 0
@@ -66,9 +66,9 @@ AreOnce [] = Unit {0}
 AreOnce (n ∷ ns) = (Member n ns → ⊥) × AreOnce ns
 
 -- the matchmakers that answered, in the order of counting
-abbrev pub told_by : List MatchAnswer → List ℕ
-told_by [] = []
-told_by (a ∷ told) = a.matchmaker ∷ told_by told
+abbrev pub answering_matchmakers : List MatchAnswer → List ℕ
+answering_matchmakers [] = []
+answering_matchmakers (a ∷ told) = a.matchmaker ∷ answering_matchmakers told
 
 -- a leader that still asks matchmakers or acceptors: nothing of its round was proposed, nobody was asked to forget earlier ones for it, and it
 -- isn't retiring them
@@ -79,8 +79,8 @@ pub record IsMatching (c : Cluster) (history : List KeptRecord) (sent : List Let
   -- the matchmakers that were counted are members of one set; while it asks them, of the set that it knows
   pub set : List ℕ
   pub set_known : IsKnown c history set
-  pub once : AreOnce (told_by v.told)
-  pub known : (m : ℕ) → Member m (told_by v.told) → Member m set
+  pub once : AreOnce (answering_matchmakers v.told)
+  pub known : (m : ℕ) → Member m (answering_matchmakers v.told) → Member m set
 
 -- how far retiring is
 pub record IsInforming (history : List KeptRecord) (own : Entry) (end : ℕ) (k : Collection) : Type 0 where
@@ -104,7 +104,7 @@ pub record IsReady (c : Cluster) (history : List KeptRecord) (sent : List Letter
 pub record IsLeading (c : Cluster) (history : List KeptRecord) (sent : List Letter) (own : Entry) (v : LeaderVolatile) : Type 0 where
   pub config : IsConfig history own.round own.grid
   pub matched : IsMatched c history own.round
-  -- what was proposed in the round lies below the next slot, and from the watermark on it is remembered, one value a slot
+  -- what was proposed in the round lies below the next slot, and from the chosen watermark on it is remembered, one value a slot
   pub below_next : (s : ℕ) (u : Value) → IsProposed sent own.round s u → s < v.next
   pub remembered : (s : ℕ) (u : Value) → IsProposed sent own.round s u → (s < v.cw) ⊎ Member {X = Placed} (record { slot = s; value = u }) v.proposed
   pub once : (s : ℕ) (u w : Value) → Member {X = Placed} (record { slot = s; value = u }) v.proposed → Member {X = Placed} (record { slot = s; value = w }) v.proposed → u ≡ w
@@ -122,7 +122,7 @@ abbrev pub InMode : Cluster → List KeptRecord → List Letter → Option Entry
 InMode c history sent None v mode = is_idle mode ≡ true
 InMode c history sent (Some own) v Idle = Unit {0}
 InMode c history sent (Some own) v Matching =
-    IsMatching c history sent own v × ((m : ℕ) → Member m (told_by v.told) → Member m v.set) × (is_changed own.round ≡ true → IsReady c history sent own v)
+    IsMatching c history sent own v × ((m : ℕ) → Member m (answering_matchmakers v.told) → Member m v.set) × (is_changed own.round ≡ true → IsReady c history sent own v)
 InMode c history sent (Some own) v Phase1 = IsMatching c history sent own v × (c.f < length v.told)
 InMode c history sent (Some own) v Leading = IsLeading c history sent own v
 
@@ -207,12 +207,12 @@ pub record IsAcceptor (history : List KeptRecord) (a : RoleId) (d : AcceptorDura
   pub low : (d.cw ≡ 0) ⊎ ((j : Round) × HasMark history a j d.cw)
   pub top : (j : Round) (s : ℕ) (v : Value) → HasVoted history a j s v → s < d.top
 
--- a matchmaker's watermark is none, or it forgot the earlier rounds for it itself, or began with it
+-- a matchmaker's retirement watermark is none, or it forgot the earlier rounds for it itself, or began with it
 abbrev pub IsOwn : List KeptRecord → RoleId → Round → Type 0
 IsOwn history m w = (w ≡ no_round) ⊎ (((g : Shape) × HasGarbage history m w g) ⊎ ((t : List ℕ) × (es : List Entry) × HasBoot history m t w es))
 
 -- so is a matchmaker
-pub record IsLog (c : Cluster) (history : List KeptRecord) (sent : List Letter) (m : RoleId) (d : MatchmakerDurable) : Type 0 where
+pub record IsMatchmaker (c : Cluster) (history : List KeptRecord) (sent : List Letter) (m : RoleId) (d : MatchmakerDurable) : Type 0 where
   pub all : (j : Round) (g : Shape) → is_before j d.watermark ≡ false → HasRound history m j g → Member (entry j g) d.entries
   pub only : (e : Entry) → Member e d.entries → HasRound history m e.round e.grid ⊎ HasGarbage history m e.round e.grid
   pub from_watermark : (e : Entry) → Member e d.entries → is_before e.round d.watermark ≡ false
@@ -237,9 +237,9 @@ IsLastBallot history me d =
     ((b : Round) → HasKept history me (kept.Ballot b) → is_before d.own b ≡ false) × ((d.own ≡ no_round) ⊎ HasKept history me (kept.Ballot d.own))
 
 -- of a leader's rounds none is above its last, and its last was kept
-abbrev pub IsLast : List KeptRecord → RoleId → Option Entry → Type 0
-IsLast history me None = (i : Round) (g : Shape) → HasKept history me (kept.Round i g) → ⊥
-IsLast history me (Some own) =
+abbrev pub IsLastRound : List KeptRecord → RoleId → Option Entry → Type 0
+IsLastRound history me None = (i : Round) (g : Shape) → HasKept history me (kept.Round i g) → ⊥
+IsLastRound history me (Some own) =
     HasKept history me (kept.Round own.round own.grid)
     × ((i : Round) (g : Shape) → HasKept history me (kept.Round i g) → is_before own.round i ≡ false)
 
@@ -247,18 +247,18 @@ pub record Facts (c : Cluster) (history : List KeptRecord) (sent : List Letter) 
   -- a round's record is kept by the leader that it names, with one grid
   pub owner : (me : RoleId) (i : Round) (g : Shape) → HasKept history me (kept.Round i g) → me ≡ role kind.Leader i.id
   pub one_grid : (i : Round) (g h : Shape) → IsConfig history i g → IsConfig history i h → g ≡ h
-  pub last : (me : RoleId) → IsLast history me (durable_of leader_rules me history).own
+  pub last : (me : RoleId) → IsLastRound history me (durable_of leader_rules me history).own
   -- a matchmaker records only what was kept, and forgets only for what may be collected
   pub asked : (m : RoleId) (i : Round) (g : Shape) → HasMatch history m i g → IsConfig history i g
   pub garbaged : (m : RoleId) (i : Round) (g : Shape) → HasGarbage history m i g → IsConfig history i g × IsCollected c history sent i × IsRetiring sent i
-  pub logs : (m : RoleId) → IsLog c history sent m (durable_of matchmaker_rules m history)
+  pub logs : (m : RoleId) → IsMatchmaker c history sent m (durable_of matchmaker_rules m history)
   pub acceptors : (a : RoleId) → IsAcceptor history a (durable_of acceptor_rules a history)
   -- sets of matchmakers
   pub sets : SetFacts c history
   pub accepted : (m : RoleId) (b : Round) (t : List ℕ) → HasNext history m b t → IsAsked sent m b t
   pub one_asked : (b : Round) (t u : List ℕ) → IsNextAsked sent b t → IsNextAsked sent b u → t ≡ u
   pub asks : (from to : RoleId) (b : Round) (t : List ℕ) → Member (letter from to (msg.NextA b t)) sent
-      → IsNext c history to b t × HasKept history (role kind.Replacer b.id) (kept.Ballot b)
+      → IsNextSet c history to b t × HasKept history (role kind.Replacer b.id) (kept.Ballot b)
   pub balloter : (me : RoleId) (b : Round) → HasKept history me (kept.Ballot b) → me ≡ role kind.Replacer b.id
   pub last_ballot : (me : RoleId) → IsLastBallot history me (durable_of replacer_rules me history)
   -- each vote was proposed, and one value for each round and slot

@@ -17,7 +17,7 @@ use Rattle.cx_msg.specs.declared.input.Input.TheVariants as input
 use Rattle.cx_msg.specs.declared.input.KeptRecord.{KeptRecord}
 use Rattle.cx_msg.specs.declared.message.Msg.{Msg}
 use Rattle.cx_msg.specs.declared.message.Msg.TheVariants as msg
-use Rattle.cx_model.specs.Acceptor.{AcceptorDurable, acceptor_rules, acceptor_row, acceptor_takes, is_of, vote_at}
+use Rattle.cx_model.specs.Acceptor.{AcceptorDurable, acceptor_rules, acceptor_row, acceptor_takes, is_of_round, vote_at}
 use Rattle.cx_model.specs.Member.{Member}
 use Rattle.cx_model.specs.Names.{names, names_body, names_role, names_round, names_value}
 use Rattle.cx_model.specs.Outcome.{Outcome, by_test}
@@ -59,7 +59,7 @@ module _ (c : Cluster) (me : RoleId) (d : AcceptorDurable) (votes : (u : Vote) �
       let a = and_parts (names_round c i) (names_value c v) named in
       by_test Fine (is_before i d.promise) _ _ (λ t. (tt, one_in _ tt))
       (λ high. by_test Fine (nat_lt s d.cw) _ _ (λ t. (tt, none_in))
-      (λ from_cw. by_test Fine (is_of i (vote_at s d.votes)) _ _ (λ t. (tt, one_in _ tt))
+      (λ from_cw. by_test Fine (is_of_round i (vote_at s d.votes)) _ _ (λ t. (tt, one_in _ tt))
       (λ new. ((rw (a.0, a.1, high, not_below s d.cw from_cw, asks, new) refl, refl), one_in _ tt))))
   takes_fine from (msg.Inform i cw) asks named =
       by_test Fine (is_before i d.promise) _ _ (λ t. (tt, one_in _ tt))

@@ -34,12 +34,12 @@ use Rattle.cx_model.specs.Lists.{number_itself}
 use Rattle.cx_model.specs.Matched.{enough, is_counted, live_entries, is_member_of, members_of, members_in, rows_whole}
 use Rattle.cx_model.specs.Member.{Member}
 use Rattle.cx_model.specs.Names.{names, names_grid, names_round}
-use Rattle.cx_model.specs.Outcome.{Outcome, answered, replied, by_test, either_way}
+use Rattle.cx_model.specs.Outcome.{Outcome, only_word, replied, by_test, either_way}
 use Rattle.cx_model.specs.Plan.{promised_by, has_promised, votes_told, greatest_cw, end_told, voted_value, best_vote, placed_from}
 use Rattle.cx_model.specs.Rules.{IsFit}
 use Rattle.cx_inv_run.proofs.Members.{Member-both, Member-filter, Member-one}
 use Rattle.cx_inv_run.proofs.Rounds.{same_round-itself, before-higher}
-use Rattle.cx_inv_open.specs.Fits.{IsNext, IsSlot}
+use Rattle.cx_inv_open.specs.Fits.{IsNextSlot, IsSlot}
 use Rattle.cx_inv_open.proofs.Keep.{AllInWindow, none_in, one_in, both_in, each_in}
 use Rattle.cx_inv_open.proofs.Plans.{AreReported, Reports, AllReported, all_reported, end_most, planned_count, placed_below, next_free, next_raised}
 
@@ -77,16 +77,16 @@ module _ (c : Cluster) (me : RoleId) (d : LeaderDurable) (place : me.index < c.l
   -- A row keeps and sends what is in its ranges, where its watermark afterwards is.
   pub record IsFine (o : Outcome LeaderVolatile) : Type 0 where
     pub keeps : IsFit leader_rules c me d o.kept
-    pub next : IsNext o.volatile.next o.volatile.cw
+    pub next : IsNextSlot o.volatile.next o.volatile.cw
     pub sends : AllInWindow o.sends
 
   abbrev pub Good : Outcome LeaderVolatile → Type 0
   Good o = o.volatile.cw ≤ 1099511627776 → IsFine o
 
-  calm : (w : Why) (v : LeaderVolatile) → IsNext v.next v.cw → Good (answered w v)
+  calm : (w : Why) (v : LeaderVolatile) → IsNextSlot v.next v.cw → Good (only_word w v)
   calm w v n low = record { keeps = tt; next = n; sends = none_in }
 
-  sending : (w : Why) (v : LeaderVolatile) (ds : List Letter) → IsNext v.next v.cw → AllInWindow ds → Good (replied w v ds)
+  sending : (w : Why) (v : LeaderVolatile) (ds : List Letter) → IsNextSlot v.next v.cw → AllInWindow ds → Good (replied w v ds)
   sending w v ds n says low = record { keeps = tt; next = n; sends = says }
 
   informs_in : (i : Round) (cw : ℕ) (acceptors : List ℕ) → AllInWindow (map (inform_to me i cw) acceptors)
@@ -109,7 +109,7 @@ module _ (c : Cluster) (me : RoleId) (d : LeaderDurable) (place : me.index < c.l
       either_way AllInWindow (is_informing k.stage) _ _ (informs_in own.round k.mark (members_in c own.grid))
       (either_way AllInWindow (is_collecting k.stage) _ _ (garbage_in own set) none_in)
 
-  module _ (v : LeaderVolatile) (h : IsNext v.next v.cw) where
+  module _ (v : LeaderVolatile) (h : IsNextSlot v.next v.cw) where
     begin_good : (g : Shape) (o : Option Round) → ((i : Round) → o ≡ Some i → leader_fits c me d (kept.Round i g) ≡ true) → Good (begin_in c me v g o)
     begin_good g None fits = calm why.End v h
     begin_good g (Some i) fits = λ low. record { keeps = (fits i refl, refl); next = h; sends = match_in i g v.set }
@@ -197,7 +197,7 @@ module _ (c : Cluster) (me : RoleId) (d : LeaderDurable) (place : me.index < c.l
 
   -- by the input
 
-  module _ (v : LeaderVolatile) (h : IsNext v.next v.cw) (told : AllReported v.promises)
+  module _ (v : LeaderVolatile) (h : IsNextSlot v.next v.cw) (told : AllReported v.promises)
       (ready : is_matching v.mode ≡ true → (own : Entry) → d.own ≡ Some own → is_changed own.round ≡ true → (p : Placed) → Member p v.proposed → p.slot < v.next) where
     takes_good : (from : RoleId) (m : Msg) → Reports m → Good (leader_takes c me d v from m)
     takes_good from (msg.MatchB i w es) reports =

@@ -22,7 +22,7 @@ use Rattle.cx_model.specs.Member.{Member}
 use Rattle.cx_inv_run.specs.Laws.{Lands}
 use Rattle.cx_inv_run.specs.States.{State, Given, LeaderIn, durable_of, log_in}
 use Rattle.cx_inv_run.proofs.Members.{filter-passes}
-use Rattle.cx_inv_match.specs.Facts.{Facts, InMode, InState, IsLast}
+use Rattle.cx_inv_match.specs.Facts.{Facts, InMode, InState, IsLastRound}
 use Rattle.cx_inv_vote.proofs.Agree.{chosen_proposed}
 use Rattle.cx_inv_held.specs.Held.{IsStored, LowFacts, LowState, slots_held}
 use Rattle.cx_inv_held.proofs.Leaders.{leader_low}
@@ -89,7 +89,7 @@ module _ (c : Cluster) (history : List KeptRecord) (sent : List Letter) (states 
     state = subst (λ (s : State). InState c history sent me s) is (facts.running me)
 
     mine : (own : Entry) → d.own ≡ Some own → own.round.id ≡ l
-    mine own e = sym (ap (λ (r : RoleId). r.index) (facts.owner me own.round own.grid (subst (λ o. IsLast history me o) e (facts.last me)).0))
+    mine own e = sym (ap (λ (r : RoleId). r.index) (facts.owner me own.round own.grid (subst (λ o. IsLastRound history me o) e (facts.last me)).0))
 
     has_round : is_leading v.mode ≡ true → d.own ≡ None → ⊥
     has_round leads e = not_idle v.mode leads (subst (λ o. InMode c history sent o v v.mode) e state.1)

@@ -12,7 +12,7 @@ use Rattle.cx_model.specs.declared.states.Promised.{Promised}
 use Rattle.cx_model.specs.Member.{Member}
 use Rattle.cx_model.specs.Plan.{votes_told, greatest_cw, end_told, placed_from}
 use Rattle.cx_inv_run.proofs.Members.{Member-cases}
-use Rattle.cx_inv_open.specs.Fits.{IsNext, IsSlot}
+use Rattle.cx_inv_open.specs.Fits.{IsNextSlot, IsSlot}
 
 -- what an acceptor reports lies in the window of its watermark, in slots below 2^40
 abbrev pub AreReported : ℕ → List Vote → Type 0
@@ -50,8 +50,8 @@ placed_below s (v ∷ vs) p (inl e) = let here : p.slot ≡ s = ap (λ (x : Plac
 placed_below s (v ∷ vs) p (inr m) = let rest = placed_below (s + 1) vs p m in omega arith
 
 -- the next slot
-pub next_free : (next cw : ℕ) → IsNext next cw → ((next == cw + 32) || (next == 1099511627776)) ≡ false → (next < cw + 32) × IsSlot next
+pub next_free : (next cw : ℕ) → IsNextSlot next cw → ((next == cw + 32) || (next == 1099511627776)) ≡ false → (next < cw + 32) × IsSlot next
 next_free next cw (near, few) free = (grind (arith, nat_tests), grind (arith, nat_tests))
 
-pub next_raised : (next cw x : ℕ) → IsNext next cw → max cw x ≤ 1099511627776 → IsNext (max next (max cw x)) (max cw x)
+pub next_raised : (next cw x : ℕ) → IsNextSlot next cw → max cw x ≤ 1099511627776 → IsNextSlot (max next (max cw x)) (max cw x)
 next_raised next cw x (near, few) low = (omega arith, omega arith)

@@ -28,7 +28,7 @@ use Rattle.cx_model.specs.Lists.{same_role-true}
 use Rattle.cx_model.specs.Matched.{is_counted, is_member_of, greatest_watermark, live_entries, rows_whole}
 use Rattle.cx_model.specs.Names.{names}
 use Rattle.cx_model.specs.Outcome.{Outcome, by_test, either_way}
-use Rattle.cx_model.specs.Reader.{Asked, Batch, ReaderDurable, ReaderVolatile, acked_by, ask_replicas, asked_anew, asked_for, begin, begin_if, finish, greatest_mark, has_acked, is_among, is_first, is_matched, is_of_batch, last_turn, match_ack_row, matched, pre_read_ack_row, reader_row, reader_rules, reader_takes, reader_tick, request_over, token}
+use Rattle.cx_model.specs.Reader.{Asked, Batch, ReaderDurable, ReaderVolatile, acked_by, ask_replicas, asked_anew, asked_for, begin, begin_if, finish, greatest_mark, has_acked, is_among, is_first, is_matched, is_of_batch, last_turn, match_ack_row, matched, pre_read_ack_row, reader_row, reader_rules, reader_takes, reader_tick, request_over, make_token}
 use Rattle.cx_model.specs.Rules.{IsFit, written_after}
 use Rattle.cx_inv_run.specs.Laws.{Lands}
 use Rattle.cx_inv_run.specs.States.{State, ReaderIn, durable_of}
@@ -114,7 +114,7 @@ module _ (c : Cluster) (me : RoleId) (d : ReaderDurable) (low : d.turn ≤ last_
 
     takes_fine : (from : RoleId) (m : Msg) → Fine (reader_takes c me d v from m)
     takes_fine from (msg.ReadReq seq replica key) =
-        let one = asked_for (token from.index seq) replica key in
+        let one = asked_for (make_token from.index seq) replica key in
         either_way Fine (is_among one.read v.waiting) _ _ tt (request_fine one v.running)
     takes_fine from (msg.MatchReadAck u w es) = match_ack_fine from u w es v.running
     takes_fine from (msg.PreReadAck u w n) = pre_read_ack_fine from u w n v.running

@@ -33,7 +33,7 @@ use Rattle.cx_model.specs.Unbatcher.{unbatcher_rules}
 use Rattle.cx_model.specs.World.{list_after, list_of, values_in}
 use Rattle.cx_inv_run.specs.States.{durable_of, log_in}
 use Rattle.cx_inv_run.proofs.Histories.{durable_by_time}
-use Rattle.cx_inv_open.specs.Fits.{FitsAs, AllFit, are_told}
+use Rattle.cx_inv_open.specs.Fits.{FitsAs, AllFit, has_fitting_floors}
 use Rattle.cx_inv_open.specs.Reopened.{refused_as, stored_as}
 
 module _ {D V : Type 0} (rules : Rules D V) (c : Cluster) (me : RoleId) where
@@ -130,11 +130,11 @@ replacer_step c me (written.Snap first) ks h = absurd h
 -- the floors that a replica was told
 
 abbrev ToldTo : RoleId → List KeptRecord → Type 0
-ToldTo me ks = are_told (log_in ks me.index) ≡ true
+ToldTo me ks = has_fitting_floors (log_in ks me.index) ≡ true
 
-front_told : (b : Bool) (vs ws : List Value) → are_told (if b then vs ++ ws else vs) ≡ true → are_told vs ≡ true
+front_told : (b : Bool) (vs ws : List Value) → has_fitting_floors (if b then vs ++ ws else vs) ≡ true → has_fitting_floors vs ≡ true
 front_told true vs ws h =
-    (and_parts (are_told vs) (are_told ws) (sym (list_all-append (λ (v : Value). list_all (λ (k : Command). floor_fits k.seq k.floor) (commands_of v)) vs ws) ∙ h)).0
+    (and_parts (has_fitting_floors vs) (has_fitting_floors ws) (sym (list_all-append (λ (v : Value). list_all (λ (k : Command). floor_fits k.seq k.floor) (commands_of v)) vs ws) ∙ h)).0
 front_told false vs ws h = h
 
 older_told : (me : RoleId) (k : KeptRecord) (ks : List KeptRecord) → ToldTo me (k ∷ ks) → ToldTo me ks

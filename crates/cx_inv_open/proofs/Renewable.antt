@@ -30,11 +30,11 @@ use Rattle.cx_msg.specs.declared.kept.Record.TheVariants as kept
 use Rattle.cx_model.specs.Names.{names_command, names_value}
 use Rattle.cx_model.specs.Ordered.{machine_ordered, answer_ordered, told_ordered}
 use Rattle.cx_model.specs.Renewed.{IsOrdered, IsRenewable, is_near, fits_told}
-use Rattle.cx_model.specs.Replica.{IsTied, Machine, ReplicaDurable, execute, execute_all, execute_noted, execute_value, is_whole, key_before, machine_from, new_machine, replica_rules}
+use Rattle.cx_model.specs.Replica.{IsTied, Machine, ReplicaDurable, execute, execute_all, execute_noted, execute_value, is_renewal_whole, key_before, machine_from, new_machine, replica_rules}
 use Rattle.cx_model.specs.World.{values_in}
 use Rattle.cx_inv_run.specs.States.{durable_of, log_in}
 use Rattle.cx_inv_run.proofs.Histories.{same_role-true}
-use Rattle.cx_inv_open.specs.Fits.{AllFit, FitsAs, are_told}
+use Rattle.cx_inv_open.specs.Fits.{AllFit, FitsAs, has_fitting_floors}
 
 -- THE ORDER OF KEYS
 
@@ -312,11 +312,11 @@ module _ (c : Cluster) where
   abbrev all_named : List Value → Bool
   all_named values = list_all (λ (v : Value). names_value c v) values
 
-  machine_sound : (slot : ℕ) (m : Machine) (values : List Value) → all_named values ≡ true → are_told values ≡ true → IsSound m → IsSound (machine_from slot m values)
+  machine_sound : (slot : ℕ) (m : Machine) (values : List Value) → all_named values ≡ true → has_fitting_floors values ≡ true → IsSound m → IsSound (machine_from slot m values)
   machine_sound slot m [] named told h = h
   machine_sound slot m (v ∷ values) named told h =
       let n = and_parts (names_value c v) (all_named values) named in
-      let t = and_parts (list_all (λ (k : Command). floor_fits k.seq k.floor) (commands_of v)) (are_told values) told in
+      let t = and_parts (list_all (λ (k : Command). floor_fits k.seq k.floor) (commands_of v)) (has_fitting_floors values) told in
       machine_sound (slot + 1) (execute_value slot m v).machine values n.1 t.1 (all_sound (slot + 1) m (commands_of v) (both_good (commands_of v) n.0 t.0) h)
 
   drop_named : (n : ℕ) (values : List Value) → all_named values ≡ true → all_named (drop n values) ≡ true
@@ -328,7 +328,7 @@ pub tied_ordered : (d : ReplicaDurable) (values : List Value) → IsTied d value
 tied_ordered d values tied = subst (λ (m : Machine). IsOrdered m.table) (sym tied.machine) (machine_ordered values)
 
 -- a durable part that is tied to such values has what a renewed list asks for
-pub renewable : (c : Cluster) (d : ReplicaDurable) (values : List Value) → IsTied d values → all_named c values ≡ true → are_told values ≡ true → IsRenewable c d
+pub renewable : (c : Cluster) (d : ReplicaDurable) (values : List Value) → IsTied d values → all_named c values ≡ true → has_fitting_floors values ≡ true → IsRenewable c d
 renewable c d values tied named told =
     let fresh : IsSound c new_machine = record { keys = refl; near = refl; clients = refl; ordered = record { floors_rise = refl; notes_rise = refl; above = refl } } in
     let sound : IsSound c d.machine = subst (λ (m : Machine). IsSound c m) (sym tied.machine) (machine_sound c 0 new_machine values named told fresh) in
@@ -343,7 +343,7 @@ renewable c d values tied named told =
 
 written_named : (c : Cluster) (me : RoleId) (w : Written) (history : List KeptRecord) → FitsAs c me w history kind.Replica → all_named c (values_in w) ≡ true
 written_named c me (written.Record (kept.Log vs)) history h =
-    (and_parts (is_whole (durable_of replica_rules me history)) (all_named c vs) (and_parts (is_whole (durable_of replica_rules me history) && all_named c vs) _ h.0).0).1
+    (and_parts (is_renewal_whole (durable_of replica_rules me history)) (all_named c vs) (and_parts (is_renewal_whole (durable_of replica_rules me history) && all_named c vs) _ h.0).0).1
 written_named c me other history h = refl
 
 more_named : (c : Cluster) (vs ws : List Value) → all_named c vs ≡ true → all_named c ws ≡ true → all_named c (vs ++ ws) ≡ true

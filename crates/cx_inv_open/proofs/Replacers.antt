@@ -29,12 +29,12 @@ use Rattle.cx_model.specs.Lists.{number_itself}
 use Rattle.cx_model.specs.Matched.{enough, first_set}
 use Rattle.cx_model.specs.Names.{names, names_ballot, names_set}
 use Rattle.cx_model.specs.Outcome.{Outcome, either_way}
-use Rattle.cx_model.specs.Replacer.{ReplacerDurable, ReplacerVolatile, begin_in, boot_counted, decide, halt_counted, has_halted, is_booting, is_deciding, is_resting, is_stopping, joined, next_counted, replacer_orders, replacer_row, replacer_rules, replacer_takes, tick_in, to_decide}
+use Rattle.cx_model.specs.Replacer.{ReplacerDurable, ReplacerVolatile, begin_in, boot_counted, decide, halt_counted, has_halted, is_booting, is_deciding, is_resting, is_stopping, joined_entries, next_counted, replacer_orders, replacer_row, replacer_rules, replacer_takes, tick_in, to_decide}
 use Rattle.cx_model.specs.Rules.{IsFit}
 use Rattle.cx_inv_run.specs.Laws.{Lands}
 use Rattle.cx_inv_run.specs.States.{State, ReplacerIn, durable_of}
 use Rattle.cx_inv_run.proofs.Rounds.{before-higher}
-use Rattle.cx_inv_run.proofs.Senders.{replacer_kinds}
+use Rattle.cx_inv_run.proofs.LeaderSenders.{replacer_kinds}
 use Rattle.cx_inv_open.specs.Fits.{Fitting}
 use Rattle.cx_inv_open.proofs.Keep.{calm_in, new_fits, lands}
 
@@ -76,7 +76,7 @@ module _ (c : Cluster) (me : RoleId) (place : me.index < c.replacers) where
 
     halted_fine : (v : ReplacerVolatile) → Fine (halt_counted c me d v)
     halted_fine v =
-        either_way Fine (nat_lt (length v.halts) (enough c)) _ _ tt (decided (joined v.halts) (to_decide v.next v.halts))
+        either_way Fine (nat_lt (length v.halts) (enough c)) _ _ tt (decided (joined_entries v.halts) (to_decide v.next v.halts))
       where
         decided : (es : List Entry) (s : List ℕ) → Fine (decide me d v es s)
         decided es s = either_way Fine (nat_lt 254 (length es)) _ _ tt tt

@@ -22,19 +22,19 @@ use Rattle.cx_model.specs.declared.states.Deferred.{Deferred}
 use Rattle.cx_model.specs.Member.{Member}
 use Rattle.cx_model.specs.Names.{names, names_body, names_role, names_value}
 use Rattle.cx_model.specs.Outcome.{Outcome, by_test, either_way}
-use Rattle.cx_model.specs.Replica.{ReplicaDurable, ReplicaVolatile, before, held, is_whole, replica_renewed, replica_rules, replica_row, replica_takes, read_row, fetched_by, fetch_found, with_early}
+use Rattle.cx_model.specs.Replica.{ReplicaDurable, ReplicaVolatile, before, held, is_renewal_whole, replica_renewed, replica_rules, replica_row, replica_takes, read_row, fetched_by, fetch_found, with_early}
 use Rattle.cx_model.specs.Request.{same_read}
-use Rattle.cx_model.specs.Renewed.{renewed_fits}
+use Rattle.cx_model.specs.RenewedLaws.{renewed_fits}
 use Rattle.cx_model.specs.Rules.{IsFit, refused}
 use Rattle.cx_inv_run.specs.Laws.{Lands}
 use Rattle.cx_inv_run.specs.States.{State, Given, ReplicaIn, snap_by, durable_of, log_in}
 use Rattle.cx_inv_run.specs.Ties.{Ties}
 use Rattle.cx_inv_run.proofs.Senders.{replica_kinds}
-use Rattle.cx_inv_run.proofs.Tying.{mark_held, snap_is}
+use Rattle.cx_inv_run.proofs.Tying.{limit_held, snap_is}
 use Rattle.cx_inv_match.specs.Facts.{Facts}
 use Rattle.cx_inv_vote.proofs.Agree.{chosen_proposed}
 use Rattle.cx_inv_vote.proofs.Replicas.{waits_found, still_early-older, with_early-cases}
-use Rattle.cx_inv_open.specs.Fits.{AreNamed, InRange, IsSlot, Fitting, are_told}
+use Rattle.cx_inv_open.specs.Fits.{AreNamed, InRange, IsSlot, Fitting, has_fitting_floors}
 use Rattle.cx_inv_open.proofs.Keep.{calm_in, new_fits, lands, proposed_slot}
 use Rattle.cx_inv_open.proofs.Renewable.{logged_named, renewable, tied_ordered}
 
@@ -76,7 +76,7 @@ abbrev HasSlot : Msg → Type 0
 HasSlot (msg.Chosen s v) = IsSlot s
 HasSlot other = Unit {0}
 
-module _ (c : Cluster) (me : RoleId) (d : ReplicaDurable) (v : ReplicaVolatile) (h : AreNamed c v.early) (whole : is_whole d ≡ true) where
+module _ (c : Cluster) (me : RoleId) (d : ReplicaDurable) (v : ReplicaVolatile) (h : AreNamed c v.early) (whole : is_renewal_whole d ≡ true) where
   abbrev Fine : Outcome ReplicaVolatile → Type 0
   Fine o = IsFit replica_rules c me d o.kept × AreNamed c o.volatile.early
 
@@ -96,7 +96,7 @@ module _ (c : Cluster) (me : RoleId) (d : ReplicaDurable) (v : ReplicaVolatile) 
         | inr e ↦ subst (λ (x : Placed). names_value c x.value ≡ true) (sym e) named
       ]
 
-      fitting : IsSlot (held d) → (is_whole d && list_all (λ (x : Value). names_value c x) (ready_values (held d) v.early w)
+      fitting : IsSlot (held d) → (is_renewal_whole d && list_all (λ (x : Value). names_value c x) (ready_values (held d) v.early w)
           && nat_le (held d + length (ready_values (held d) v.early w)) 1099511627776) ≡ true
       fitting here =
           and_from _ _
@@ -148,7 +148,7 @@ module _ (c : Cluster) (history : List KeptRecord) (sent : List Letter) (states 
       named : AreNamed c v.early
       named = subst (λ (s : State). InRange c s) is (h.running me)
 
-      whole : is_whole d ≡ true
+      whole : is_renewal_whole d ≡ true
       whole = (ties.tied p).whole
 
       row_fine : (i : Input) → Given sent me i → Fine c me d v named whole (replica_row c me d v i)
@@ -172,11 +172,11 @@ module _ (c : Cluster) (history : List KeptRecord) (sent : List Letter) (states 
       d : ReplicaDurable
       d = durable_of replica_rules me history
 
-      opens : are_told (log_in history p) ≡ true → refused replica_rules c me (replica_renewed d first) ≡ None
+      opens : has_fitting_floors (log_in history p) ≡ true → refused replica_rules c me (replica_renewed d first) ≡ None
       opens told =
           let tied = ties.tied p in
           let is = snap_is c me d v first e in
           let above = is.1 in
           let from : d.first ≤ first = omega (arith, above) in
-          let most : first ≤ held d = subst (λ n. n ≤ held d) (sym is.0) (mark_held c d v) in
+          let most : first ≤ held d = subst (λ n. n ≤ held d) (sym is.0) (limit_held c d v) in
           renewed_fits d first from (tied_ordered d (log_in history p) tied) c me most (renewable c d (log_in history p) tied (logged_named c history h.fit p) told)

@@ -18,7 +18,7 @@ use Rattle.cx_inv_run.proofs.Histories.{log_by_time}
 use Rattle.cx_inv_run.proofs.Members.{Member-all, Member-cases, all-Member, at-Member}
 use Rattle.cx_inv_vote.proofs.Agree.{kept_is_chosen}
 use Rattle.cx_inv_list.proofs.Answers.{chosen_asked}
-use Rattle.cx_inv_open.specs.Fits.{are_told}
+use Rattle.cx_inv_open.specs.Fits.{has_fitting_floors}
 
 -- what happened was there before, or is one of the events
 happened : (w : World) (es : List Event) (h : Happened) → Member h (run_from w es).events → Member h w.events ⊎ Member h.event es
@@ -38,9 +38,9 @@ asked_fits c es valid k (b, m) = elim (happened (run c []) es _ m) [
   | inr there ↦ all-Member is_valid_event es valid (event.Write k b) there
 ]
 
-pub run_told : (c : Cluster) (es : List Event) → list_all is_valid_event es ≡ true → (p : ℕ) → are_told (log_in (reverse (run c es).kept) p) ≡ true
+pub run_told : (c : Cluster) (es : List Event) → list_all is_valid_event es ≡ true → (p : ℕ) → has_fitting_floors (log_in (reverse (run c es).kept) p) ≡ true
 run_told c es valid p =
-    subst (λ (l : List Value). are_told l ≡ true) (log_by_time p (run c es).kept)
+    subst (λ (l : List Value). has_fitting_floors l ≡ true) (log_by_time p (run c es).kept)
     (Member-all (λ (v : Value). list_all (λ (k : Command). floor_fits k.seq k.floor) (commands_of v)) (log_of p (run c es).kept) each)
   where
     each : (v : Value) → Member v (log_of p (run c es).kept) → list_all (λ (k : Command). floor_fits k.seq k.floor) (commands_of v) ≡ true

@@ -31,8 +31,8 @@ use Rattle.cx_model.specs.Rules.{IsFit, refused}
 use Rattle.cx_inv_run.specs.States.{State, LeaderIn, ReplicaIn, durable_of, log_in}
 
 -- whether each command of these values tells a floor that fits its number
-abbrev pub are_told : List Value → Bool
-are_told values = list_all (λ (v : Value). list_all (λ (k : Command). floor_fits k.seq k.floor) (commands_of v)) values
+abbrev pub has_fitting_floors : List Value → Bool
+has_fitting_floors values = list_all (λ (v : Value). list_all (λ (k : Command). floor_fits k.seq k.floor) (commands_of v)) values
 
 -- A role of this kind, with these changes before, could have appended this record, and its list may end with it; or the replica opens from the
 -- renewed list, if the floors that it was told fit.
@@ -44,7 +44,7 @@ FitsAs c me (written.Record r) history kind.Replica = IsFit replica_rules c me (
 FitsAs c me (written.Record r) history kind.Reader = IsFit reader_rules c me (durable_of reader_rules me history) (Some r)
 FitsAs c me (written.Record r) history kind.Replacer = IsFit replacer_rules c me (durable_of replacer_rules me history) (Some r)
 FitsAs c me (written.Snap first) history kind.Replica =
-    are_told (log_in history me.index) ≡ true → refused replica_rules c me (replica_rules.renewed (durable_of replica_rules me history) first) ≡ None
+    has_fitting_floors (log_in history me.index) ≡ true → refused replica_rules c me (replica_rules.renewed (durable_of replica_rules me history) first) ≡ None
 FitsAs c me what history other = ⊥
 
 -- the same of a new record, if there is one, and of each change with the earlier ones
@@ -60,23 +60,23 @@ AllFit c (k ∷ ks) = FitsAs c k.role k.what ks k.role.kind × AllFit c ks
 abbrev pub IsSlot : ℕ → Type 0
 IsSlot s = s < 1099511627776
 
--- what is asked or reported lies in the window of 32 slots from the watermark that is sent with it
+-- what is asked or reported lies in the window of 32 slots from the chosen watermark that is sent with it
 abbrev pub InWindow : Msg → Type 0
 InWindow (msg.Propose i g s cw v) = (s < cw + 32) × IsSlot s
 InWindow (msg.Phase2A i s cw v) = s < cw + 32
 InWindow (msg.Phase1B i cw votes) = (u : Vote) → Member u votes → u.slot < cw + 32
 InWindow other = Unit {0}
 
--- a leader's next slot, with its watermark
-abbrev pub IsNext : ℕ → ℕ → Type 0
-IsNext next cw = (next ≤ cw + 32) × (next ≤ 1099511627776)
+-- a leader's next slot, with its chosen watermark
+abbrev pub IsNextSlot : ℕ → ℕ → Type 0
+IsNextSlot next cw = (next ≤ cw + 32) × (next ≤ 1099511627776)
 
 -- the values that wait at a replica name clients of the cluster
 abbrev pub AreNamed : Cluster → List Placed → Type 0
 AreNamed c early = (p : Placed) → Member p early → names_value c p.value ≡ true
 
 abbrev pub InRange : Cluster → State → Type 0
-InRange c (LeaderIn v) = IsNext v.next v.cw
+InRange c (LeaderIn v) = IsNextSlot v.next v.cw
 InRange c (ReplicaIn v) = AreNamed c v.early
 InRange c other = Unit {0}
 

@@ -26,12 +26,13 @@ use Rattle.cx_inv_run.specs.States.{State, Down, BatcherIn, LeaderIn, ProxyIn, R
 use Rattle.cx_inv_run.proofs.Histories.{set_running}
 use Rattle.cx_inv_run.proofs.KindLaws.{kinds_hold}
 use Rattle.cx_inv_run.proofs.Members.{Member-first, Member-reverse, Member-turned}
-use Rattle.cx_inv_run.proofs.Senders.{batcher_kinds, leader_kinds, proxy_kinds, replica_kinds, unbatcher_kinds, replacer_kinds}
+use Rattle.cx_inv_run.proofs.Senders.{batcher_kinds, proxy_kinds, replica_kinds, unbatcher_kinds}
+use Rattle.cx_inv_run.proofs.LeaderSenders.{leader_kinds, replacer_kinds}
 use Rattle.cx_inv_run.proofs.Sends.{batcher_sends, leader_sends, proxy_sends, replica_sends, unbatcher_sends, sends_only}
 use Rattle.cx_inv_run.proofs.Steps.{run_keeps, run_from_keeps, run_append, run_cluster, along, all_allowed}
 use Rattle.cx_inv_match.specs.Facts.{InState, Facts}
 use Rattle.cx_inv_vote.proofs.Steps.{facts_hold}
-use Rattle.cx_inv_read.specs.Reads.{Has, HasSent, ReadSays, TurnSays, HasBatch, InReader, Reads, IsElse, Unread}
+use Rattle.cx_inv_read.specs.Reads.{Has, HasSent, ReadSays, TurnSays, HasBatch, InReader, FreshReadFacts, IsElse, Unread}
 use Rattle.cx_inv_read.proofs.Keep.{Since, lands, no_acks, sent_more, still_evidence, still_reader, still_says}
 use Rattle.cx_inv_read.proofs.Requests.{WentOut, all_went_out, allowed_more, read_token, requested, was_asked_by}
 use Rattle.cx_inv_read.proofs.Rows.{Each, replacer_sends}
@@ -59,7 +60,7 @@ fresh_reader c asked t history a kind.Replacer = tt
 
 -- the same facts, with more changes of stores
 more_changes : (c : Cluster) (asked : List KeptRecord) (sent0 : List Letter) (t : Token) (history longer : List KeptRecord) → Has longer history
-    → (sent : List Letter) (states : RoleId → State) → Has longer asked → Reads c asked sent0 t history sent states → Reads c asked sent0 t longer sent states
+    → (sent : List Letter) (states : RoleId → State) → Has longer asked → FreshReadFacts c asked sent0 t history sent states → FreshReadFacts c asked sent0 t longer sent states
 more_changes c asked sent0 t history longer more sent states has reads = record {
   has = has;
   has_sent = reads.has_sent;
@@ -70,12 +71,12 @@ more_changes c asked sent0 t history longer more sent states has reads = record 
 
 -- the same facts, with other states of readers
 with_states : (c : Cluster) (asked : List KeptRecord) (sent0 : List Letter) (t : Token) (history : List KeptRecord) (sent : List Letter) (states others : RoleId → State)
-    → Reads c asked sent0 t history sent states → ((a : RoleId) → InReader c asked t history a (others a)) → Reads c asked sent0 t history sent others
+    → FreshReadFacts c asked sent0 t history sent states → ((a : RoleId) → InReader c asked t history a (others a)) → FreshReadFacts c asked sent0 t history sent others
 with_states c asked sent0 t history sent states others h readers = record { has = h.has; has_sent = h.has_sent; says = h.says; evidence = h.evidence; readers = readers }
 
 module _ (c : Cluster) (asked : List KeptRecord) (sent0 : List Letter) (states0 : RoleId → State) (facts0 : Facts c asked sent0 states0) (t : Token) where
-  asks : (history : List KeptRecord) (sent : List Letter) (states : RoleId → State) (n : ℕ) (e : Event) → Known c history sent states → Reads c asked sent0 t history sent states
-      → Reads c asked sent0 t history (sent ++ request n e) states
+  asks : (history : List KeptRecord) (sent : List Letter) (states : RoleId → State) (n : ℕ) (e : Event) → Known c history sent states → FreshReadFacts c asked sent0 t history sent states
+      → FreshReadFacts c asked sent0 t history (sent ++ request n e) states
   asks history sent states n e known reads =
       sent_more c asked sent0 t history sent states known.1 reads (request n e)
       (requested (λ d. ReadSays c asked t history d.from d.to d.msg) (λ from to command. tt) (λ from to seq replica key. tt) (λ from to seq k key. tt) n e)
@@ -179,7 +180,7 @@ known_since c asked sent0 w (e ∷ es) known has has_sent =
     ((known.0, has, has_sent), known_since c asked sent0 (step w e) es known.1 (λ k m. has_step w e k (has k m)) (λ d m. sent_step w e d (has_sent d m)))
 
 -- of each read from the start on
-pub reads_always : (c : Cluster) (es : List Event) (t : Token) → HoldsIn (Reads c [] [] t) (run c es)
+pub reads_always : (c : Cluster) (es : List Event) (t : Token) → HoldsIn (FreshReadFacts c [] [] t) (run c es)
 reads_always c es t =
     run_keeps c (λ n e. Unit {0}) (KnownSince c [] []) (Since c [] [] t) (reads_laws c [] [] _ (facts_hold c []) t) es
     (known_since c [] [] (run c []) es (along c (Known c) (known_holds c) [] es) (λ k m. absurd m) (λ d m. absurd m)) (all_allowed (run c []) es)
@@ -221,7 +222,7 @@ not_under c history t sent unread me other old told = tt
 
 -- of a read, from a run on in which it was not asked for
 pub reads_since : (c : Cluster) (es more : List Event) (t : Token) → was_asked t (run c es).events ≡ false
-    → HoldsIn (Reads c (reverse (run c es).kept) (run c es).sent t) (run c (es ++ more))
+    → HoldsIn (FreshReadFacts c (reverse (run c es).kept) (run c es).sent t) (run c (es ++ more))
 reads_since c es more t h =
     let w = run c es in
     let asked = reverse w.kept in
@@ -237,4 +238,4 @@ reads_since c es more t h =
     let later = run_from_keeps c (λ n e. Unit {0}) (KnownSince c asked w.sent) (Since c asked w.sent t) (reads_laws c asked w.sent (states_of w.roles) (facts_hold c es) t) w (run_cluster c es)
     now more (known_since c asked w.sent w more (along c (Known c) (known_holds c) es more) (λ k m. m) (λ d m. m)) (all_allowed w more)
     (has_run w more asked (λ k m. m)) (sent_run w more w.sent (λ d m. m)) in
-    subst (λ x. HoldsIn (Reads c asked w.sent t) x) (sym (run_append c es more)) later
+    subst (λ x. HoldsIn (FreshReadFacts c asked w.sent t) x) (sym (run_append c es more)) later

@@ -27,17 +27,17 @@ use Rattle.cx_inv_run.proofs.Rounds.{same_round-true, same_round-itself}
 use Rattle.cx_inv_match.specs.Facts.{Facts}
 use Rattle.cx_inv_match.proofs.Grow.{more_nth}
 use Rattle.cx_inv_vote.proofs.Readers.{same_asking-true}
-use Rattle.cx_inv_read.specs.Reads.{Has, HasSent, Covers, IsRaised, IsReadAnswer, IsNew, ReadSays, IsAcked, HasEvidence, HasBatch, InReader, Reads}
+use Rattle.cx_inv_read.specs.Reads.{Has, HasSent, Covers, IsRaised, IsReadAnswer, IsNew, ReadSays, IsAcked, HasEvidence, HasBatch, InReader, FreshReadFacts}
 use Rattle.cx_inv_read.proofs.Rows.{Each}
 
 -- from the asking on
 abbrev pub Since : Cluster → List KeptRecord → List Letter → Token → List KeptRecord → List Letter → (RoleId → State) → Type 0
-Since c asked sent0 t history sent states = Has history asked → HasSent sent sent0 → Reads c asked sent0 t history sent states
+Since c asked sent0 t history sent states = Has history asked → HasSent sent sent0 → FreshReadFacts c asked sent0 t history sent states
 
 pub covers_older : (history longer : List KeptRecord) → Has longer history → (a : RoleId) (n : ℕ) → Covers longer a n → Covers history a n
 covers_older history longer more a n h = record {
   votes = λ j s v x. h.votes j s v (x.0, more _ x.1);
-  marks = λ j m x. h.marks j m (elim x [ inl y ↦ inl (y.0, y.1, more _ y.2) | inr y ↦ inr (more _ y) ]);
+  mark = λ j m x. h.mark j m (elim x [ inl y ↦ inl (y.0, y.1, more _ y.2) | inr y ↦ inr (more _ y) ]);
 }
 
 module _ (history longer : List KeptRecord) (more : Has longer history) where
@@ -67,7 +67,7 @@ module _ (history longer : List KeptRecord) (more : Has longer history) where
   still_evidence c asked sent0 u sent w (inr (inl x)) = inr (inl x)
   still_evidence c asked sent0 u sent w (inr (inr k)) = inr (inr (record {
     past = k.past;
-    told = k.told;
+    sent_then = k.sent_then;
     within = λ r m. more r (k.within r m);
     longer = k.longer;
     wider = k.wider;
@@ -109,7 +109,7 @@ acked_cases : (sent ds : List Letter) (u : Asking) (w : Round) (a : RoleId) (n :
 acked_cases sent ds u w a n h = elim (Member-cases _ sent ds h.1) [ inl m ↦ inl (h.0, m) | inr m ↦ inr (h.0, m) ]
 
 module _ (c : Cluster) (asked : List KeptRecord) (sent0 : List Letter) (t : Token) (history : List KeptRecord) (sent : List Letter) (states : RoleId → State)
-    (facts : Facts c history sent states) (reads : Reads c asked sent0 t history sent states) where
+    (facts : Facts c history sent states) (reads : FreshReadFacts c asked sent0 t history sent states) where
   -- answers of acceptors under new turns, by what they kept till now, with a watermark that was raised
   abbrev pub AcksAreSo : List Letter → Type 0
   AcksAreSo ds = (u : Asking) → IsNew asked u → (w : Round) (a : RoleId) (n : ℕ) → IsAcked ds u w a n → Covers history a n × IsRaised history w
@@ -121,7 +121,7 @@ module _ (c : Cluster) (asked : List KeptRecord) (sent0 : List Letter) (t : Toke
   new_evidence u new w (inr x) none ds acks =
       inr (inr (record {
         past = history;
-        told = sent;
+        sent_then = sent;
         within = λ k m. m;
         longer = reads.has;
         wider = reads.has_sent;
@@ -136,7 +136,7 @@ module _ (c : Cluster) (asked : List KeptRecord) (sent0 : List Letter) (t : Toke
   more_evidence ds acks u new w (inr (inr k)) =
       inr (inr (record {
         past = k.past;
-        told = k.told;
+        sent_then = k.sent_then;
         within = k.within;
         longer = k.longer;
         wider = k.wider;
@@ -158,7 +158,7 @@ module _ (c : Cluster) (asked : List KeptRecord) (sent0 : List Letter) (t : Toke
   ]
 
   -- more datagrams, of no role's step
-  pub sent_more : (ds : List Letter) → Each (λ d. ReadSays c asked t history d.from d.to d.msg) ds → AcksAreSo ds → Reads c asked sent0 t history (sent ++ ds) states
+  pub sent_more : (ds : List Letter) → Each (λ d. ReadSays c asked t history d.from d.to d.msg) ds → AcksAreSo ds → FreshReadFacts c asked sent0 t history (sent ++ ds) states
   sent_more ds says acks = record {
     has = reads.has;
     has_sent = λ d m. Member-first d sent ds (reads.has_sent d m);

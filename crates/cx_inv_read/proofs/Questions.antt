@@ -30,10 +30,11 @@ use Rattle.cx_inv_run.specs.Kinds.{IsSender, OfKind}
 use Rattle.cx_inv_run.specs.Laws.{Lands, Laws}
 use Rattle.cx_inv_run.specs.States.{State, Given, durable_of, HoldsIn}
 use Rattle.cx_inv_run.proofs.Members.{Member-both, Member-first}
-use Rattle.cx_inv_run.proofs.Senders.{batcher_kinds, leader_kinds, proxy_kinds, acceptor_kinds, matchmaker_kinds, unbatcher_kinds, reader_kinds, replacer_kinds}
+use Rattle.cx_inv_run.proofs.Senders.{batcher_kinds, proxy_kinds, acceptor_kinds, matchmaker_kinds, unbatcher_kinds, reader_kinds}
+use Rattle.cx_inv_run.proofs.LeaderSenders.{leader_kinds, replacer_kinds}
 use Rattle.cx_inv_run.proofs.Steps.{always}
 use Rattle.cx_inv_match.specs.Facts.{InState}
-use Rattle.cx_inv_read.specs.Reads.{AnswerSays, AreAnswers}
+use Rattle.cx_inv_read.specs.Reads.{AnswerHasQuestion, AreAnswers}
 use Rattle.cx_inv_read.proofs.Fresh.{known_holds}
 use Rattle.cx_inv_read.proofs.Requests.{requested}
 use Rattle.cx_inv_read.proofs.Rows.{IsPlain, IsQuestion, Each, replica_tells, replica_ticks}
@@ -52,7 +53,7 @@ still_asked : (sent ds : List Letter) (me : RoleId) (r : Deferred) → IsReadOf 
 still_asked sent ds me r (inl x) = inl (x.0, Member-first _ sent ds x.1)
 still_asked sent ds me r (inr x) = inr (x.0, x.1, Member-first _ sent ds x.2)
 
-still_says : (sent ds : List Letter) (to : RoleId) (m : Msg) → AnswerSays sent to m → AnswerSays (sent ++ ds) to m
+still_says : (sent ds : List Letter) (to : RoleId) (m : Msg) → AnswerHasQuestion sent to m → AnswerHasQuestion (sent ++ ds) to m
 still_says sent ds to (msg.ReadAnswer seq n found) h = record {
   replica = h.replica;
   question = h.question;
@@ -64,11 +65,11 @@ still_says sent ds to (msg.ReadAnswer seq n found) h = record {
 still_says sent ds to other h = tt
 
 abbrev SaysAll : List Letter → List Letter → Type 0
-SaysAll sent ds = Each (λ d. AnswerSays sent d.to d.msg) ds
+SaysAll sent ds = Each (λ d. AnswerHasQuestion sent d.to d.msg) ds
 
 more : (sent ds : List Letter) → SaysAll sent sent → SaysAll sent ds → SaysAll (sent ++ ds) (sent ++ ds)
 more sent ds old new =
-    Member-both (λ (d : Letter). AnswerSays (sent ++ ds) d.to d.msg) sent ds
+    Member-both (λ (d : Letter). AnswerHasQuestion (sent ++ ds) d.to d.msg) sent ds
     (λ d m. still_says sent ds d.to d.msg (old d m)) (λ d m. still_says sent ds d.to d.msg (new d m))
 
 lands : {V : Type 0} (history : List KeptRecord) (sent : List Letter) (states : RoleId → State) → AreAnswers history sent states
@@ -76,7 +77,7 @@ lands : {V : Type 0} (history : List KeptRecord) (sent : List Letter) (states : 
 lands history sent states h me make o says = record { whole = more sent o.sends h says; cut = λ r e. h }
 
 -- only replicas answer so
-others : (sent : List Letter) (k : Kind) → (k ≡ kind.Replica → ⊥) → (to : RoleId) (m : Msg) → IsSender k m → AnswerSays sent to m
+others : (sent : List Letter) (k : Kind) → (k ≡ kind.Replica → ⊥) → (to : RoleId) (m : Msg) → IsSender k m → AnswerHasQuestion sent to m
 others sent k other to (msg.ReadAnswer seq n found) s = absurd (other s)
 others sent k other to m s = tt
 
@@ -87,12 +88,12 @@ other_lands history sent states h me make o other kinds =
 
 -- a replica
 
-plain : (sent : List Letter) (to : RoleId) (m : Msg) → IsPlain m → AnswerSays sent to m
+plain : (sent : List Letter) (to : RoleId) (m : Msg) → IsPlain m → AnswerHasQuestion sent to m
 plain sent to (msg.ReadAnswer seq n found) h = absurd h
 plain sent to other h = tt
 
 answer_says : (sent : List Letter) (me : RoleId) (n : ℕ) (machine : Machine) (r : Deferred) (to : RoleId) → IsReadOf sent to r → r.mark ≤ n
-    → AnswerSays sent (read_answer_to me n machine r).to (read_answer_to me n machine r).msg
+    → AnswerHasQuestion sent (read_answer_to me n machine r).to (read_answer_to me n machine r).msg
 answer_says sent me n machine r to asked enough = record { replica = to; question = r; asked = asked; enough = enough; client_is = refl; seq_is = refl }
 
 now_asked : (sent : List Letter) (l : Letter) (r : Deferred) → Member l sent → IsQuestion l.from l.msg r → IsReadOf sent l.to r
@@ -103,10 +104,10 @@ replica_says : (c : Cluster) (sent : List Letter) (me : RoleId) (d : ReplicaDura
     → (i : Input) → Given sent me i → SaysAll sent (replica_row c me d v i).sends
 replica_says c sent me d v waits (input.Take l) given =
     either_way (λ (o : Outcome ReplicaVolatile). SaysAll sent o.sends) (same_role l.to me && names c l) _ _
-    (replica_tells (λ x. AnswerSays sent x.to x.msg) c me (plain sent) d v l.from
+    (replica_tells (λ x. AnswerHasQuestion sent x.to x.msg) c me (plain sent) d v l.from
     (λ n machine r m. answer_says sent me n machine r me (waits.deferred r m)) l.msg
     (λ r q. answer_says sent me (held d) d.machine r l.to (now_asked sent l r given.1 q))) (λ x m. absurd m)
-replica_says c sent me d v waits input.Tick given = replica_ticks (λ x. AnswerSays sent x.to x.msg) c me (plain sent) d v
+replica_says c sent me d v waits input.Tick given = replica_ticks (λ x. AnswerHasQuestion sent x.to x.msg) c me (plain sent) d v
 replica_says c sent me d v waits (input.Order order) given = λ x m. absurd m
 
 answer_laws : (c : Cluster) → Laws c (λ n e. Unit {0}) (Known c) AreAnswers
@@ -116,7 +117,7 @@ answer_laws c = record {
   stop = λ history sent states me h. h;
   wake = λ history sent states me h down. h;
   ask = λ history sent states n e allowed known h.
-      more sent (request n e) h (requested (λ d. AnswerSays sent d.to d.msg) (λ from to command. tt) (λ from to seq replica key. tt) (λ from to seq k key. tt) n e);
+      more sent (request n e) h (requested (λ d. AnswerHasQuestion sent d.to d.msg) (λ from to command. tt) (λ from to seq replica key. tt) (λ from to seq k key. tt) n e);
   batcher = λ history sent states b v i known h up given.
       other_lands history sent states h (role kind.Batcher b) _ _ (λ e. cc) (batcher_kinds c (role kind.Batcher b) refl v i);
   leader = λ history sent states l v i known h up given.

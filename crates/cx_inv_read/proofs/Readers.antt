@@ -28,19 +28,19 @@ use Rattle.cx_model.specs.Matched.{enough, is_counted, is_member_of, greatest_wa
 use Rattle.cx_model.specs.Matchmaker.{entry}
 use Rattle.cx_model.specs.Member.{Member}
 use Rattle.cx_model.specs.Names.{names}
-use Rattle.cx_model.specs.Outcome.{Outcome, answered, either_way, by_test}
-use Rattle.cx_model.specs.Reader.{Asked, Batch, ReaderDurable, ReaderVolatile, acked_by, ask_acceptors, ask_matchmakers, ask_replicas, asked_anew, asked_for, begin, begin_if, finish, greatest_mark, has_acked, is_among, is_first, is_matched, is_of_batch, last_turn, match_ack_counted, match_ack_row, match_read_to, matched, pre_read_ack_row, pre_read_counted, pre_read_to, read_to, reader_row, reader_rules, reader_takes, reader_tick, request_over, request_row, sets_row, token, asking_of}
+use Rattle.cx_model.specs.Outcome.{Outcome, only_word, either_way, by_test}
+use Rattle.cx_model.specs.Reader.{Asked, Batch, ReaderDurable, ReaderVolatile, acked_by, ask_acceptors, ask_matchmakers, ask_replicas, asked_anew, asked_for, begin, begin_if, finish, greatest_mark, has_acked, is_among, is_first, is_matched, is_of_batch, last_turn, match_ack_counted, match_ack_row, match_read_to, matched, pre_read_ack_row, pre_read_counted, pre_read_to, read_to, reader_row, reader_rules, reader_takes, reader_tick, request_over, request_row, sets_row, make_token, asking_of}
 use Rattle.cx_inv_run.specs.Laws.{Lands}
 use Rattle.cx_inv_run.specs.States.{State, ReaderIn, Given, durable_of}
 use Rattle.cx_inv_run.proofs.Members.{is_in-Member, Member-both, Member-cases, Member-second, Member-one}
 use Rattle.cx_inv_run.proofs.Rounds.{itself-not_before, same_round-true}
 use Rattle.cx_inv_run.proofs.Senders.{reader_kinds}
 use Rattle.cx_inv_run.proofs.Sends.{named}
-use Rattle.cx_inv_match.specs.Facts.{AreOnce, told_by, InState, Facts}
+use Rattle.cx_inv_match.specs.Facts.{AreOnce, answering_matchmakers, InState, Facts}
 use Rattle.cx_inv_match.specs.Words.{IsKnown}
 use Rattle.cx_inv_vote.proofs.Readers.{same_asking-true}
 use Rattle.cx_inv_vote.proofs.Searches.{told_by-counted, told_more, once_more, live_has, top_told}
-use Rattle.cx_inv_read.specs.Reads.{IsAbove, IsRaised, IsReadAnswer, IsNew, ReadSays, IsAcked, IsBatch, HasBatch, InReader, Reads}
+use Rattle.cx_inv_read.specs.Reads.{IsAbove, IsRaised, IsReadAnswer, IsNew, ReadSays, IsAcked, IsBatch, HasBatch, InReader, FreshReadFacts}
 use Rattle.cx_inv_read.proofs.Above.{AreAcks, mark_above, read_above}
 use Rattle.cx_inv_read.proofs.Keep.{Since, lands, no_acks}
 use Rattle.cx_inv_read.proofs.Rows.{Each, each_mapped}
@@ -52,7 +52,7 @@ not-true true e = cc
 not-true false e = refl
 
 module _ (c : Cluster) (asked : List KeptRecord) (sent0 : List Letter) (states0 : RoleId → State) (facts0 : Facts c asked sent0 states0) (t : Token)
-    (history : List KeptRecord) (sent : List Letter) (states : RoleId → State) (known : Known c history sent states) (reads : Reads c asked sent0 t history sent states) where
+    (history : List KeptRecord) (sent : List Letter) (states : RoleId → State) (known : Known c history sent states) (reads : FreshReadFacts c asked sent0 t history sent states) where
   abbrev facts : Facts c history sent states
   facts = known.1
 
@@ -83,7 +83,7 @@ module _ (c : Cluster) (asked : List KeptRecord) (sent0 : List Letter) (states0 
     ]
   ]
 
-  above_nothing : (told : List MatchAnswer) → AreOnce (told_by told) → (set : List ℕ) → IsKnown c history set → ((m : ℕ) → Member m (told_by told) → Member m set) → c.f < length told → Answers told
+  above_nothing : (told : List MatchAnswer) → AreOnce (answering_matchmakers told) → (set : List ℕ) → IsKnown c history set → ((m : ℕ) → Member m (answering_matchmakers told) → Member m set) → c.f < length told → Answers told
       → live_entries told ≡ [] → IsAbove asked 0
   above_nothing told once set set_known bound many answers e =
       read_above c asked sent0 states0 facts0 history sent states facts reads.has told once set set_known bound many answers []
@@ -97,7 +97,7 @@ module _ (c : Cluster) (asked : List KeptRecord) (sent0 : List Letter) (states0 
     collected = elim (reads.evidence u new w) [
       | inl e ↦ inl e
       | inr (inl none) ↦ absurd (none (role kind.Acceptor one.acceptor) one.mark (h one m))
-      | inr (inr k) ↦ inr (k.past, k.told, k.within, k.longer, k.wider, k.sets, k.collected, λ a n. k.covers (role kind.Acceptor a.acceptor) a.mark (h a n))
+      | inr (inr k) ↦ inr (k.past, k.sent_then, k.within, k.longer, k.wider, k.sets, k.collected, λ a n. k.covers (role kind.Acceptor a.acceptor) a.mark (h a n))
     ];
   }
 
@@ -109,10 +109,10 @@ module _ (c : Cluster) (asked : List KeptRecord) (sent0 : List Letter) (states0 
       pub says : Each Says o.sends
       pub runs : HasBatch c asked t history me o.volatile.set o.volatile.running
 
-    same : (w : Why) → Good (answered w v)
+    same : (w : Why) → Good (only_word w v)
     same w = record { says = λ l m. absurd m; runs = batch }
 
-    waits : (w : Why) (rs : List Asked) → Good (answered w (record v { waiting = rs }))
+    waits : (w : Why) (rs : List Asked) → Good (only_word w (record v { waiting = rs }))
     waits w rs = record { says = λ l m. absurd m; runs = batch }
 
     asks_first : (s : List ℕ) (turn : ℕ) → Each Says (ask_matchmakers me s turn)
@@ -188,7 +188,7 @@ module _ (c : Cluster) (asked : List KeptRecord) (sent0 : List Letter) (states0 
         let tests = and_parts (is_of_batch me b u && not (is_matched c b)) (is_in from.index v.set) (not-false (is_of_batch me b u && not (is_matched c b) && is_in from.index v.set) f) in
         let both = and_parts (is_of_batch me b u) (not (is_matched c b)) tests.0 in
         let ours : u ≡ asking_of me b.turn = same_asking-true u (asking_of me b.turn) both.0 in
-        let inside : (m : ℕ) → Member m (told_by (b.told ++ new ∷ [])) → Member m v.set = λ m k. elim (told_more b.told new m k) [
+        let inside : (m : ℕ) → Member m (answering_matchmakers (b.told ++ new ∷ [])) → Member m v.set = λ m k. elim (told_more b.told new m k) [
           | inl x ↦ is.asking (not-true (is_matched c b) both.1) m x
           | inr x ↦ subst (λ n. Member n v.set) (sym x) (is_in-Member from.index v.set tests.1)
         ] in
@@ -272,7 +272,7 @@ module _ (c : Cluster) (asked : List KeptRecord) (sent0 : List Letter) (states0 
     sets_good s next_known = either_way Good (is_above s v.set) _ _ (anew_good s next_known v.running refl batch) (same _)
 
     takes_good : (from to : RoleId) (m : Msg) → to ≡ me → Member (letter from to m) sent → Good (reader_takes c me d v from m)
-    takes_good from to (msg.ReadReq seq replica key) mine is_sent = request_good (asked_for (token from.index seq) replica key)
+    takes_good from to (msg.ReadReq seq replica key) mine is_sent = request_good (asked_for (make_token from.index seq) replica key)
     takes_good from to (msg.MatchReadAck u w es) mine is_sent = match_good from to u w es mine is_sent v.running refl batch
     takes_good from to (msg.PreReadAck u w n) mine is_sent = ack_good from to u w n mine is_sent v.running refl batch
     takes_good from to (msg.Sets s) mine is_sent = sets_good s (facts.says _ is_sent)

@@ -19,7 +19,7 @@ use Rattle.cx_model.specs.Lists.{number_itself}
 use Rattle.cx_model.specs.Member.{Member}
 use Rattle.cx_model.specs.Outcome.{by_test}
 use Rattle.cx_model.specs.Promises.{WasRead, WasSession}
-use Rattle.cx_model.specs.Reader.{token}
+use Rattle.cx_model.specs.Reader.{make_token}
 use Rattle.cx_model.specs.Request.{token_of, same_request, same_token, is_past, floor_in, was_sent, is_stale, request}
 use Rattle.cx_model.specs.World.{World, Change, ask, change, step, run_from, run}
 use Rattle.cx_inv_run.specs.Laws.{AllAllowed}
@@ -58,11 +58,11 @@ allowed_more A B more w (e ∷ es) h = (λ s. more _ e (h.0 s), allowed_more A B
 -- the requests of one client and number
 
 abbrev pub IsReadFor : Token → Event → Type 0
-IsReadFor t (event.Read client seq floor reader replica key) = token client seq ≡ t
+IsReadFor t (event.Read client seq floor reader replica key) = make_token client seq ≡ t
 IsReadFor t other = ⊥
 
 abbrev pub IsSessionFor : Token → Event → Type 0
-IsSessionFor t (event.Session client seq floor replica key) = token client seq ≡ t
+IsSessionFor t (event.Session client seq floor replica key) = make_token client seq ≡ t
 IsSessionFor t other = ⊥
 
 pub read_token : (t : Token) (e : Event) → IsReadFor t e → token_of e ≡ Some t
@@ -132,9 +132,9 @@ apart_step w e apart client seq f r p g q key other m n =
         → WentOut w (event.Session client seq g q other) ⊎ Member (happened (event.Session client seq g q other) why.Sent) (happened e (change w e).why ∷ []) → ⊥
     go (inl a) (inl b) = apart client seq f r p g q key other a b
     go (inl a) (inr b) =
-        not_after (token client seq) w (event.Session client seq g q other) (event.Read client seq f r p key) (goes (event.Session client seq g q other) b) a refl refl
+        not_after (make_token client seq) w (event.Session client seq g q other) (event.Read client seq f r p key) (goes (event.Session client seq g q other) b) a refl refl
     go (inr a) (inl b) =
-        not_after (token client seq) w (event.Read client seq f r p key) (event.Session client seq g q other) (goes (event.Read client seq f r p key) a) b refl refl
+        not_after (make_token client seq) w (event.Read client seq f r p key) (event.Session client seq g q other) (goes (event.Read client seq f r p key) a) b refl refl
     go (inr a) (inr b) =
         let x = (one_event e (event.Read client seq f r p key) why.Sent (change w e).why a).0 in
         let y = (one_event e (event.Session client seq g q other) why.Sent (change w e).why b).0 in

@@ -26,7 +26,7 @@ use Rattle.cx_inv_run.proofs.Senders.{matchmaker_kinds}
 use Rattle.cx_inv_match.specs.Facts.{Facts}
 use Rattle.cx_inv_match.specs.Words.{HasRound, HasStopped}
 use Rattle.cx_inv_vote.proofs.Matchmakers.{booted_member, running_log}
-use Rattle.cx_inv_read.specs.Reads.{Covers, IsNew, IsRaised, IsReadAnswer, ReadSays, Reads}
+use Rattle.cx_inv_read.specs.Reads.{Covers, IsNew, IsRaised, IsReadAnswer, ReadSays, FreshReadFacts}
 use Rattle.cx_inv_read.proofs.Keep.{Since, covers_older, lands, no_acks}
 use Rattle.cx_inv_read.proofs.Rows.{IsPlain, Each, acceptor_tells, matchmaker_tells}
 use Rattle.cx_inv_read.proofs.Says.{Known}
@@ -41,7 +41,7 @@ plain_says c asked t history from to (msg.Read u n key) h = absurd h
 plain_says c asked t history from to other h = tt
 
 module _ (c : Cluster) (asked : List KeptRecord) (sent0 : List Letter) (states0 : RoleId → State) (facts0 : Facts c asked sent0 states0) (t : Token)
-    (history : List KeptRecord) (sent : List Letter) (states : RoleId → State) (known : Known c history sent states) (reads : Reads c asked sent0 t history sent states) where
+    (history : List KeptRecord) (sent : List Letter) (states : RoleId → State) (known : Known c history sent states) (reads : FreshReadFacts c asked sent0 t history sent states) where
   abbrev facts : Facts c history sent states
   facts = known.1
 
@@ -62,7 +62,7 @@ module _ (c : Cluster) (asked : List KeptRecord) (sent0 : List Letter) (states0 
   covers_all : (me : RoleId) → Covers history me (max (durable_of acceptor_rules me history).cw (durable_of acceptor_rules me history).top)
   covers_all me = record {
     votes = λ j s v x. let p = (facts.acceptors me).top j s v x in omega arith;
-    marks = λ j k x. let p = (facts.acceptors me).mark j k x in omega arith;
+    mark = λ j k x. let p = (facts.acceptors me).mark j k x in omega arith;
   }
 
   acceptor_says : (me : RoleId) (i : Input) → Given sent me i → Each Says (acceptor_row c me (durable_of acceptor_rules me history) tt i).sends

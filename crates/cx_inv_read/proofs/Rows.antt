@@ -26,12 +26,12 @@ use Rattle.cx_msg.specs.Letter.{Letter, letter}
 use Rattle.cx_msg.specs.declared.message.Msg.{Msg}
 use Rattle.cx_msg.specs.declared.message.Msg.TheVariants as msg
 use Rattle.cx_model.specs.declared.states.Deferred.{Deferred}
-use Rattle.cx_model.specs.Acceptor.{AcceptorDurable, is_of, vote_at, acceptor_takes}
+use Rattle.cx_model.specs.Acceptor.{AcceptorDurable, is_of_round, vote_at, acceptor_takes}
 use Rattle.cx_model.specs.Matched.{is_counted, greatest_watermark, live_entries, is_member_of, members_of, rows_whole}
 use Rattle.cx_model.specs.Matchmaker.{MatchmakerDurable, at_work, boot_in, garbage_a_row, has_round, in_set, is_booted, is_stopped, match_a_row, match_read_row, matchmaker_takes, next_a_row, set_of, stop_a_row}
 use Rattle.cx_model.specs.Member.{Member}
-use Rattle.cx_model.specs.Outcome.{Outcome, answered, either_way, by_test}
-use Rattle.cx_model.specs.Reader.{Asked, Batch, ReaderDurable, ReaderVolatile, acked_by, ask_acceptors, ask_matchmakers, ask_replicas, asked_anew, asked_for, begin, begin_if, finish, greatest_mark, has_acked, is_among, is_first, is_matched, is_of_batch, last_turn, match_ack_row, match_read_to, matched, pre_read_ack_row, pre_read_to, read_to, reader_row, reader_takes, reader_tick, request_over, request_row, token, asking_of}
+use Rattle.cx_model.specs.Outcome.{Outcome, only_word, either_way, by_test}
+use Rattle.cx_model.specs.Reader.{Asked, Batch, ReaderDurable, ReaderVolatile, acked_by, ask_acceptors, ask_matchmakers, ask_replicas, asked_anew, asked_for, begin, begin_if, finish, greatest_mark, has_acked, is_among, is_first, is_matched, is_of_batch, last_turn, match_ack_row, match_read_to, matched, pre_read_ack_row, pre_read_to, read_to, reader_row, reader_takes, reader_tick, request_over, request_row, make_token, asking_of}
 use Rattle.cx_model.specs.Replica.{ReplicaDurable, ReplicaVolatile, Machine, held, execute_value, machine_from, results_at, results_from, read_answer_to, read_answers, fetched_by, fetch_found, read_row, replica_takes, held_to, fetch_to, replica_tick}
 use Rattle.cx_model.specs.Request.{same_read}
 use Rattle.cx_inv_run.specs.Kinds.{IsSender}
@@ -75,7 +75,7 @@ module _ (P : Letter → Type 0) (me : RoleId) (plain : (to : RoleId) (m : Msg) 
   acceptor_tells (msg.Phase2A i s cw v) ack =
       either_way AcceptorTells (is_before i d.promise) _ _ (acceptor_one _ _ tt)
       (either_way AcceptorTells (nat_lt s d.cw) _ _ (none P)
-      (either_way AcceptorTells (is_of i (vote_at s d.votes)) _ _ (acceptor_one _ _ tt) (acceptor_one _ _ tt)))
+      (either_way AcceptorTells (is_of_round i (vote_at s d.votes)) _ _ (acceptor_one _ _ tt) (acceptor_one _ _ tt)))
   acceptor_tells (msg.Inform i cw) ack =
       either_way AcceptorTells (is_before i d.promise) _ _ (acceptor_one _ _ tt)
       (either_way AcceptorTells (same_round i d.promise && nat_le cw d.cw) _ _ (acceptor_one _ _ tt) (acceptor_one _ _ tt))
@@ -95,7 +95,7 @@ module _ (P : Letter → Type 0) (c : Cluster) (me : RoleId) (plain : (to : Role
   in_set_tells o h = by_test MatchmakerTells (is_booted c me d) _ _ h (λ f. none P)
 
   at_work_tells : (o : Outcome (Unit {0})) → (is_booted c me d ≡ true → is_stopped d ≡ false → MatchmakerTells o) → MatchmakerTells (at_work c me d o)
-  at_work_tells o h = in_set_tells (if is_stopped d then answered Stopped tt else o) (λ b. by_test MatchmakerTells (is_stopped d) _ _ (λ t. none P) (λ f. h b f))
+  at_work_tells o h = in_set_tells (if is_stopped d then only_word Stopped tt else o) (λ b. by_test MatchmakerTells (is_stopped d) _ _ (λ t. none P) (λ f. h b f))
 
   boot_tells : (s : List ℕ) (w : Round) (es : List Entry) (o : Option (List ℕ)) → MatchmakerTells (boot_in me from s w es o)
   boot_tells s w es None = matchmaker_one _ _ tt
@@ -178,7 +178,7 @@ module _ (P : Letter → Type 0) (c : Cluster) (me : RoleId) (plain : (to : Role
   replica_tells d v from waiting (msg.Read t n key) now =
       let r : Deferred = record { token = t; mark = n; key = key } in read_tells d v r (now r (inl refl))
   replica_tells d v from waiting (msg.SessRead seq n key) now =
-      let r : Deferred = record { token = token from.index seq; mark = n; key = key } in read_tells d v r (now r (inr (refl, refl)))
+      let r : Deferred = record { token = make_token from.index seq; mark = n; key = key } in read_tells d v r (now r (inr (refl, refl)))
   replica_tells d v from waiting (msg.Fetch s) now =
       let asked = fetched_by c me v from s in
       either_way ReplicaTells (nat_lt s d.first) _ _ (none P) (fetched asked from s (slice_get d.log (s - d.first)))
@@ -251,7 +251,7 @@ module _ (P : Letter → Type 0) (c : Cluster) (me : RoleId) (d : ReaderDurable)
   anew s (Some b) is = either_way ReaderTells (is_matched c b) _ _ (none P) (each_mapped P (match_read_to me (asking_of me b.turn)) s (λ m k. first b is m))
 
   took : (from : RoleId) (m : Msg) → ReaderTells (reader_takes c me d v from m)
-  took from (msg.ReadReq seq replica key) = requested (asked_for (token from.index seq) replica key)
+  took from (msg.ReadReq seq replica key) = requested (asked_for (make_token from.index seq) replica key)
   took from (msg.MatchReadAck u w es) = told from u w es v.running refl
   took from (msg.PreReadAck u w n) = acked from u w n v.running refl
   took from (msg.Sets s) = either_way ReaderTells (is_above s v.set) _ _ (anew s v.running refl) (none P)

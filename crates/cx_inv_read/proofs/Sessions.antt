@@ -25,7 +25,8 @@ use Rattle.cx_inv_run.specs.Kinds.{IsSender, OfKind}
 use Rattle.cx_inv_run.specs.Laws.{Lands, Laws, AllAllowed, anything}
 use Rattle.cx_inv_run.specs.States.{State, durable_of, HoldsIn}
 use Rattle.cx_inv_run.proofs.Members.{Member-both, Member-one}
-use Rattle.cx_inv_run.proofs.Senders.{batcher_kinds, leader_kinds, proxy_kinds, acceptor_kinds, matchmaker_kinds, replica_kinds, unbatcher_kinds, reader_kinds, replacer_kinds}
+use Rattle.cx_inv_run.proofs.Senders.{batcher_kinds, proxy_kinds, acceptor_kinds, matchmaker_kinds, replica_kinds, unbatcher_kinds, reader_kinds}
+use Rattle.cx_inv_run.proofs.LeaderSenders.{leader_kinds, replacer_kinds}
 use Rattle.cx_inv_run.proofs.Steps.{run_keeps, run_from_keeps, run_append, run_cluster, along_anything}
 use Rattle.cx_inv_read.specs.Reads.{SessionSays, Sessions}
 use Rattle.cx_inv_read.proofs.Requests.{IsSessionFor}

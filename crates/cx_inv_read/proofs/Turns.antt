@@ -33,9 +33,9 @@ use Rattle.cx_model.specs.Matched.{is_counted, is_member_of, greatest_watermark,
 use Rattle.cx_model.specs.Matchmaker.{MatchmakerDurable, matchmaker_rules, matchmaker_row}
 use Rattle.cx_model.specs.Member.{Member}
 use Rattle.cx_model.specs.Names.{names}
-use Rattle.cx_model.specs.Outcome.{Outcome, answered, either_way}
+use Rattle.cx_model.specs.Outcome.{Outcome, only_word, either_way}
 use Rattle.cx_model.specs.Promises.{HasKept, HasTurn}
-use Rattle.cx_model.specs.Reader.{Asked, Batch, ReaderDurable, ReaderVolatile, acked_by, ask_acceptors, ask_matchmakers, ask_replicas, asked_anew, asked_for, begin, begin_if, finish, greatest_mark, has_acked, is_among, is_first, is_matched, is_of_batch, last_turn, match_ack_counted, match_ack_row, match_read_to, matched, new_batch, pre_read_ack_row, pre_read_counted, pre_read_to, read_to, reader_after, reader_row, reader_rules, reader_takes, reader_tick, request_over, request_row, token, asking_of}
+use Rattle.cx_model.specs.Reader.{Asked, Batch, ReaderDurable, ReaderVolatile, acked_by, ask_acceptors, ask_matchmakers, ask_replicas, asked_anew, asked_for, begin, begin_if, finish, greatest_mark, has_acked, is_among, is_first, is_matched, is_of_batch, last_turn, match_ack_counted, match_ack_row, match_read_to, matched, new_batch, pre_read_ack_row, pre_read_counted, pre_read_to, read_to, reader_after, reader_row, reader_rules, reader_takes, reader_tick, request_over, request_row, make_token, asking_of}
 use Rattle.cx_model.specs.Replacer.{replacer_rules}
 use Rattle.cx_model.specs.Replica.{replica_rules}
 use Rattle.cx_model.specs.Request.{request}
@@ -45,7 +45,8 @@ use Rattle.cx_inv_run.specs.Laws.{Lands, Laws, anything}
 use Rattle.cx_inv_run.specs.States.{State, Down, BatcherIn, LeaderIn, ProxyIn, ReplicaIn, ReaderIn, ReplacerIn, plain, Given, durable_of, entry_by, snap_by, fresh_state, with_record, HoldsIn}
 use Rattle.cx_inv_run.proofs.Histories.{durable_else, durable_other, durable_own, kept_cases, kept_longer, kept_other, no_snap, same_role-true, set_running}
 use Rattle.cx_inv_run.proofs.Members.{Member-both}
-use Rattle.cx_inv_run.proofs.Senders.{batcher_kinds, leader_kinds, proxy_kinds, replica_kinds, unbatcher_kinds, replacer_kinds}
+use Rattle.cx_inv_run.proofs.Senders.{batcher_kinds, proxy_kinds, replica_kinds, unbatcher_kinds}
+use Rattle.cx_inv_run.proofs.LeaderSenders.{leader_kinds, replacer_kinds}
 use Rattle.cx_inv_run.proofs.Sends.{batcher_sends, leader_sends, proxy_sends, replica_sends, unbatcher_sends, sends_only}
 use Rattle.cx_inv_run.proofs.Steps.{run_keeps, along_anything, all_allowed}
 use Rattle.cx_inv_read.specs.Reads.{Has, IsNew, TurnSays, BatchIsKept, TurnsKept}
@@ -139,10 +140,10 @@ module _ (r : ℕ) (history : List KeptRecord) (d : ReaderDurable) (v : ReaderVo
     pub says : Each (λ l. TurnSays (Later o) l.msg) o.sends
     pub runs : (b : Batch) → o.volatile.running ≡ Some b → HasTurn (Later o) (asking_of mine b.turn)
 
-  same : (w : Why) → Good (answered w v)
+  same : (w : Why) → Good (only_word w v)
   same w = record { says = λ l m. absurd m; runs = kept_so }
 
-  waits : (w : Why) (rs : List Asked) → Good (answered w (record v { waiting = rs }))
+  waits : (w : Why) (rs : List Asked) → Good (only_word w (record v { waiting = rs }))
   waits w rs = record { says = λ l m. absurd m; runs = kept_so }
 
   abbrev Next : List KeptRecord
@@ -215,7 +216,7 @@ module _ (r : ℕ) (history : List KeptRecord) (d : ReaderDurable) (v : ReaderVo
       })
 
   takes_good : (from : RoleId) (m : Msg) → Good (reader_takes c mine d v from m)
-  takes_good from (msg.ReadReq seq replica key) = request_good (asked_for (token from.index seq) replica key)
+  takes_good from (msg.ReadReq seq replica key) = request_good (asked_for (make_token from.index seq) replica key)
   takes_good from (msg.MatchReadAck u w es) = match_good from u w es v.running refl
   takes_good from (msg.PreReadAck u w n) = ack_good from u w n v.running refl
   takes_good from (msg.Sets s) = either_way Good (is_above s v.set) _ _ (anew_good s v.running refl) (same _)

@@ -22,7 +22,8 @@ use Rattle.cx_model.specs.Request.{request}
 use Rattle.cx_inv_run.specs.Laws.{Lands, Laws}
 use Rattle.cx_inv_run.specs.States.{State, durable_of}
 use Rattle.cx_inv_run.proofs.Members.{Member-cases, Member-one}
-use Rattle.cx_inv_run.proofs.Senders.{batcher_kinds, leader_kinds, proxy_kinds, acceptor_kinds, matchmaker_kinds, replica_kinds, unbatcher_kinds, replacer_kinds}
+use Rattle.cx_inv_run.proofs.Senders.{batcher_kinds, proxy_kinds, acceptor_kinds, matchmaker_kinds, replica_kinds, unbatcher_kinds}
+use Rattle.cx_inv_run.proofs.LeaderSenders.{leader_kinds, replacer_kinds}
 use Rattle.cx_inv_run.proofs.Sends.{batcher_sends, leader_sends, proxy_sends, acceptor_sends, matchmaker_sends, replica_sends, unbatcher_sends, sends_only}
 use Rattle.cx_inv_match.specs.Facts.{InState}
 use Rattle.cx_inv_read.specs.Reads.{IsElse, Unread}

@@ -15,7 +15,7 @@ use Rattle.cx_base.specs.declared.role.RoleId.{RoleId}
 use Rattle.cx_base.specs.Fold.{commands_of}
 use Rattle.cx_base.specs.Lists.{below}
 use Rattle.cx_base.specs.Log.{ready_values}
-use Rattle.cx_base.specs.Noted.{comes_before, floor_of, is_answer_of, is_done, is_settled, noted_for, still_noted, with_note}
+use Rattle.cx_base.specs.Noted.{comes_before, floor_of, is_answer_of, is_done, is_answer_done, noted_for, still_noted, with_note}
 use Rattle.cx_base.specs.Role.{role, same_role}
 use Rattle.cx_msg.specs.Letter.{Letter, letter}
 use Rattle.cx_msg.specs.declared.input.Input.{Input}
@@ -34,7 +34,7 @@ use Rattle.cx_model.specs.Member.{Member}
 use Rattle.cx_model.specs.Replacer.{replacer_rules}
 use Rattle.cx_model.specs.Names.{names}
 use Rattle.cx_model.specs.Outcome.{Outcome, either_way}
-use Rattle.cx_model.specs.Reader.{reader_rules, token}
+use Rattle.cx_model.specs.Reader.{reader_rules, make_token}
 use Rattle.cx_model.specs.Replica.{IsTied, ReplicaDurable, ReplicaVolatile, Machine, Executed, held, new_machine, acting, execute_noted, execute, execute_all, execute_value, machine_from, machine_of, results_at, results_from, read_answer_to, read_answers, apply, fetched_by, fetch_found, read_row, held_to, fetch_to, replica_rules, replica_takes, replica_tick, replica_row}
 use Rattle.cx_model.specs.Request.{same_read, request}
 use Rattle.cx_model.specs.Unbatcher.{answer_to, unbatcher_takes, unbatcher_row}
@@ -44,7 +44,8 @@ use Rattle.cx_inv_run.specs.States.{State, Given, entry_by, snap_by, with_record
 use Rattle.cx_inv_run.specs.Ties.{Ties}
 use Rattle.cx_inv_run.proofs.Histories.{log_other, log_own, log_snap, same_role-true}
 use Rattle.cx_inv_run.proofs.Members.{Member-both, Member-filter, Member-map, Member-one}
-use Rattle.cx_inv_run.proofs.Senders.{batcher_kinds, leader_kinds, proxy_kinds, acceptor_kinds, matchmaker_kinds, reader_kinds, replacer_kinds}
+use Rattle.cx_inv_run.proofs.Senders.{batcher_kinds, proxy_kinds, acceptor_kinds, matchmaker_kinds, reader_kinds}
+use Rattle.cx_inv_run.proofs.LeaderSenders.{leader_kinds, replacer_kinds}
 use Rattle.cx_inv_run.proofs.Sends.{batcher_sends, leader_sends, proxy_sends, acceptor_sends, matchmaker_sends, reader_sends, sends_only}
 use Rattle.cx_inv_run.proofs.Steps.{along, run_keeps, all_allowed}
 use Rattle.cx_inv_run.proofs.TieLaws.{ties_hold}
@@ -95,7 +96,7 @@ IsUpTo n e = UpTo n e.machine.table.notes × UpTo n e.answers
 
 -- what is still noted was noted
 still_up : (n client floor : ℕ) (notes : List Answered) → UpTo n notes → UpTo n (still_noted client floor notes)
-still_up n client floor notes h a k = h a (Member-filter (λ (x : Answered). not (is_settled client floor x)) a notes k).0
+still_up n client floor notes h a k = h a (Member-filter (λ (x : Answered). not (is_answer_done client floor x)) a notes k).0
 
 one_up : (at : ℕ) (one : Answered) → one.at ≡ at → UpTo at (one ∷ [])
 one_up at one p a k = elim k [ inl e ↦ (let q : a.at ≡ one.at = ap (λ (x : Answered). x.at) e in omega arith) | inr q ↦ absurd q ]
@@ -211,7 +212,7 @@ module _ (c : Cluster) (history : List KeptRecord) (p : ℕ) (tied : IsTied (dur
       (either_way (Good history self) (nat_le (held d + 32) s) _ _ (λ x k. absurd k)
       (either_way (Good history self) (nat_lt (held d) s) _ _ (λ x k. absurd k) (applied v (ready_values (held d) v.early value))))
   replica_took v from (msg.Read t n key) = read_took v (record { token = t; mark = n; key = key })
-  replica_took v from (msg.SessRead seq n key) = read_took v (record { token = token from.index seq; mark = n; key = key })
+  replica_took v from (msg.SessRead seq n key) = read_took v (record { token = make_token from.index seq; mark = n; key = key })
   replica_took v from (msg.Fetch s) =
       let asked = fetched_by c self v from s in
       either_way (Good history self) (nat_lt s d.first) _ _ (λ x k. absurd k) (fetched asked from s (slice_get d.log (s - d.first)))

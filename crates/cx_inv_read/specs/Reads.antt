@@ -24,9 +24,9 @@ use Rattle.cx_model.specs.Matched.{first_set}
 use Rattle.cx_model.specs.Matchmaker.{entry}
 use Rattle.cx_model.specs.Member.{Member}
 use Rattle.cx_model.specs.Promises.{HasTurn, IsConfig}
-use Rattle.cx_model.specs.Reader.{Asked, Batch, asking_of, is_matched, token}
+use Rattle.cx_model.specs.Reader.{Asked, Batch, asking_of, is_matched, make_token}
 use Rattle.cx_inv_run.specs.States.{State, ReaderIn, log_in}
-use Rattle.cx_inv_match.specs.Facts.{AreOnce, told_by}
+use Rattle.cx_inv_match.specs.Facts.{AreOnce, answering_matchmakers}
 use Rattle.cx_inv_match.specs.Words.{HasGarbage, HasRound, HasBoot, HasStopped, HasMark, IsChosenIn, IsCollected, IsKnown, SetFacts}
 
 -- the longer history has all of the shorter
@@ -37,21 +37,21 @@ Has longer shorter = (k : KeptRecord) → Member k shorter → Member k longer
 abbrev pub HasSent : List Letter → List Letter → Type 0
 HasSent later earlier = (d : Letter) → Member d earlier → Member d later
 
--- a number above each slot that an acceptor voted in by this history, and at least each watermark that it kept
+-- a number above each slot that an acceptor voted in by this history, and at least each chosen watermark that it kept
 pub record Covers (history : List KeptRecord) (a : RoleId) (n : ℕ) : Type 0 where
   pub votes : (j : Round) (s : ℕ) (v : Value) → HasVoted history a j s v → s < n
-  pub marks : (j : Round) (k : ℕ) → HasMark history a j k → k ≤ n
+  pub mark : (j : Round) (k : ℕ) → HasMark history a j k → k ≤ n
 
 -- a number above each slot that has a chosen value by this history
 abbrev pub IsAbove : List KeptRecord → ℕ → Type 0
 IsAbove history n = (j : Round) (s : ℕ) (v : Value) → IsChosenIn history j s v → s < n
 
--- no watermark, or one for which a matchmaker forgot rounds
+-- no retirement watermark, or one for which a matchmaker forgot rounds
 abbrev pub IsRaised : List KeptRecord → Round → Type 0
 IsRaised history w = (w ≡ no_round) ⊎ ((m : RoleId) × (g : Shape) × HasGarbage history m w g)
 
--- A matchmaker that hadn't stopped at the earlier moment answers. It tells each round that it had then, unless its watermark is above it. It is one of
--- the first set; or it tells all that it began with, unless its watermark, which isn't below that one, is above it.
+-- A matchmaker that hadn't stopped at the earlier moment answers. It tells each round that it had then, unless its retirement watermark is above
+-- it. It is one of the first set; or it tells all that it began with, unless its retirement watermark, which isn't below that one, is above it.
 pub record IsReadAnswer (c : Cluster) (asked history : List KeptRecord) (m : RoleId) (water : Round) (entries : List Entry) : Type 0 where
   pub running : HasStopped asked m → ⊥
   pub all : (j : Round) (g : Shape) → is_before j water ≡ false → HasRound asked m j g → Member (entry j g) entries
@@ -75,23 +75,23 @@ ReadSays c asked t history from to (msg.PreReadAck u w n) = IsNew asked u → Co
 ReadSays c asked t history from to (msg.Read u n key) = u ≡ t → IsAbove asked n
 ReadSays c asked t history from to other = Unit {0}
 
--- an acceptor answered a turn, asked with this watermark, by this number
+-- an acceptor answered a turn, asked with this retirement watermark, by this number
 abbrev pub IsAcked : List Letter → Asking → Round → RoleId → ℕ → Type 0
 IsAcked sent u w a n = (to : RoleId) × Member (letter a to (msg.PreReadAck u w n)) sent
 
--- All numbers by which acceptors answered a turn with this watermark cover the records of one moment, not before the earlier one, at which the
--- rounds below the watermark could be forgotten.
+-- All numbers by which acceptors answered a turn with this retirement watermark cover the records of one moment, not before the earlier one, at
+-- which the rounds below the retirement watermark could be forgotten.
 pub record IsSeen (c : Cluster) (asked : List KeptRecord) (sent0 : List Letter) (u : Asking) (history : List KeptRecord) (sent : List Letter) (w : Round) : Type 0 where
   pub past : List KeptRecord
-  pub told : List Letter
+  pub sent_then : List Letter
   pub within : Has history past
   pub longer : Has past asked
-  pub wider : HasSent told sent0
+  pub wider : HasSent sent_then sent0
   pub sets : SetFacts c past
-  pub collected : IsCollected c past told w
+  pub collected : IsCollected c past sent_then w
   pub covers : (a : RoleId) (n : ℕ) → IsAcked sent u w a n → Covers past a n
 
--- there is no watermark, or no acceptor answered with it, or that is so
+-- there is no retirement watermark, or no acceptor answered with it, or that is so
 abbrev pub HasEvidence : Cluster → List KeptRecord → List Letter → Asking → List KeptRecord → List Letter → Round → Type 0
 HasEvidence c asked sent0 u history sent w =
     (w ≡ no_round) ⊎ (((a : RoleId) (n : ℕ) → IsAcked sent u w a n → ⊥) ⊎ IsSeen c asked sent0 u history sent w)
@@ -101,9 +101,9 @@ HasEvidence c asked sent0 u history sent w =
 pub record IsBatch (c : Cluster) (asked : List KeptRecord) (t : Token) (history : List KeptRecord) (me : RoleId) (s : List ℕ) (b : Batch) : Type 0 where
   pub set : List ℕ
   pub set_known : IsKnown c history set
-  pub once : AreOnce (told_by b.told)
-  pub known : (m : ℕ) → Member m (told_by b.told) → Member m set
-  pub asking : is_matched c b ≡ false → (m : ℕ) → Member m (told_by b.told) → Member m s
+  pub once : AreOnce (answering_matchmakers b.told)
+  pub known : (m : ℕ) → Member m (answering_matchmakers b.told) → Member m set
+  pub asking : is_matched c b ≡ false → (m : ℕ) → Member m (answering_matchmakers b.told) → Member m s
   pub under : (r : Asked) → Member r b.reads → r.read ≡ t → IsNew asked (asking_of me b.turn)
 
 abbrev pub HasBatch : Cluster → List KeptRecord → Token → List KeptRecord → RoleId → List ℕ → Option Batch → Type 0
@@ -115,7 +115,7 @@ InReader c asked t history me (ReaderIn v) = HasBatch c asked t history me v.set
 InReader c asked t history me other = Unit {0}
 
 -- the facts on new turns and on a read, from a moment on that had these records and datagrams
-pub record Reads (c : Cluster) (asked : List KeptRecord) (sent0 : List Letter) (t : Token) (history : List KeptRecord) (sent : List Letter) (states : RoleId → State) : Type 0 where
+pub record FreshReadFacts (c : Cluster) (asked : List KeptRecord) (sent0 : List Letter) (t : Token) (history : List KeptRecord) (sent : List Letter) (states : RoleId → State) : Type 0 where
   pub has : Has history asked
   pub has_sent : HasSent sent sent0
   pub says : (d : Letter) → Member d sent → ReadSays c asked t history d.from d.to d.msg
@@ -141,7 +141,7 @@ pub record TurnsKept (history : List KeptRecord) (sent : List Letter) (states : 
 
 -- a datagram that is of no read with this token, up to the question to a replica
 abbrev pub IsElse : Token → RoleId → RoleId → Msg → Type 0
-IsElse t from to (msg.ReadReq seq replica key) = token from.index seq ≡ t → ⊥
+IsElse t from to (msg.ReadReq seq replica key) = make_token from.index seq ≡ t → ⊥
 IsElse t from to (msg.Read u n key) = u ≡ t → ⊥
 IsElse t from to other = Unit {0}
 
@@ -151,7 +151,7 @@ Unread t history sent states = (d : Letter) → Member d sent → IsElse t d.fro
 
 -- a session's question with this token: the number in it is such a one. All other datagrams say nothing.
 abbrev pub SessionSays : Token → (ℕ → Type 0) → RoleId → Msg → Type 0
-SessionSays t Marks from (msg.SessRead seq n key) = token from.index seq ≡ t → Marks n
+SessionSays t Marks from (msg.SessRead seq n key) = make_token from.index seq ≡ t → Marks n
 SessionSays t Marks from other = Unit {0}
 
 abbrev pub Sessions : Token → (ℕ → Type 0) → List KeptRecord → List Letter → (RoleId → State) → Type 0
@@ -167,12 +167,12 @@ pub record HasQuestion (sent : List Letter) (to : RoleId) (seq n : ℕ) : Type 0
   pub client_is : to ≡ role kind.Client question.token.client
   pub seq_is : seq ≡ question.token.seq
 
-abbrev pub AnswerSays : List Letter → RoleId → Msg → Type 0
-AnswerSays sent to (msg.ReadAnswer seq n found) = HasQuestion sent to seq n
-AnswerSays sent to other = Unit {0}
+abbrev pub AnswerHasQuestion : List Letter → RoleId → Msg → Type 0
+AnswerHasQuestion sent to (msg.ReadAnswer seq n found) = HasQuestion sent to seq n
+AnswerHasQuestion sent to other = Unit {0}
 
 abbrev pub AreAnswers : List KeptRecord → List Letter → (RoleId → State) → Type 0
-AreAnswers history sent states = (d : Letter) → Member d sent → AnswerSays sent d.to d.msg
+AreAnswers history sent states = (d : Letter) → Member d sent → AnswerHasQuestion sent d.to d.msg
 
 -- some replica kept n values
 abbrev pub IsWithin : List KeptRecord → ℕ → Type 0

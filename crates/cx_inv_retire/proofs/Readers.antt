@@ -27,12 +27,12 @@ use Rattle.cx_model.specs.declared.states.MatchAnswer.{MatchAnswer}
 use Rattle.cx_model.specs.Matched.{enough, is_counted, greatest_watermark, live_entries, is_member_of, members_of, rows_whole}
 use Rattle.cx_model.specs.Member.{Member}
 use Rattle.cx_model.specs.Names.{names}
-use Rattle.cx_model.specs.Outcome.{Outcome, answered, replied, either_way, by_test}
-use Rattle.cx_model.specs.Reader.{Asked, Batch, ReaderDurable, ReaderVolatile, acked_by, ask_acceptors, ask_matchmakers, ask_replicas, asked_anew, asked_for, begin, begin_if, finish, greatest_mark, has_acked, is_among, is_first, is_matched, is_of_batch, last_turn, match_ack_counted, match_ack_row, match_read_to, matched, pre_read_ack_row, pre_read_to, read_to, reader_row, reader_rules, reader_takes, reader_tick, request_over, request_row, token, asking_of}
+use Rattle.cx_model.specs.Outcome.{Outcome, only_word, replied, either_way, by_test}
+use Rattle.cx_model.specs.Reader.{Asked, Batch, ReaderDurable, ReaderVolatile, acked_by, ask_acceptors, ask_matchmakers, ask_replicas, asked_anew, asked_for, begin, begin_if, finish, greatest_mark, has_acked, is_among, is_first, is_matched, is_of_batch, last_turn, match_ack_counted, match_ack_row, match_read_to, matched, pre_read_ack_row, pre_read_to, read_to, reader_row, reader_rules, reader_takes, reader_tick, request_over, request_row, make_token, asking_of}
 use Rattle.cx_inv_run.specs.Laws.{Lands}
 use Rattle.cx_inv_run.specs.States.{State, ReaderIn, Given, durable_of, entry_by}
 use Rattle.cx_inv_run.proofs.Members.{is_in-Member, Member-both, Member-one}
-use Rattle.cx_inv_match.specs.Facts.{told_by, InState}
+use Rattle.cx_inv_match.specs.Facts.{answering_matchmakers, InState}
 use Rattle.cx_inv_match.specs.Words.{IsKnown}
 use Rattle.cx_inv_vote.proofs.Readers.{same_asking-true}
 use Rattle.cx_inv_vote.proofs.Rows.{is_role}
@@ -57,18 +57,18 @@ module _ (c : Cluster) (past : List KeptRecord) (fresh : Asking → Type 0) (his
   record IsCounted (b : Batch) : Type 0 where
     set : List ℕ
     set_known : IsKnown c history set
-    members : AreMembers set (told_by b.told)
+    members : AreMembers set (answering_matchmakers b.told)
     were : WereSent b
 
   -- so is known of the running batch; in its first stage who was counted are members of the set that the reader knows
   abbrev AreKnown : ReaderVolatile → Type 0
-  AreKnown v = (b : Batch) → v.running ≡ Some b → IsCounted b × (is_matched c b ≡ false → (m : ℕ) → Member m (told_by b.told) → Member m v.set)
+  AreKnown v = (b : Batch) → v.running ≡ Some b → IsCounted b × (is_matched c b ≡ false → (m : ℕ) → Member m (answering_matchmakers b.told) → Member m v.set)
 
   -- what a datagram says by whatever history
   abbrev Says : List KeptRecord → Letter → Type 0
   Says longer d = RetireSays c past fresh longer d.from d.to d.msg
 
-  quiet : (w : Why) (v : ReaderVolatile) → Good (answered w v)
+  quiet : (w : Why) (v : ReaderVolatile) → Good (only_word w v)
   quiet w v = silent c past fresh history me ReaderIn w v tt
 
   asks_matchmakers : (longer : List KeptRecord) (set : List ℕ) (turn : ℕ) (x : Letter) → Member x (ask_matchmakers me set turn) → Says longer x
@@ -143,7 +143,7 @@ module _ (c : Cluster) (past : List KeptRecord) (fresh : Asking → Type 0) (his
         let told : Member (letter (role kind.Matchmaker from.index) me (msg.MatchReadAck (asking_of me b.turn) w es)) sent =
         subst (λ y. Member (letter y me (msg.MatchReadAck (asking_of me b.turn) w es)) sent) (is_role from kind.Matchmaker (known.kinds.senders _ x))
         (subst (λ y. Member (letter from me (msg.MatchReadAck y w es)) sent) ours x) in
-        let before : AreMembers v.set (told_by b.told) = record { once = (are b e).0.members.once; known = (are b e).1 (not_true (is_matched c b) both.1) } in
+        let before : AreMembers v.set (answering_matchmakers b.told) = record { once = (are b e).0.members.once; known = (are b e).1 (not_true (is_matched c b) both.1) } in
         answered_good (record b { told = b.told ++ answer ∷ [] }) (record {
           set = v.set;
           set_known = now;
@@ -173,7 +173,7 @@ module _ (c : Cluster) (past : List KeptRecord) (fresh : Asking → Type 0) (his
         (sending c past fresh history me ReaderIn why.Learnt _ (ask_matchmakers me set b.turn) tt (asks_matchmakers history set b.turn))
 
     takes_good : AreKnown v → IsKnown c history v.set → (from : RoleId) (m : Msg) → Member (letter from me m) sent → Good (reader_takes c me d v from m)
-    takes_good are now from (msg.ReadReq seq replica key) x = request_good (asked_for (token from.index seq) replica key)
+    takes_good are now from (msg.ReadReq seq replica key) x = request_good (asked_for (make_token from.index seq) replica key)
     takes_good are now from (msg.MatchReadAck u w es) x = match_ack_good are now from u w es v.running refl x
     takes_good are now from (msg.PreReadAck u w n) x = pre_read_ack_good from u w n v.running
     takes_good are now from (msg.Sets s) x = either_way Good (is_above s v.set) _ _ (anew_good s v.running) (quiet why.Old v)
@@ -208,7 +208,7 @@ module _ (c : Cluster) (past : List KeptRecord) (fresh : Asking → Type 0) (his
       → Lands (RetireFacts c past fresh) history sent states me ReaderIn (reader_row c me (durable_of reader_rules me history) v i)
   reader_lands v i up given =
       let state : InState c history sent me (ReaderIn v) = subst (λ s. InState c history sent me s) up (known.facts.running me) in
-      let any : Token = token 0 0 in
+      let any : Token = make_token 0 0 in
       let counted : InReader c [] any history me (ReaderIn v) = subst (λ s. InReader c [] any history me s) up (known.readers me any) in
       lands c past fresh history sent states h me ReaderIn (reader_row c me (durable_of reader_rules me history) v i)
       (row_good (durable_of reader_rules me history) v (known_so any v counted (λ b e a k. (state.0.batch b e).answers a k)) state.2 i given)

@@ -27,7 +27,8 @@ use Rattle.cx_inv_run.specs.Laws.{Laws, HoldsAlong}
 use Rattle.cx_inv_run.specs.States.{State, Down, BatcherIn, ProxyIn, ReplicaIn, ReplacerIn, plain, states_of, fresh_state, snap_by, durable_of, HoldsIn}
 use Rattle.cx_inv_run.proofs.KindLaws.{kinds_hold}
 use Rattle.cx_inv_run.proofs.Members.{Member-first, Member-reverse, Member-turned}
-use Rattle.cx_inv_run.proofs.Senders.{acceptor_kinds, batcher_kinds, unbatcher_kinds, proxy_kinds, replica_kinds, replacer_kinds}
+use Rattle.cx_inv_run.proofs.Senders.{acceptor_kinds, batcher_kinds, unbatcher_kinds, proxy_kinds, replica_kinds}
+use Rattle.cx_inv_run.proofs.LeaderSenders.{replacer_kinds}
 use Rattle.cx_inv_run.proofs.Steps.{run_from_keeps, always, run_append, run_cluster, all_allowed}
 use Rattle.cx_inv_match.specs.Facts.{Facts}
 use Rattle.cx_inv_match.specs.Words.{HasLog, HasRound, HasGarbage, SetFacts}

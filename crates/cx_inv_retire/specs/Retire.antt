@@ -31,7 +31,7 @@ use Rattle.cx_inv_read.specs.Reads.{Has, InReader}
 abbrev pub IsNewRound : List KeptRecord → Round → Type 0
 IsNewRound history k = (g : Shape) → IsConfig history k g → ⊥
 
--- a matchmaker forgot the rounds below this one, where there are some, or began with a watermark that isn't below it
+-- a matchmaker forgot the rounds below this one, where there are some, or began with a retirement watermark that isn't below it
 abbrev pub HasForgotten : List KeptRecord → RoleId → Round → Type 0
 HasForgotten history m i =
     (is_before no_round i ≡ false)
@@ -50,7 +50,8 @@ pub record IsRetired (c : Cluster) (history : List KeptRecord) (i : Round) : Typ
 abbrev pub IsFromRetired : Cluster → List KeptRecord → List KeptRecord → RoleId → Type 0
 IsFromRetired c past history to = (i : Round) → IsRetired c past i → IsMemberFrom history i to
 
--- a matchmaker that hadn't stopped in the past tells a watermark that isn't below one that it had then, nor below the one with which it began
+-- a matchmaker that hadn't stopped in the past tells a retirement watermark that isn't below one that it had then, nor below the one with which it
+-- began
 pub record IsRisen (c : Cluster) (past history : List KeptRecord) (m : RoleId) (w : Round) : Type 0 where
   pub running : HasStopped past m → ⊥
   pub garbages : (j : Round) (g : Shape) → HasGarbage past m j g → is_before w j ≡ false

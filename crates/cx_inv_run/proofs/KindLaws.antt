@@ -23,7 +23,8 @@ use Rattle.cx_inv_run.specs.Kinds.{IsSender, IsWriter, IsKept, OfKind, Kinds, Ki
 use Rattle.cx_inv_run.specs.Laws.{Lands, Laws, anything}
 use Rattle.cx_inv_run.specs.States.{State, snap_by, BatcherIn, LeaderIn, ProxyIn, ReplicaIn, ReaderIn, ReplacerIn, plain, with_record, durable_of, HoldsIn}
 use Rattle.cx_inv_run.proofs.Members.{Member-both, Member-one, Member-reverse}
-use Rattle.cx_inv_run.proofs.Senders.{acceptor_kinds, matchmaker_kinds, batcher_kinds, unbatcher_kinds, proxy_kinds, replica_kinds, reader_kinds, leader_kinds, replacer_kinds}
+use Rattle.cx_inv_run.proofs.Senders.{acceptor_kinds, matchmaker_kinds, batcher_kinds, unbatcher_kinds, proxy_kinds, replica_kinds, reader_kinds}
+use Rattle.cx_inv_run.proofs.LeaderSenders.{leader_kinds, replacer_kinds}
 use Rattle.cx_inv_run.proofs.Sends.{keeps_only}
 use Rattle.cx_inv_run.proofs.Steps.{run_keeps, along_anything, all_allowed}
 

@@ -153,7 +153,7 @@ readers = record {
   others = λ r l i. by_kind (Others kind.Reader r (record r { readers = l }) i) (λ h. refl) (λ h. refl) (λ h. refl) (λ h. refl) (λ h. refl) (λ h. refl) (λ h. refl) (λ h. refl) (own kind.Reader) (λ h. refl);
 }
 
-abbrev replacers : Place ReplacerVolatile kind.Replacer ReplacerIn
+abbrev pub replacers : Place ReplacerVolatile kind.Replacer ReplacerIn
 replacers = record {
   of = λ r. r.replacers;
   put = λ r l. record r { replacers = l };

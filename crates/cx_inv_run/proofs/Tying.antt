@@ -8,8 +8,9 @@ use Rattle.cx_base.specs.declared.command.Value.{Value}
 use Rattle.cx_base.specs.declared.role.RoleId.{RoleId}
 use Rattle.cx_msg.specs.declared.kept.Record.TheVariants as kept
 use Rattle.cx_model.specs.Ordered.{machine_ordered}
-use Rattle.cx_model.specs.Renewed.{IsOrdered, forgets, renewed_folds}
-use Rattle.cx_model.specs.Replica.{IsTied, Machine, ReplicaDurable, ReplicaVolatile, execute_value, held, machine_from, machine_of, new_machine, replica_after, replica_renewed, replica_rules, replica_snap, snap_mark}
+use Rattle.cx_model.specs.Renewed.{IsOrdered, forgets}
+use Rattle.cx_model.specs.RenewedLaws.{renewed_folds}
+use Rattle.cx_model.specs.Replica.{IsTied, Machine, ReplicaDurable, ReplicaVolatile, execute_value, held, machine_from, machine_of, new_machine, replica_after, replica_renewed, replica_rules, replica_snap, snap_limit}
 use Rattle.cx_model.specs.Rules.{folded}
 
 -- how many slots are held is how many values were kept
@@ -49,20 +50,20 @@ tied_forgets d first values from most tied = record {
 
 -- which slot a replica forgets up to: the mark, which is above its first slot
 pub snap_is : (c : Cluster) (me : RoleId) (d : ReplicaDurable) (v : ReplicaVolatile) (first : ℕ) → replica_snap c me d v ≡ Some first
-    → (first ≡ snap_mark c d v) × (d.first < first)
-snap_is c me d v first e = go (nat_le (snap_mark c d v) d.first) (nat_le 4294967296 (length d.machine.map)) refl e
+    → (first ≡ snap_limit c d v) × (d.first < first)
+snap_is c me d v first e = go (nat_le (snap_limit c d v) d.first) (nat_le 4294967296 (length d.machine.map)) refl e
   where
-    go : (low many : Bool) → nat_le (snap_mark c d v) d.first ≡ low → (if low || many then None else Some (snap_mark c d v)) ≡ Some first
-        → (first ≡ snap_mark c d v) × (d.first < first)
+    go : (low many : Bool) → nat_le (snap_limit c d v) d.first ≡ low → (if low || many then None else Some (snap_limit c d v)) ≡ Some first
+        → (first ≡ snap_limit c d v) × (d.first < first)
     go true many low e = cc
     go false true low e = cc
     go false false low e =
-        let is : snap_mark c d v ≡ first = cc in
+        let is : snap_limit c d v ≡ first = cc in
         (sym is, subst (λ n. d.first < n) is (grind (arith, nat_tests, low)))
 
 -- it is held
-pub mark_held : (c : Cluster) (d : ReplicaDurable) (v : ReplicaVolatile) → snap_mark c d v ≤ held d
-mark_held c d v = go (c.replicas == 1)
+pub limit_held : (c : Cluster) (d : ReplicaDurable) (v : ReplicaVolatile) → snap_limit c d v ≤ held d
+limit_held c d v = go (c.replicas == 1)
   where
     go : (alone : Bool) → (if alone then held d else min (held d) v.fetched) ≤ held d
     go true = omega arith
@@ -75,6 +76,6 @@ tied_snap c me d v first values tied e =
     let is = snap_is c me d v first e in
     let above = is.1 in
     let from : d.first ≤ first = omega (arith, above) in
-    let most : first ≤ held d = subst (λ n. n ≤ held d) (sym is.0) (mark_held c d v) in
+    let most : first ≤ held d = subst (λ n. n ≤ held d) (sym is.0) (limit_held c d v) in
     let ordered : IsOrdered d.machine.table = subst (λ (m : Machine). IsOrdered m.table) (sym tied.machine) (machine_ordered values) in
     subst (λ x. IsTied x values) (sym (renewed_folds d first from ordered)) (tied_forgets d first values from most tied)

@@ -1,19 +1,12 @@
 -- What an event's word `decided` says: a replacer lets a set begin in the place of the one that it knows, and by this word alone. So whoever is asked
 -- to begin in a set, and whoever begins in it, was so after an event that decided this set.
-use Rattle.std.proofs.Common.{◌≡◌, ℕ, not, ◌&&◌, ◌||◌, map, ◌⊎◌, List, [], ◌++◌, length, Option, Some, None, inl, inr, ap, sym, subst, ◌∙◌, refl, ⊎_elim}
-use Rattle.std.specs.Prelude.{nat_lt, nat_le, bytes_eq, slice_get, slice_set, if◌then◌else◌}
+use Rattle.std.proofs.Common.{◌≡◌, ℕ, not, ◌&&◌, ◌||◌, map, ◌⊎◌, List, [], ◌++◌, length, Option, Some, None, inl, inr, ap, sym, ◌∙◌, refl}
+use Rattle.std.specs.Prelude.{nat_lt, nat_le, bytes_eq, if◌then◌else◌}
 use Rattle.std.specs.List.{list_any}
-use Rattle.std.specs.Option.{option_map}
-use Rattle.std.proofs.lemmas.Bool.{cases_eq}
 use Rattle.std.proofs.lemmas.Option.{same_Some}
 use Rattle.cx_base.specs.declared.cluster.Cluster.{Cluster}
-use Rattle.cx_base.specs.declared.event.Cut.{Cut}
-use Rattle.cx_base.specs.declared.event.Cut.TheVariants.{Whole, Torn, Kept}
-use Rattle.cx_base.specs.declared.event.Event.{Event}
-use Rattle.cx_base.specs.declared.event.Event.TheVariants as event
 use Rattle.cx_base.specs.declared.event.Order.{Order as OrderOf}
 use Rattle.cx_base.specs.declared.event.Order.TheVariants.{Lead, Change as ChangeGrid, Collect, Replace}
-use Rattle.cx_base.specs.declared.role.Kind.{Kind}
 use Rattle.cx_base.specs.declared.role.Kind.TheVariants as kind
 use Rattle.cx_base.specs.declared.role.RoleId.{RoleId}
 use Rattle.cx_base.specs.declared.round.Round.{Round}
@@ -25,51 +18,27 @@ use Rattle.cx_base.specs.Role.{role, same_role}
 use Rattle.cx_base.specs.Round.{is_before, same_round, lead_after}
 use Rattle.cx_base.specs.Sets.{is_above}
 use Rattle.cx_field.specs.declared.parts.Entry.{Entry}
-use Rattle.cx_field.specs.declared.parts.Token.{Token}
 use Rattle.cx_grid.specs.Quorum.{with_mark}
 use Rattle.cx_msg.specs.Letter.{Letter}
-use Rattle.cx_msg.specs.declared.input.Act.{Act}
-use Rattle.cx_msg.specs.declared.input.Act.TheVariants.{Give, Snap, Stop, Wake}
 use Rattle.cx_msg.specs.declared.input.Input.{Input}
 use Rattle.cx_msg.specs.declared.input.Input.TheVariants as input
-use Rattle.cx_msg.specs.declared.input.KeptRecord.{KeptRecord}
-use Rattle.cx_msg.specs.declared.input.Written.{Written}
-use Rattle.cx_msg.specs.declared.input.Written.TheVariants as written
 use Rattle.cx_msg.specs.declared.kept.Record.{Record}
 use Rattle.cx_msg.specs.declared.kept.Record.TheVariants as kept
 use Rattle.cx_msg.specs.declared.message.Msg.{Msg}
 use Rattle.cx_msg.specs.declared.message.Msg.TheVariants as msg
 use Rattle.cx_model.specs.declared.states.Replacing.{Replacing}
 use Rattle.cx_model.specs.declared.states.Replacing.TheVariants.{Idle, Stopping, Deciding, Booting}
-use Rattle.cx_model.specs.Acceptor.{acceptor_rules}
-use Rattle.cx_model.specs.Batcher.{batcher_rules}
-use Rattle.cx_model.specs.Heard.{heard_by}
-use Rattle.cx_model.specs.Leader.{leader_rules}
-use Rattle.cx_model.specs.Lists.{get_set_same, get_set_other}
 use Rattle.cx_model.specs.Matched.{enough, first_set}
-use Rattle.cx_model.specs.Matchmaker.{MatchmakerDurable, matchmaker_rules, matchmaker_row, matchmaker_takes, match_a_row, garbage_a_row, match_read_row, stop_a_row, next_a_row, boot_in, boot_a_row, in_set, at_work, set_of, is_booted, is_stopped, has_round}
+use Rattle.cx_model.specs.Matchmaker.{MatchmakerDurable, matchmaker_takes, match_a_row, garbage_a_row, match_read_row, stop_a_row, next_a_row, boot_in, boot_a_row, in_set, at_work, set_of, is_booted, is_stopped, has_round}
 use Rattle.cx_model.specs.Member.{Member}
 use Rattle.cx_model.specs.Names.{names, names_set}
-use Rattle.cx_model.specs.Outcome.{Outcome, answered, replied, by_test}
-use Rattle.cx_model.specs.Promises.{HasKept}
-use Rattle.cx_model.specs.Proxy.{proxy_rules}
-use Rattle.cx_model.specs.Reader.{reader_rules}
-use Rattle.cx_model.specs.Replacer.{ReplacerDurable, ReplacerVolatile, replacer_rules, is_stopping, is_deciding, is_booting, is_resting, has_halted, joined, to_decide, stop_a_to, next_a_to, boot_a_to, sets_to, others, tells, begin_in, decide, halt_counted, stop_b_row, next_b_row, boot_b_row, with_seen, stop_nack_row, sets_row, replacer_takes, tick_in, replacer_orders, replacer_row}
-use Rattle.cx_model.specs.Replica.{replica_rules}
-use Rattle.cx_model.specs.Request.{is_stale, request}
-use Rattle.cx_model.specs.Rules.{Rules}
-use Rattle.cx_model.specs.Turn.{Turn, turn, turn_with, whole_turn, snap_turn}
-use Rattle.cx_model.specs.Unbatcher.{unbatcher_rules}
-use Rattle.cx_model.specs.World.{World, Roles, Change, Turns, change, changed, nothing, come, ask, act_at, act_of, turn_at, turn_found, durable_part, kept_by}
-use Rattle.cx_inv_run.specs.Kinds.{IsSender, IsKept, OfKind}
-use Rattle.cx_inv_run.specs.States.{Given}
-use Rattle.cx_inv_run.proofs.Members.{Member-at, Member-one, Member-both}
-use Rattle.cx_inv_run.proofs.Senders.{acceptor_kinds, matchmaker_kinds, batcher_kinds, unbatcher_kinds, proxy_kinds, replica_kinds, reader_kinds, leader_kinds, replacer_kinds}
+use Rattle.cx_model.specs.Outcome.{Outcome, only_word, replied, by_test}
+use Rattle.cx_model.specs.Replacer.{ReplacerDurable, ReplacerVolatile, is_stopping, is_deciding, is_booting, is_resting, has_halted, joined_entries, to_decide, stop_a_to, next_a_to, boot_a_to, sets_to, others, sets_to_all, begin_in, decide, halt_counted, stop_b_row, next_b_row, boot_b_row, with_seen, stop_nack_row, sets_row, replacer_takes, tick_in, replacer_orders, replacer_row}
+use Rattle.cx_inv_run.proofs.Members.{Member-both}
 use Rattle.cx_inv_vote.proofs.Leading.{each}
-use Rattle.cx_inv_vote.proofs.Rows.{is_role}
 
 -- nobody is asked to begin by these
-abbrev NoBoot : List Letter → Type 0
+abbrev pub NoBoot : List Letter → Type 0
 NoBoot ds = (d : Letter) → Member d ds → (t : List ℕ) (w : Round) (es : List Entry) → msg.BootA t w es ≡ d.msg → ⊥
 
 abbrev begun_in : Msg → List ℕ
@@ -79,15 +48,15 @@ begun_in other = []
 -- the rows of a replacer
 
 -- it lets this set begin, and did so before, or decides it
-abbrev Begins : ReplacerVolatile → Why → List ℕ → Type 0
+abbrev pub Begins : ReplacerVolatile → Why → List ℕ → Type 0
 Begins v y t = ((v.mode ≡ Booting) ⊎ (y ≡ why.Decided)) × (v.next ≡ t)
 
 -- What a row says: it asks to begin in such a set alone, it leaves the replacer in such a set alone, and by its word it goes on with the two sets that
 -- it had.
-record RowSays (v : ReplacerVolatile) (o : Outcome ReplacerVolatile) : Type 0 where
-  asks : (d : Letter) → Member d o.sends → (t : List ℕ) (w : Round) (es : List Entry) → msg.BootA t w es ≡ d.msg → Begins v o.why t
-  boots : o.volatile.mode ≡ Booting → Begins v o.why o.volatile.next
-  decided : o.why ≡ why.Decided → (o.volatile.mode ≡ Booting) × (o.volatile.set ≡ v.set) × (o.volatile.next ≡ v.next)
+pub record RowSays (v : ReplacerVolatile) (o : Outcome ReplacerVolatile) : Type 0 where
+  pub asks : (d : Letter) → Member d o.sends → (t : List ℕ) (w : Round) (es : List Entry) → msg.BootA t w es ≡ d.msg → Begins v o.why t
+  pub boots : o.volatile.mode ≡ Booting → Begins v o.why o.volatile.next
+  pub decided : o.why ≡ why.Decided → (o.volatile.mode ≡ Booting) × (o.volatile.set ≡ v.set) × (o.volatile.next ≡ v.next)
 
 -- its mode is another than the last one, or it goes on with its set
 abbrev Stays : ReplacerVolatile → ReplacerVolatile → Type 0
@@ -101,7 +70,7 @@ says_else v u y r ds other stays none = record {
   decided = λ e. absurd (other e);
 }
 
-says_nothing : (v u : ReplacerVolatile) (y : Why) → (y ≡ why.Decided → ⊥) → Stays v u → RowSays v (answered y u)
+says_nothing : (v u : ReplacerVolatile) (y : Why) → (y ≡ why.Decided → ⊥) → Stays v u → RowSays v (only_word y u)
 says_nothing v u y other stays = says_else v u y None [] other stays (λ d m. absurd m)
 
 none_each : (make : ℕ → Letter) (ns : List ℕ) → ((n : ℕ) (t : List ℕ) (w : Round) (es : List Entry) → msg.BootA t w es ≡ (make n).msg → ⊥) → NoBoot (map make ns)
@@ -111,7 +80,7 @@ module _ (c : Cluster) (me : RoleId) (dur : ReplacerDurable) (v : ReplacerVolati
   abbrev Says : Outcome ReplacerVolatile → Type 0
   Says o = RowSays v o
 
-  same : (y : Why) → (y ≡ why.Decided → ⊥) → Says (answered y v)
+  same : (y : Why) → (y ≡ why.Decided → ⊥) → Says (only_word y v)
   same y other = says_nothing v v y other (λ e. (e, refl))
 
   -- all members of the next set are asked to begin
@@ -125,7 +94,7 @@ module _ (c : Cluster) (me : RoleId) (dur : ReplacerDurable) (v : ReplacerVolati
     decided = decided;
   }
 
-  tells_no_boot : (s : List ℕ) → NoBoot (tells c me s)
+  tells_no_boot : (s : List ℕ) → NoBoot (sets_to_all c me s)
   tells_no_boot s =
       Member-both (λ (d : Letter). (t : List ℕ) (w : Round) (es : List Entry) → msg.BootA t w es ≡ d.msg → ⊥)
       (map (λ l. sets_to me s (role kind.Leader l)) (below c.leaders) ++ map (λ r. sets_to me s (role kind.Reader r)) (below c.readers))
@@ -160,7 +129,7 @@ module _ (c : Cluster) (me : RoleId) (dur : ReplacerDurable) (v : ReplacerVolati
   tick_says : (mode : Replacing) → v.mode ≡ mode → Says (tick_in c me dur v mode)
   tick_says Idle is =
       by_test Says (is_above v.set (first_set c)) _ _
-      (λ t. says_else v v why.Resent None (tells c me v.set) (λ e. cc) (λ e. (e, refl)) (tells_no_boot v.set))
+      (λ t. says_else v v why.Resent None (sets_to_all c me v.set) (λ e. cc) (λ e. (e, refl)) (tells_no_boot v.set))
       (λ f. same why.Idle (λ e. cc))
   tick_says Stopping is =
       says_else v v why.Resent None (map (stop_a_to me dur.own) v.set) (λ e. cc) (λ e. (e, refl)) (none_each (stop_a_to me dur.own) v.set (λ n t w es e. cc))
@@ -181,7 +150,7 @@ module _ (c : Cluster) (me : RoleId) (dur : ReplacerDurable) (v : ReplacerVolati
   halt_says u mode next =
       by_test Says (nat_lt (length u.halts) (enough c)) _ _
       (λ t. says_nothing v u why.Counted (λ e. cc) (λ e. (sym mode ∙ e, next)))
-      (λ k. decide_says u (joined u.halts) (to_decide u.next u.halts))
+      (λ k. decide_says u (joined_entries u.halts) (to_decide u.next u.halts))
 
   stop_b_says : (from : RoleId) (b w : Round) (es : List Entry) (a : Round) (s : List ℕ) → Says (stop_b_row c me dur v from b w es a s)
   stop_b_says from b w es a s =
@@ -213,7 +182,7 @@ module _ (c : Cluster) (me : RoleId) (dur : ReplacerDurable) (v : ReplacerVolati
       (λ t. same why.Same (λ e. cc))
       (λ g. by_test Says (nat_lt (length (with_mark from.index v.counted)) (enough c)) _ _
       (λ t. says_nothing v (record v { counted = with_mark from.index v.counted }) why.Counted (λ e. cc) (λ e. (e, refl)))
-      (λ k. says_else v (record v { mode = Idle; set = v.next }) why.Replaced None (tells c me v.next) (λ e. cc) (λ e. cc) (tells_no_boot v.next))))
+      (λ k. says_else v (record v { mode = Idle; set = v.next }) why.Replaced None (sets_to_all c me v.next) (λ e. cc) (λ e. cc) (tells_no_boot v.next))))
 
   -- a greater ballot, another set
 
@@ -237,7 +206,7 @@ module _ (c : Cluster) (me : RoleId) (dur : ReplacerDurable) (v : ReplacerVolati
   takes_says from (msg.Sets s) = sets_says s
   takes_says from other = same why.Stranger (λ e. cc)
 
-  row_says : (i : Input) → Says (replacer_row c me dur v i)
+  pub row_says : (i : Input) → Says (replacer_row c me dur v i)
   row_says (input.Take d) =
       by_test Says (same_role d.to me && names c d) _ _ (λ t. takes_says d.from d.msg) (λ f. same why.Stranger (λ e. cc))
   row_says input.Tick = tick_says v.mode refl
@@ -255,7 +224,7 @@ module _ (c : Cluster) (me : RoleId) (d : MatchmakerDurable) (m : Msg) where
 
   at_work_asked : (o : Outcome (Unit {0})) → WasAsked o → WasAsked (at_work c me d o)
   at_work_asked o h =
-      in_set_asked (if is_stopped d then answered why.Stopped tt else o) (by_test WasAsked (is_stopped d) _ _ (λ k t w es e. cc) (λ k. h))
+      in_set_asked (if is_stopped d then only_word why.Stopped tt else o) (by_test WasAsked (is_stopped d) _ _ (λ k t w es e. cc) (λ k. h))
 
   match_a_asked : (from : RoleId) (i : Round) (g : Shape) → WasAsked (match_a_row me d from i g)
   match_a_asked from i g =
@@ -294,7 +263,7 @@ module _ (c : Cluster) (me : RoleId) (d : MatchmakerDurable) (m : Msg) where
       go None = λ t v xs e. begun t v xs (same_Some (kept.Boot s w es) (kept.Boot t v xs) e) ∙ sym is
       go (Some u) = by_test WasAsked (bytes_eq s u) _ _ (λ k t v xs e. cc) (λ k t v xs e. cc)
 
-boot_asked : (c : Cluster) (me : RoleId) (d : MatchmakerDurable) (from : RoleId) (m : Msg) → WasAsked c me d m (matchmaker_takes c me d from m)
+pub boot_asked : (c : Cluster) (me : RoleId) (d : MatchmakerDurable) (from : RoleId) (m : Msg) → WasAsked c me d m (matchmaker_takes c me d from m)
 boot_asked c me d from (msg.MatchA i g) =
     at_work_asked c me d (msg.MatchA i g) (match_a_row me d from i g) (match_a_asked c me d (msg.MatchA i g) from i g)
 boot_asked c me d from (msg.GarbageA i g) =
@@ -304,356 +273,3 @@ boot_asked c me d from (msg.StopA b) = in_set_asked c me d (msg.StopA b) (stop_a
 boot_asked c me d from (msg.NextA b s) = in_set_asked c me d (msg.NextA b s) (next_a_row me d from b s) (next_a_asked c me d (msg.NextA b s) from b s)
 boot_asked c me d from (msg.BootA s w es) = boot_a_asked c me d (msg.BootA s w es) from s w es refl
 boot_asked c me d from other = λ t w es e. cc
-
--- what an event does
-
--- what an act gives was sent to the role
-abbrev GivenBy : List Letter → RoleId → Act → Type 0
-GivenBy sent me act = (i : Input) (cut : Cut) → act ≡ Give i cut → Given sent me i
-
-module _ (w : World) (Was : List ℕ → Type 0)
-    (was_asked : (d : Letter) → Member d w.sent → (t : List ℕ) (v : Round) (es : List Entry) → msg.BootA t v es ≡ d.msg → Was t)
-    (was_booting : (x : ℕ) (v : ReplacerVolatile) → slice_get w.roles.replacers x ≡ Some (Some v) → v.mode ≡ Booting → Was v.next) where
-  -- the event decides this set
-  pub record DecidedBy (ch : Change) (t : List ℕ) : Type 0 where
-    pub index : ℕ
-    pub volatile : ReplacerVolatile
-    pub at_it : ch.who ≡ Some (role kind.Replacer index)
-    pub word : ch.why ≡ why.Decided
-    pub knew : slice_get w.roles.replacers index ≡ Some (Some volatile)
-    pub next_is : volatile.next ≡ t
-
-  pub record Follows (ch : Change) : Type 0 where
-    pub asks : (d : Letter) → Member d ch.sends → (t : List ℕ) (v : Round) (es : List Entry) → msg.BootA t v es ≡ d.msg → Was t ⊎ DecidedBy ch t
-    pub begins : (who : RoleId) (t : List ℕ) (v : Round) (es : List Entry) → HasKept ch.kept who (kept.Boot t v es) → Was t
-    pub boots : (x : ℕ) (v : ReplacerVolatile) → slice_get ch.roles.replacers x ≡ Some (Some v) → v.mode ≡ Booting → Was v.next ⊎ DecidedBy ch v.next
-    pub decides : (who : RoleId) → who.kind ≡ kind.Replacer → ch.who ≡ Some who → ch.why ≡ why.Decided
-        → (v : ReplacerVolatile) → slice_get w.roles.replacers who.index ≡ Some (Some v)
-        → (u : ReplacerVolatile) × (slice_get ch.roles.replacers who.index ≡ Some (Some u)) × (u.mode ≡ Booting) × (u.set ≡ v.set) × (u.next ≡ v.next)
-
-  -- where the replacers stay as they are, nobody is asked to begin, and whoever begins was asked
-  unchanged : (ch : Change) → ch.roles.replacers ≡ w.roles.replacers → NoBoot ch.sends
-      → ((who : RoleId) (t : List ℕ) (v : Round) (es : List Entry) → HasKept ch.kept who (kept.Boot t v es) → Was t)
-      → ((who : RoleId) → who.kind ≡ kind.Replacer → ch.who ≡ Some who → ch.why ≡ why.Decided → ⊥) → Follows ch
-  unchanged ch same none begins other = record {
-    asks = λ d m t v es e. absurd (none d m t v es e);
-    begins = begins;
-    boots = λ x v e m. inl (was_booting x v (subst (λ l. slice_get l x ≡ Some (Some v)) same e) m);
-    decides = λ who is at word. absurd (other who is at word);
-  }
-
-  -- a turn of a role that is no replacer
-
-  record IsMild {V : Type 0} (t : Turn V) : Type 0 where
-    asks : NoBoot t.sends
-    begins : (s : List ℕ) (v : Round) (es : List Entry) → t.kept ≡ Some (written.Record (kept.Boot s v es)) → Was s
-
-  module _ {V : Type 0} (me : RoleId) (no_replacer : me.kind ≡ kind.Replacer → ⊥) where
-    sends_mild : (o : Outcome V) → OfKind me o → NoBoot o.sends
-    sends_mild o of_kind d m t v es e = no_replacer (subst (λ x. IsSender me.kind x) (sym e) (of_kind.sends d m).1)
-
-    whole_mild : (o : Outcome V) → OfKind me o → ((s : List ℕ) (v : Round) (es : List Entry) → o.kept ≡ Some (kept.Boot s v es) → Was s) → IsMild (whole_turn o)
-    whole_mild o of_kind begins = record { asks = sends_mild o of_kind; begins = go o.kept refl }
-      where
-        go : (r : Option Record) → o.kept ≡ r → (s : List ℕ) (v : Round) (es : List Entry) → option_map written.Record r ≡ Some (written.Record (kept.Boot s v es)) → Was s
-        go None e s v es q = cc
-        go (Some r) e s v es q = begins s v es (e ∙ cc)
-
-    cut_mild : (cut : Cut) (o : Outcome V) (r : Option Record) → o.kept ≡ r → OfKind me o
-        → ((s : List ℕ) (v : Round) (es : List Entry) → o.kept ≡ Some (kept.Boot s v es) → Was s) → IsMild (turn_with cut r o)
-    cut_mild cut o None e of_kind begins = whole_mild o of_kind begins
-    cut_mild Whole o (Some r) e of_kind begins = whole_mild o of_kind begins
-    cut_mild Torn o (Some r) e of_kind begins = record { asks = λ d m. absurd m; begins = λ s v es q. cc }
-    cut_mild Kept o (Some r) e of_kind begins = record { asks = λ d m. absurd m; begins = λ s v es q. begins s v es (e ∙ cc) }
-
-  still_mild : {V : Type 0} (t : Turn V) → t.sends ≡ [] → ((s : List ℕ) (v : Round) (es : List Entry) → t.kept ≡ Some (written.Record (kept.Boot s v es)) → ⊥) → IsMild t
-  still_mild t silent none = record { asks = subst (λ ds. NoBoot ds) (sym silent) (λ d m. absurd m); begins = λ s v es q. absurd (none s v es q) }
-
-  module _ {D V : Type 0} (rules : Rules D V) (me : RoleId) (no_replacer : me.kind ≡ kind.Replacer → ⊥) (d : D) (act : Act)
-      (of_kind : (v : V) (i : Input) → OfKind me (rules.row w.cluster me d v i))
-      (begins : (v : V) (i : Input) (cut : Cut) → act ≡ Give i cut → (s : List ℕ) (b : Round) (es : List Entry) → (rules.row w.cluster me d v i).kept ≡ Some (kept.Boot s b es) → Was s) where
-    snap_mild : (cut : Cut) (v : V) (o : Option ℕ) → IsMild (snap_turn cut v o)
-    snap_mild cut v None = still_mild _ refl (λ s b es q. cc)
-    snap_mild Whole v (Some first) = still_mild _ refl (λ s b es q. cc)
-    snap_mild Torn v (Some first) = still_mild _ refl (λ s b es q. cc)
-    snap_mild Kept v (Some first) = still_mild _ refl (λ s b es q. cc)
-
-    turn_mild : (a : Act) → act ≡ a → (running : Option V) → IsMild (turn rules w.cluster me d a running)
-    turn_mild (Give i cut) is None = still_mild _ refl (λ s b es q. cc)
-    turn_mild (Give i cut) is (Some v) =
-        cut_mild me no_replacer cut (rules.row w.cluster me d v i) ((rules.row w.cluster me d v i).kept) refl (of_kind v i) (begins v i cut is)
-    turn_mild (Snap cut) is None = still_mild _ refl (λ s b es q. cc)
-    turn_mild (Snap cut) is (Some v) = snap_mild cut v (rules.snap w.cluster me d v)
-    turn_mild Stop is None = still_mild _ refl (λ s b es q. cc)
-    turn_mild Stop is (Some v) = still_mild _ refl (λ s b es q. cc)
-    turn_mild Wake is None = still_mild _ refl (λ s b es q. cc)
-    turn_mild Wake is (Some v) = still_mild _ refl (λ s b es q. cc)
-
-  -- what a role keeps in its turn is its change
-  kept_of : (me who : RoleId) (k : Option Written) (r : Record) → HasKept (kept_by me k) who r → k ≡ Some (written.Record r)
-  kept_of me who None r m = absurd m
-  kept_of me who (Some x) r (inl e) = ap (λ (k : KeptRecord). Some k.what) (sym e)
-  kept_of me who (Some x) r (inr m) = absurd m
-
-  record AreMild {V : Type 0} (t : Turns V) : Type 0 where
-    asks : NoBoot t.sends
-    begins : (who : RoleId) (s : List ℕ) (v : Round) (es : List Entry) → HasKept t.kept who (kept.Boot s v es) → Was s
-
-  found_mild : {D V : Type 0} (rules : Rules D V) (me : RoleId) (act : Act) (roles : List (Option V))
-      → ((running : Option V) → IsMild (turn rules w.cluster me (durable_part rules me w.kept) act running)) → (o : Option (Option V))
-      → AreMild (turn_found rules w.cluster me w.kept act roles o)
-  found_mild rules me act roles mild None = record { asks = λ d m. absurd m; begins = λ who s v es m. absurd m }
-  found_mild rules me act roles mild (Some running) = record {
-    asks = (mild running).asks;
-    begins = λ who s v es m. (mild running).begins s v es (kept_of me who _ (kept.Boot s v es) m);
-  }
-
-  mild_follows : {V : Type 0} (me : RoleId) (k : Kind) → me.kind ≡ k → (k ≡ kind.Replacer → ⊥) → (roles : Roles) → roles.replacers ≡ w.roles.replacers
-      → (t : Turns V) → AreMild t → Follows (changed me roles t)
-  mild_follows me k is other roles same t mild =
-      unchanged (changed me roles t) same mild.asks mild.begins
-      (λ who kind_is at word. other (sym is ∙ subst (λ (x : RoleId). x.kind ≡ kind.Replacer) (sym (same_Some me who at)) kind_is))
-
-  module _ {D V : Type 0} (rules : Rules D V) (me : RoleId) (k : Kind) (is : me.kind ≡ k) (other : k ≡ kind.Replacer → ⊥) (act : Act) (list : List (Option V)) where
-    -- of a kind that never begins in a set
-    calm_turns : (k ≡ kind.Matchmaker → ⊥) → ((d : D) (v : V) (i : Input) → OfKind me (rules.row w.cluster me d v i)) → AreMild (turn_at rules w.cluster me w.kept act list)
-    calm_turns no_matchmaker of_kind =
-        let d = durable_part rules me w.kept in
-        found_mild rules me act list
-        (turn_mild rules me (λ e. other (sym is ∙ e)) d act (of_kind d)
-        (λ v i cut p s b es e. absurd (no_matchmaker (sym is ∙ subst (λ o. IsKept me.kind o) e (of_kind d v i).keeps))) act refl)
-        (slice_get list me.index)
-
-  -- a turn of a replacer
-
-  record TurnSays (running : Option ReplacerVolatile) (t : Turn ReplacerVolatile) : Type 0 where
-    asks : (d : Letter) → Member d t.sends → (s : List ℕ) (v : Round) (es : List Entry) → msg.BootA s v es ≡ d.msg
-        → (u : ReplacerVolatile) × (running ≡ Some u) × Begins u t.why s
-    begins : (s : List ℕ) (v : Round) (es : List Entry) → t.kept ≡ Some (written.Record (kept.Boot s v es)) → ⊥
-    boots : (v : ReplacerVolatile) → t.role ≡ Some v → v.mode ≡ Booting → (u : ReplacerVolatile) × (running ≡ Some u) × Begins u t.why v.next
-    decided : t.why ≡ why.Decided → (v : ReplacerVolatile) → running ≡ Some v
-        → (u : ReplacerVolatile) × (t.role ≡ Some u) × (u.mode ≡ Booting) × (u.set ≡ v.set) × (u.next ≡ v.next)
-
-  -- it stops, or no row was used
-  still_says : (running after : Option ReplacerVolatile) (y : Why) → (y ≡ why.Decided → ⊥)
-      → ((v : ReplacerVolatile) → after ≡ Some v → v.mode ≡ Booting → running ≡ Some v)
-      → TurnSays running (record { why = y; role = after; kept = None; sends = [] })
-  still_says running after y other stays = record {
-    asks = λ d m. absurd m;
-    begins = λ s v es q. cc;
-    boots = λ v e m. (v, stays v e m, (inl m, refl));
-    decided = λ e. absurd (other e);
-  }
-
-  module _ (me : RoleId) (is : me.kind ≡ kind.Replacer) (d : ReplacerDurable) where
-    row_kept : (v : ReplacerVolatile) (i : Input) (s : List ℕ) (b : Round) (es : List Entry) → (replacer_row w.cluster me d v i).kept ≡ Some (kept.Boot s b es) → ⊥
-    row_kept v i s b es e = no_matchmaker (sym is ∙ subst (λ o. IsKept me.kind o) e (replacer_kinds w.cluster me is d v i).keeps)
-      where
-        no_matchmaker : kind.Replacer ≡ kind.Matchmaker → ⊥
-        no_matchmaker e = cc
-
-    whole_says : (v : ReplacerVolatile) (i : Input) → TurnSays (Some v) (whole_turn (replacer_row w.cluster me d v i))
-    whole_says v i =
-        let o = replacer_row w.cluster me d v i in
-        let says = row_says w.cluster me d v i in
-        record {
-          asks = λ x m s b es e. (v, refl, says.asks x m s b es e);
-          begins = go o.kept refl;
-          boots = λ u e m. (v, refl, subst (λ (x : ReplacerVolatile). Begins v o.why x.next) (same_Some o.volatile u e) (says.boots (subst (λ (x : ReplacerVolatile). x.mode ≡ Booting) (sym (same_Some o.volatile u e)) m)));
-          decided = λ e u q.
-              let p = says.decided e in
-              let same = same_Some v u q in
-              (o.volatile, refl, p.0, subst (λ (x : ReplacerVolatile). o.volatile.set ≡ x.set) same p.1, subst (λ (x : ReplacerVolatile). o.volatile.next ≡ x.next) same p.2);
-        }
-      where
-        go : (r : Option Record) → (replacer_row w.cluster me d v i).kept ≡ r → (s : List ℕ) (b : Round) (es : List Entry)
-            → option_map written.Record r ≡ Some (written.Record (kept.Boot s b es)) → ⊥
-        go None e s b es q = cc
-        go (Some r) e s b es q = row_kept v i s b es (e ∙ cc)
-
-    cut_says : (v : ReplacerVolatile) (i : Input) (cut : Cut) (r : Option Record) → (replacer_row w.cluster me d v i).kept ≡ r
-        → TurnSays (Some v) (turn_with cut r (replacer_row w.cluster me d v i))
-    cut_says v i cut None e = whole_says v i
-    cut_says v i Whole (Some r) e = whole_says v i
-    cut_says v i Torn (Some r) e = still_says (Some v) None why.Torn (λ q. cc) (λ u q m. cc)
-    cut_says v i Kept (Some r) e = record {
-      asks = λ x m. absurd m;
-      begins = λ s b es q. row_kept v i s b es (e ∙ cc);
-      boots = λ u q m. cc;
-      decided = λ q. cc;
-    }
-
-    idle : (v : ReplacerVolatile) → ◌≡◌ {A = Option ReplacerVolatile} (Some (replacer_rules.fresh w.cluster)) (Some v) → v.mode ≡ Booting → ⊥
-    idle v e m = (let p : Idle ≡ Booting = ap (λ (x : ReplacerVolatile). x.mode) (same_Some (replacer_rules.fresh w.cluster) v e) ∙ m in cc)
-
-    turn_says : (act : Act) (running : Option ReplacerVolatile) → TurnSays running (turn replacer_rules w.cluster me d act running)
-    turn_says (Give i cut) None = still_says None None why.Down (λ q. cc) (λ u q m. q)
-    turn_says (Give i cut) (Some v) = cut_says v i cut ((replacer_row w.cluster me d v i).kept) refl
-    turn_says (Snap cut) None = still_says None None why.Down (λ q. cc) (λ u q m. q)
-    turn_says (Snap cut) (Some v) = still_says (Some v) (Some v) why.Idle (λ q. cc) (λ u q m. q)
-    turn_says Stop None = still_says None None why.Down (λ q. cc) (λ u q m. q)
-    turn_says Stop (Some v) = still_says (Some v) None why.Crashed (λ q. cc) (λ u q m. cc)
-    turn_says Wake None = still_says None (Some (replacer_rules.fresh w.cluster)) why.Opened (λ q. cc) (λ u q m. absurd (idle u q m))
-    turn_says Wake (Some v) = still_says (Some v) (Some v) why.Up (λ q. cc) (λ u q m. q)
-
-  module _ (me : RoleId) (is : me.kind ≡ kind.Replacer) (act : Act) where
-    abbrev dur : ReplacerDurable
-    dur = durable_part replacer_rules me w.kept
-
-    module _ (running : Option ReplacerVolatile) (found : slice_get w.roles.replacers me.index ≡ Some running) where
-      abbrev done : Turn ReplacerVolatile
-      done = turn replacer_rules w.cluster me dur act running
-
-      abbrev ch : Change
-      ch = changed me (record w.roles { replacers = slice_set w.roles.replacers me.index done.role })
-          (record { why = done.why; roles = slice_set w.roles.replacers me.index done.role; kept = kept_by me done.kept; sends = done.sends })
-
-      says : TurnSays running done
-      says = turn_says me is dur act running
-
-      -- it let the set begin before, or decides it now
-      either : (s : List ℕ) → (u : ReplacerVolatile) × (running ≡ Some u) × Begins u done.why s → Was s ⊎ DecidedBy ch s
-      either s x = elim x.2.0 [
-        | inl m ↦ inl (subst Was x.2.1 (was_booting me.index x.0 (found ∙ ap (λ o. Some o) x.1) m))
-        | inr y ↦ inr record {
-          index = me.index;
-          volatile = x.0;
-          at_it = ap (λ a. Some a) (is_role me kind.Replacer is);
-          word = y;
-          knew = found ∙ ap (λ o. Some o) x.1;
-          next_is = x.2.1;
-        }
-      ]
-
-      after : (x : ℕ) (v : ReplacerVolatile) → slice_get (slice_set w.roles.replacers me.index done.role) x ≡ Some (Some v) → v.mode ≡ Booting → Was v.next ⊎ DecidedBy ch v.next
-      after x v e m = ⊎_elim
-          (λ p. either v.next (says.boots v
-          (same_Some done.role (Some v) (sym (get_set_same w.roles.replacers me.index running done.role found)
-          ∙ subst (λ n. slice_get (slice_set w.roles.replacers me.index done.role) n ≡ Some (Some v)) p e)) m))
-          (λ d. inl (was_booting x v (sym (get_set_other w.roles.replacers me.index x done.role d) ∙ e) m))
-          (cases_eq x me.index)
-
-      turn_follows : Follows ch
-      turn_follows = record {
-        asks = λ d m s v es e. either s (says.asks d m s v es e);
-        begins = λ who s v es m. absurd (says.begins s v es (kept_of me who done.kept (kept.Boot s v es) m));
-        boots = after;
-        decides = λ who kind_is at word v knew.
-            let mine : me ≡ who = same_Some me who at in
-            let place = subst (λ (a : RoleId). slice_get w.roles.replacers a.index ≡ Some (Some v)) (sym mine) knew in
-            let r = says.decided word v (same_Some running (Some v) (sym found ∙ place)) in (
-              r.0,
-              subst (λ (a : RoleId). slice_get (slice_set w.roles.replacers me.index done.role) a.index ≡ Some (Some r.0)) mine
-                  (get_set_same w.roles.replacers me.index running done.role found ∙ ap (λ o. Some o) r.1),
-              r.2,
-              r.3,
-              r.4,
-            );
-      }
-
-    found_follows : (o : Option (Option ReplacerVolatile)) → slice_get w.roles.replacers me.index ≡ o
-        → (let t = turn_found replacer_rules w.cluster me w.kept act w.roles.replacers o in Follows (changed me (record w.roles { replacers = t.roles }) t))
-    found_follows None e = unchanged _ refl (λ d m. absurd m) (λ who t v es m. absurd m) (λ who k at word. cc)
-    found_follows (Some running) e = turn_follows running e
-
-  -- a turn of a matchmaker
-
-  module _ (me : RoleId) (d : MatchmakerDurable) where
-    boot_was : (i : Input) → Given w.sent me i → (s : List ℕ) (b : Round) (es : List Entry) → (matchmaker_row w.cluster me d tt i).kept ≡ Some (kept.Boot s b es) → Was s
-    boot_was (input.Take l) given =
-        by_test (λ (o : Outcome (Unit {0})). (s : List ℕ) (b : Round) (es : List Entry) → o.kept ≡ Some (kept.Boot s b es) → Was s) (same_role l.to me && names w.cluster l) _ _
-        (λ t s b es e. was_asked l given.1 s b es (boot_asked w.cluster me d l.from l.msg s b es e))
-        (λ f s b es e. cc)
-    boot_was input.Tick given = λ s b es e. cc
-    boot_was (input.Order order) given = λ s b es e. cc
-
-  matchmaker_turns : (act : Act) (me : RoleId) → GivenBy w.sent me act → me.kind ≡ kind.Matchmaker → AreMild (turn_at matchmaker_rules w.cluster me w.kept act w.roles.matchmakers)
-  matchmaker_turns act me given is =
-      let d = durable_part matchmaker_rules me w.kept in
-      found_mild matchmaker_rules me act w.roles.matchmakers
-      (turn_mild matchmaker_rules me (λ e. no_replacer (sym is ∙ e)) d act (λ v i. matchmaker_kinds w.cluster me is d i) (λ v i cut p. boot_was me d i (given i cut p)) act refl)
-      (slice_get w.roles.matchmakers me.index)
-    where
-      no_replacer : kind.Matchmaker ≡ kind.Replacer → ⊥
-      no_replacer e = cc
-
-  -- an act at a role of each kind
-
-  act_follows : (act : Act) (me : RoleId) → GivenBy w.sent me act → (k : Kind) → me.kind ≡ k → Follows (act_of w.cluster w.roles w.kept act me k)
-  act_follows act me given kind.Client is = unchanged _ refl (λ d m. absurd m) (λ who t v es m. absurd m) (λ who k at word. cc)
-  act_follows act me given kind.Batcher is =
-      mild_follows me kind.Batcher is (λ e. cc) _ refl _
-      (calm_turns batcher_rules me kind.Batcher is (λ e. cc) act w.roles.batchers (λ e. cc) (λ d v i. batcher_kinds w.cluster me is v i))
-  act_follows act me given kind.Leader is =
-      mild_follows me kind.Leader is (λ e. cc) _ refl _
-      (calm_turns leader_rules me kind.Leader is (λ e. cc) act w.roles.leaders (λ e. cc) (λ d v i. leader_kinds w.cluster me is d v i))
-  act_follows act me given kind.Proxy is =
-      mild_follows me kind.Proxy is (λ e. cc) _ refl _
-      (calm_turns proxy_rules me kind.Proxy is (λ e. cc) act w.roles.proxies (λ e. cc) (λ d v i. proxy_kinds w.cluster me is v i))
-  act_follows act me given kind.Acceptor is =
-      mild_follows me kind.Acceptor is (λ e. cc) _ refl _
-      (calm_turns acceptor_rules me kind.Acceptor is (λ e. cc) act w.roles.acceptors (λ e. cc) (λ d v i. acceptor_kinds w.cluster me is d i))
-  act_follows act me given kind.Matchmaker is =
-      mild_follows me kind.Matchmaker is (λ e. cc) _ refl _ (matchmaker_turns act me given is)
-  act_follows act me given kind.Replica is =
-      mild_follows me kind.Replica is (λ e. cc) _ refl _
-      (calm_turns replica_rules me kind.Replica is (λ e. cc) act w.roles.replicas (λ e. cc) (λ d v i. replica_kinds w.cluster me is d v i))
-  act_follows act me given kind.Unbatcher is =
-      mild_follows me kind.Unbatcher is (λ e. cc) _ refl _
-      (calm_turns unbatcher_rules me kind.Unbatcher is (λ e. cc) act w.roles.unbatchers (λ e. cc) (λ d v i. unbatcher_kinds w.cluster me is i))
-  act_follows act me given kind.Reader is =
-      mild_follows me kind.Reader is (λ e. cc) _ refl _
-      (calm_turns reader_rules me kind.Reader is (λ e. cc) act w.roles.readers (λ e. cc) (λ d v i. reader_kinds w.cluster me is d v i))
-  act_follows act me given kind.Replacer is = found_follows me is act (slice_get w.roles.replacers me.index) refl
-
-  acts : (act : Act) (me : RoleId) → GivenBy w.sent me act → Follows (act_at w act me)
-  acts act me given = act_follows act me given me.kind refl
-
-  still : (who : Option RoleId) (y : Why) → (y ≡ why.Decided → ⊥) → Follows (nothing who w.roles y)
-  still who y other = unchanged _ refl (λ d m. absurd m) (λ a t v es m. absurd m) (λ a k at word. other word)
-
-  comes : (cut : Cut) (o : Option Letter) → ((d : Letter) → o ≡ Some d → Member d w.sent) → Follows (come w cut o)
-  comes cut None sent = still None why.Absent (λ e. cc)
-  comes cut (Some d) sent = acts (Give (input.Take d) cut) d.to (λ i k e. taken i k e)
-    where
-      taken : (i : Input) (k : Cut) → Give (input.Take d) cut ≡ Give i k → Given w.sent d.to i
-      taken i k e = let q : input.Take d ≡ i = cc in subst (λ x. Given w.sent d.to x) q (refl, sent d refl)
-
-  -- a client asks nobody to begin
-  request_asks : (n : ℕ) (e : Event) → NoBoot (request n e)
-  request_asks n (event.Write command batcher) = Member-one (λ (d : Letter). (t : List ℕ) (v : Round) (es : List Entry) → msg.BootA t v es ≡ d.msg → ⊥) _ (λ t v es e. cc)
-  request_asks n (event.Read client seq floor reader replica key) =
-      Member-one (λ (d : Letter). (t : List ℕ) (v : Round) (es : List Entry) → msg.BootA t v es ≡ d.msg → ⊥) _ (λ t v es e. cc)
-  request_asks n (event.Session client seq floor replica key) =
-      Member-one (λ (d : Letter). (t : List ℕ) (v : Round) (es : List Entry) → msg.BootA t v es ≡ d.msg → ⊥) _ (λ t v es e. cc)
-  request_asks n (event.Deliver number cut) = λ d m. absurd m
-  request_asks n (event.Tick r) = λ d m. absurd m
-  request_asks n (event.Order leader order cut) = λ d m. absurd m
-  request_asks n (event.Replace replacer set cut) = λ d m. absurd m
-  request_asks n (event.Snap p cut) = λ d m. absurd m
-  request_asks n (event.Crash r) = λ d m. absurd m
-  request_asks n (event.Restart r) = λ d m. absurd m
-
-  asked : (e : Event) (t : Token) → Follows (ask w e (Some t))
-  asked e t =
-      by_test Follows (is_stale t e w.events) _ _
-      (λ k. still (Some (role kind.Client t.client)) why.Stale (λ q. cc))
-      (λ k. unchanged _ refl (request_asks (heard_by t.client w.sent w.events) e) (λ a s v es m. absurd m) (λ a j at word. cc))
-
-  no_given : (me : RoleId) (act : Act) → ((i : Input) (cut : Cut) → act ≡ Give i cut → ⊥) → GivenBy w.sent me act
-  no_given me act none i cut e = absurd (none i cut e)
-
-  pub follows : (e : Event) → Follows (change w e)
-  follows (event.Write command batcher) = asked (event.Write command batcher) (record { client = command.client; seq = command.seq })
-  follows (event.Read client seq floor reader replica key) = asked (event.Read client seq floor reader replica key) (record { client = client; seq = seq })
-  follows (event.Session client seq floor replica key) = asked (event.Session client seq floor replica key) (record { client = client; seq = seq })
-  follows (event.Deliver n cut) = comes cut (slice_get w.sent n) (λ d e. Member-at d w.sent n e)
-  follows (event.Tick r) = acts (Give input.Tick Whole) r (λ i cut e. let q : input.Tick ≡ i = cc in subst (λ x. Given w.sent r x) q tt)
-  follows (event.Order l order cut) =
-      acts (Give (input.Order order) cut) (role kind.Leader l) (λ i k e. let q : input.Order order ≡ i = cc in subst (λ x. Given w.sent (role kind.Leader l) x) q tt)
-  follows (event.Replace x s cut) =
-      acts (Give (input.Order (Replace s)) cut) (role kind.Replacer x)
-      (λ i k e. let q : input.Order (Replace s) ≡ i = cc in subst (λ y. Given w.sent (role kind.Replacer x) y) q tt)
-  follows (event.Snap p cut) = acts (Snap cut) (role kind.Replica p) (no_given (role kind.Replica p) (Snap cut) (λ i k e. cc))
-  follows (event.Crash r) = acts Stop r (no_given r Stop (λ i k e. cc))
-  follows (event.Restart r) = acts Wake r (no_given r Wake (λ i k e. cc))

@@ -15,7 +15,7 @@ use Rattle.cx_inv_run.specs.Kinds.{IsSender, IsKeeper, IsKept, OfKind}
 use Rattle.cx_inv_run.specs.Laws.{Lands}
 use Rattle.cx_inv_run.specs.States.{State, Down, entry_by, set_state, with_record}
 use Rattle.cx_inv_match.specs.Facts.{Says, InState, Facts}
-use Rattle.cx_inv_match.proofs.Records.{keep_turn}
+use Rattle.cx_inv_match.proofs.OtherRecords.{keep_turn}
 use Rattle.cx_inv_vote.proofs.Rows.{lands, quiet_kind}
 
 -- Kinds of roles that keep nothing but turns, and whose datagrams say nothing of what was kept.

@@ -26,7 +26,7 @@ use Rattle.cx_inv_match.specs.Facts.{InState, InWork}
 use Rattle.cx_inv_match.proofs.Chains.{decided_once, nth_once}
 use Rattle.cx_inv_match.proofs.Grow.{more_nth}
 use Rattle.cx_inv_vote.specs.Laws.{Boots, OneBegins}
-use Rattle.cx_inv_vote.proofs.Deciding.{DecidedBy, Follows, follows}
+use Rattle.cx_inv_vote.proofs.DecidingEvents.{DecidedBy, Follows, follows}
 use Rattle.cx_inv_vote.proofs.Steps.{facts_hold}
 
 -- a record that was kept stays

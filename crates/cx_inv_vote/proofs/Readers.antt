@@ -29,7 +29,7 @@ use Rattle.cx_model.specs.Matched.{is_counted, is_member_of, greatest_watermark,
 use Rattle.cx_model.specs.Member.{Member}
 use Rattle.cx_model.specs.Names.{names}
 use Rattle.cx_model.specs.Outcome.{Outcome, by_test, either_way}
-use Rattle.cx_model.specs.Reader.{Asked, Batch, ReaderDurable, ReaderVolatile, acked_by, ask_replicas, asked_anew, asked_for, asking_of, begin, begin_if, finish, greatest_mark, has_acked, is_among, is_first, is_matched, is_of_batch, last_turn, match_ack_counted, match_ack_row, matched, new_batch, pre_read_ack_row, pre_read_counted, reader_row, reader_rules, reader_takes, reader_tick, request_over, request_row, same_asking, sets_row, token, with_asked, with_batch}
+use Rattle.cx_model.specs.Reader.{Asked, Batch, ReaderDurable, ReaderVolatile, acked_by, ask_replicas, asked_anew, asked_for, asking_of, begin, begin_if, finish, greatest_mark, has_acked, is_among, is_first, is_matched, is_of_batch, last_turn, match_ack_counted, match_ack_row, matched, new_batch, pre_read_ack_row, pre_read_counted, reader_row, reader_rules, reader_takes, reader_tick, request_over, request_row, same_asking, sets_row, make_token, with_asked, with_batch}
 use Rattle.cx_model.specs.Request.{same_read}
 use Rattle.cx_inv_run.specs.Kinds.{Kinds}
 use Rattle.cx_inv_run.specs.Laws.{Lands}
@@ -224,7 +224,7 @@ module _ (c : Cluster) (history : List KeptRecord) (sent : List Letter) (states 
 
     takes_good : (from : RoleId) (m : Msg) → Member (letter from me m) sent → GoodOf (reader_takes c me d v from m)
     takes_good from (msg.ReadReq seq replica key) is_sent =
-        request_good (asked_for (token from.index seq) replica key)
+        request_good (asked_for (make_token from.index seq) replica key)
         (subst (λ x. Member (letter x me (msg.ReadReq seq replica key)) sent) (is_role from kind.Client (kinds.senders _ is_sent)) is_sent)
     takes_good from (msg.MatchReadAck u w es) is_sent = match_ack_good from u w es v.running refl is_sent
     takes_good from (msg.PreReadAck u w n) is_sent = pre_read_ack_good from u w n v.running refl is_sent

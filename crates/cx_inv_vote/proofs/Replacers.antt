@@ -36,9 +36,9 @@ use Rattle.cx_model.specs.Lists.{number_itself}
 use Rattle.cx_model.specs.Matched.{enough, greatest_watermark, first_set}
 use Rattle.cx_model.specs.Member.{Member}
 use Rattle.cx_model.specs.Names.{names, names_set}
-use Rattle.cx_model.specs.Outcome.{Outcome, answered, replied, by_test}
+use Rattle.cx_model.specs.Outcome.{Outcome, only_word, replied, by_test}
 use Rattle.cx_model.specs.Promises.{HasKept}
-use Rattle.cx_model.specs.Replacer.{ReplacerDurable, ReplacerVolatile, replacer_rules, is_stopping, is_deciding, is_booting, is_resting, answers_of, has_halted, joined, latest, next_of, to_decide, stop_a_to, next_a_to, boot_a_to, sets_to, others, tells, begin_in, replace_row, decide, halt_counted, stop_b_row, next_counted, next_b_row, boot_b_row, with_seen, stop_nack_row, sets_row, replacer_takes, tick_in, replacer_orders, replacer_row}
+use Rattle.cx_model.specs.Replacer.{ReplacerDurable, ReplacerVolatile, replacer_rules, is_stopping, is_deciding, is_booting, is_resting, answers_of, has_halted, joined_entries, latest, next_of, to_decide, stop_a_to, next_a_to, boot_a_to, sets_to, others, sets_to_all, begin_in, replace_row, decide, halt_counted, stop_b_row, next_counted, next_b_row, boot_b_row, with_seen, stop_nack_row, sets_row, replacer_takes, tick_in, replacer_orders, replacer_row}
 use Rattle.cx_inv_run.specs.Kinds.{Kinds}
 use Rattle.cx_inv_run.specs.Laws.{Lands}
 use Rattle.cx_inv_run.specs.States.{State, ReplacerIn, entry_by, durable_of, Given}
@@ -46,13 +46,13 @@ use Rattle.cx_inv_run.proofs.Histories.{durable_own}
 use Rattle.cx_inv_run.proofs.Members.{Member-map, Member-cases, Member-first, Member-both, Member-any, any-Member, is_in-Member, Member-is_in}
 use Rattle.cx_inv_run.proofs.Quorums.{once_count}
 use Rattle.cx_inv_run.proofs.Rounds.{before-from_at_most, before-higher, before-itself, least, same_round-true}
-use Rattle.cx_inv_match.specs.Words.{how_many, HasNext, IsKnown, IsNth, IsDecided, IsNext, IsBoot, IsHalt}
+use Rattle.cx_inv_match.specs.Words.{how_many, HasNext, IsKnown, IsNth, IsDecided, IsNextSet, IsBoot, IsHalt}
 use Rattle.cx_inv_match.specs.Facts.{Facts, Says, InState, InWork, IsStopping, IsDeciding, IsBooting, AreOnce, halted_by}
 use Rattle.cx_inv_match.proofs.Chains.{nth_meet}
 use Rattle.cx_inv_match.proofs.Grow.{grown_join, more_nth}
 use Rattle.cx_inv_match.proofs.Joins.{latest_member, halts_join, halts_closed}
 use Rattle.cx_inv_match.proofs.Keep.{stop}
-use Rattle.cx_inv_match.proofs.Records.{keep_ballot, ballot_new}
+use Rattle.cx_inv_match.proofs.SetRecords.{keep_ballot, ballot_new}
 use Rattle.cx_inv_vote.specs.Laws.{IsPlainMsg}
 use Rattle.cx_inv_vote.proofs.Leading.{each, quiet_each}
 use Rattle.cx_inv_vote.proofs.Rows.{lands, keeps_silent, keeps_sending, keeps_record}
@@ -160,9 +160,9 @@ module _ (c : Cluster) (history : List KeptRecord) (sent : List Letter) (states 
   abbrev Knows : ReplacerVolatile → Type 0
   Knows v = IsKnown c history v.set × InWork c history sent me own v v.mode
 
-  still : (w : Why) (v : ReplacerVolatile) → Knows v → Fine (answered w v)
+  still : (w : Why) (v : ReplacerVolatile) → Knows v → Fine (only_word w v)
   still w v h =
-      lands c history sent states facts me ReplacerIn (answered w v) (λ d m. absurd m)
+      lands c history sent states facts me ReplacerIn (only_word w v) (λ d m. absurd m)
       (keeps_silent c history sent states facts me ReplacerIn w v h)
 
   calm : (w : Why) (v : ReplacerVolatile) (ds : List Letter) → Knows v → QuietSends ds
@@ -178,7 +178,7 @@ module _ (c : Cluster) (history : List KeptRecord) (sent : List Letter) (states 
   work_in : (v : ReplacerVolatile) (mode : Replacing) → v.mode ≡ mode → Knows v → InWork c history sent me own v mode
   work_in v mode is h = subst (λ y. InWork c history sent me own v y) is h.1
 
-  rests : (w : Why) (v : ReplacerVolatile) → v.mode ≡ Idle → IsKnown c history v.set → Fine (answered w v)
+  rests : (w : Why) (v : ReplacerVolatile) → v.mode ≡ Idle → IsKnown c history v.set → Fine (only_word w v)
   rests w v is known = still w v (knows_in v Idle is known tt)
 
   -- asking to stop, to begin; telling the set
@@ -206,7 +206,7 @@ module _ (c : Cluster) (history : List KeptRecord) (sent : List Letter) (states 
       (quiet_each (boot_a_to me v.next v.watermark v.entries) v.next (λ n. (λ i g s cw u e. cc, λ i g e. cc, λ b t e. cc)))
       (λ longer more. each (λ (d : Letter). Says c history longer d.from d.msg) (boot_a_to me v.next v.watermark v.entries) v.next (λ n. boot_says longer more v known h))
 
-  told_all : (P : Letter → Type 0) (s : List ℕ) → ((to : RoleId) → P (sets_to me s to)) → (d : Letter) → Member d (tells c me s) → P d
+  told_all : (P : Letter → Type 0) (s : List ℕ) → ((to : RoleId) → P (sets_to me s to)) → (d : Letter) → Member d (sets_to_all c me s) → P d
   told_all P s h =
       Member-both P
       (map (λ l. sets_to me s (role kind.Leader l)) (below c.leaders) ++ map (λ r. sets_to me s (role kind.Reader r)) (below c.readers))
@@ -216,9 +216,9 @@ module _ (c : Cluster) (history : List KeptRecord) (sent : List Letter) (states 
       (each P (λ r. sets_to me s (role kind.Reader r)) (below c.readers) (λ n. h (role kind.Reader n))))
       (each P (λ y. sets_to me s (role kind.Replacer y)) (others c me) (λ n. h (role kind.Replacer n)))
 
-  tells_set : (w : Why) (v : ReplacerVolatile) → Knows v → (s : List ℕ) → IsKnown c history s → Fine (replied w v (tells c me s))
+  tells_set : (w : Why) (v : ReplacerVolatile) → Knows v → (s : List ℕ) → IsKnown c history s → Fine (replied w v (sets_to_all c me s))
   tells_set w v h s known =
-      calm w v (tells c me s) h
+      calm w v (sets_to_all c me s) h
       (told_all (λ (d : Letter). IsPlainMsg d.msg) s (λ to. (λ i g n cw u e. cc, λ i g e. cc, λ b t e. cc)))
       (λ longer more. told_all (λ (d : Letter). Says c history longer d.from d.msg) s (λ to. known))
 
@@ -271,7 +271,7 @@ module _ (c : Cluster) (history : List KeptRecord) (sent : List Letter) (states 
       once = h.once;
     }
 
-    next_says : (to : RoleId) → Member to.index v.set → IsNext c history to own v.next
+    next_says : (to : RoleId) → Member to.index v.set → IsNextSet c history to own v.next
     next_says to m = record {
       real = h.real;
       set = v.set;
@@ -291,7 +291,7 @@ module _ (c : Cluster) (history : List KeptRecord) (sent : List Letter) (states 
           (λ i s u y m n. absurd (no_propose i s u m))
           (λ from to b u m.
           let r = asks_it from to b u m in (
-            subst (λ y. IsNext c history to y u) (sym r.0) (subst (λ y. IsNext c history to own y) (sym r.1) (next_says to r.2)),
+            subst (λ y. IsNextSet c history to y u) (sym r.0) (subst (λ y. IsNextSet c history to own y) (sym r.1) (next_says to r.2)),
             subst (λ (y : Round). HasKept history (role kind.Replacer y.id) (kept.Ballot y)) (sym r.0) kept_own.0,
             subst (λ (y : Round). role kind.Replacer y.id ≡ me) (sym r.0) kept_own.1,
           ))
@@ -387,7 +387,7 @@ module _ (c : Cluster) (history : List KeptRecord) (sent : List Letter) (states 
 
     module _ (most : c.f < length v.halts) where
       abbrev decided : ReplacerVolatile
-      decided = record v { mode = Deciding; next = to_decide v.next v.halts; counted = []; watermark = greatest_watermark (answers_of v.halts); entries = joined v.halts }
+      decided = record v { mode = Deciding; next = to_decide v.next v.halts; counted = []; watermark = greatest_watermark (answers_of v.halts); entries = joined_entries v.halts }
 
       deciding : IsDeciding c history sent me own decided
       deciding = record {
@@ -401,9 +401,9 @@ module _ (c : Cluster) (history : List KeptRecord) (sent : List Letter) (states 
         once = tt;
       }
 
-      decide_fine : Fine (decide me dur v (joined v.halts) (to_decide v.next v.halts))
+      decide_fine : Fine (decide me dur v (joined_entries v.halts) (to_decide v.next v.halts))
       decide_fine =
-          by_test Fine (nat_lt 254 (length (joined v.halts))) _ _
+          by_test Fine (nat_lt 254 (length (joined_entries v.halts))) _ _
           (λ t. rests why.Full (record v { mode = Idle }) refl known)
           (λ f. asks_next why.Asking decided refl known deciding)
 

@@ -32,8 +32,8 @@ use Rattle.cx_inv_run.specs.States.{State, Down, Plain, BatcherIn, LeaderIn, Pro
 use Rattle.cx_inv_run.proofs.Members.{Member-cases, Member-first}
 use Rattle.cx_inv_run.proofs.Histories.{state_own, state_other}
 use Rattle.cx_inv_run.proofs.Rounds.{before-itself}
-use Rattle.cx_inv_match.specs.Facts.{Says, InState, InMode, InWork, IsMatching, IsLeading, IsLast, IsLog, IsPending, IsNextAsked, Facts}
-use Rattle.cx_inv_match.specs.Words.{IsLeft, IsNext}
+use Rattle.cx_inv_match.specs.Facts.{Says, InState, InMode, InWork, IsMatching, IsLeading, IsLastRound, IsMatchmaker, IsPending, IsNextAsked, Facts}
+use Rattle.cx_inv_match.specs.Words.{IsLeft, IsNextSet}
 use Rattle.cx_inv_match.proofs.Grow.{Grows, grown_says, grown_safe, grown_stage, grown_ready, grown_join, grown_collected}
 use Rattle.cx_inv_match.proofs.Keep.{same_log}
 use Rattle.cx_inv_match.proofs.SetLaws.{grown_sets}
@@ -231,7 +231,7 @@ module _ (c : Cluster) (history : List KeptRecord) (sent : List Letter) (states 
     (ends : (i : Round) → IsRetiring ds i → role kind.Leader i.id ≡ me)
     (one_value : (i : Round) (t : ℕ) (v w : Value) → IsProposed ds i t v → IsProposed (sent ++ ds) i t w → v ≡ w)
     (asks : (from to : RoleId) (b : Round) (u : List ℕ) → Member (letter from to (msg.NextA b u)) ds
-    → IsNext c history to b u × HasKept history (role kind.Replacer b.id) (kept.Ballot b) × (role kind.Replacer b.id ≡ me))
+    → IsNextSet c history to b u × HasKept history (role kind.Replacer b.id) (kept.Ballot b) × (role kind.Replacer b.id ≡ me))
     (one_next : (b : Round) (u w : List ℕ) → IsNextAsked ds b u → IsNextAsked (sent ++ ds) b w → u ≡ w)
     (running : InState c history (sent ++ ds) me s) where
   abbrev wider : List Letter
@@ -241,7 +241,7 @@ module _ (c : Cluster) (history : List KeptRecord) (sent : List Letter) (states 
   grows = grows_wide history sent wider widens
 
   -- the round of another leader is neither proposed in nor ended
-  other_quiet : (a : RoleId) → same_role a me ≡ false → (o : Option Entry) → IsLast history a o → (own : Entry) → o ≡ Some own → IsQuiet ds own.round
+  other_quiet : (a : RoleId) → same_role a me ≡ false → (o : Option Entry) → IsLastRound history a o → (own : Entry) → o ≡ Some own → IsQuiet ds own.round
   other_quiet a d None last own e = cc
   other_quiet a d (Some first) last own e =
       let p : first ≡ own = cc in
@@ -252,7 +252,7 @@ module _ (c : Cluster) (history : List KeptRecord) (sent : List Letter) (states 
   other_unasked : (a : RoleId) → same_role a me ≡ false → IsUnasked ds (durable_of replacer_rules a history).own
   other_unasked a d u x = go (facts.last_ballot a).1
     where
-      asked : IsNext c history x.1 (durable_of replacer_rules a history).own u × HasKept history (role kind.Replacer (durable_of replacer_rules a history).own.id) (kept.Ballot (durable_of replacer_rules a history).own) × (role kind.Replacer (durable_of replacer_rules a history).own.id ≡ me)
+      asked : IsNextSet c history x.1 (durable_of replacer_rules a history).own u × HasKept history (role kind.Replacer (durable_of replacer_rules a history).own.id) (kept.Ballot (durable_of replacer_rules a history).own) × (role kind.Replacer (durable_of replacer_rules a history).own.id ≡ me)
       asked = asks x.0 x.1 (durable_of replacer_rules a history).own u x.2
 
       go : ((durable_of replacer_rules a history).own ≡ no_round) ⊎ HasKept history a (kept.Ballot (durable_of replacer_rules a history).own) → ⊥
@@ -263,7 +263,7 @@ module _ (c : Cluster) (history : List KeptRecord) (sent : List Letter) (states 
   other_running a d st h =
       carry_state c history sent ds grows a st (other_quiet a d (durable_of leader_rules a history).own (facts.last a)) (other_unasked a d) h
 
-  sent_log : (m : RoleId) (d : MatchmakerDurable) → IsLog c history sent m d → IsLog c history wider m d
+  sent_log : (m : RoleId) (d : MatchmakerDurable) → IsMatchmaker c history sent m d → IsMatchmaker c history wider m d
   sent_log m d h = same_log c history sent history wider grows m d (λ i g x. x) (λ i g x. x) (λ t w es x. x) (λ b x. x) (λ b t x. x) h
 
   pub send : Facts c history wider (set_state me s states)

@@ -26,7 +26,7 @@ use Rattle.cx_inv_run.specs.States.{State, Down, fresh_state, set_state, durable
 use Rattle.cx_inv_run.proofs.Histories.{set_running, set_same}
 use Rattle.cx_inv_run.proofs.Members.{Member-one}
 use Rattle.cx_inv_run.proofs.Rounds.{before-both, least}
-use Rattle.cx_inv_match.specs.Facts.{IsLastBallot, Says, InState, IsLast, IsLog, IsAcceptor, Facts}
+use Rattle.cx_inv_match.specs.Facts.{IsLastBallot, Says, InState, IsLastRound, IsMatchmaker, IsAcceptor, Facts}
 use Rattle.cx_inv_match.specs.Words.{HasMark, IsChosen, IsUsed, SetFacts}
 use Rattle.cx_inv_match.proofs.Keep.{stop, same_states}
 use Rattle.cx_inv_vote.specs.Laws.{IsPlainMsg}
@@ -90,11 +90,11 @@ wake c history sent states me facts = record {
 
 -- nothing has happened
 
-start_last : (me : RoleId) → IsLast [] me (durable_of leader_rules me []).own
+start_last : (me : RoleId) → IsLastRound [] me (durable_of leader_rules me []).own
 unfolding durable_of
 start_last me = λ i g m. m
 
-start_log : (c : Cluster) (m : RoleId) → IsLog c [] [] m (durable_of matchmaker_rules m [])
+start_log : (c : Cluster) (m : RoleId) → IsMatchmaker c [] [] m (durable_of matchmaker_rules m [])
 unfolding durable_of
 start_log c m = record {
   all = λ j g l x. elim x [ inl y ↦ absurd y | inr y ↦ absurd y.3 ];

@@ -7,7 +7,7 @@ use Rattle.byteorder.specs.Endian.{big_bytes}
 use Rattle.cx_disk.specs.Disk.{written, Torn}
 use Rattle.cx_journal.specs.Generation.{generation, IsBehind}
 use Rattle.cx_journal.specs.Pair.{StandsAfter, front_of, begins_with, IsTwin}
-use Rattle.cx_journal.specs.Journal.{body, frames}
+use Rattle.cx_journal.specs.Journal.{append_body, frames}
 use Rattle.cx_journal.proofs.Clearing.{other_first}
 use Rattle.cx_journal.proofs.Fronts.{written-behind, gate_stays, some_gate, body_there, opened}
 
@@ -100,32 +100,32 @@ module _ (second : Bool) (payloads : List (List ℕ)) (live other : List ℕ) (t
 
 -- an open gate and a body behind a plain front, of which the first byte may be 4: then it is a generation's, and has no records
 module _ (second : Bool) (payload rest other : List ℕ) (small : length payload ≤ 32768) (first : second ≡ false) (none : generation other ≡ None) where
-  first_gate : (gate : ℕ) → IsTwin second [] (gate ∷ (body payload ++ rest)) other ⊎ IsTwin second (payload ∷ []) (gate ∷ (body payload ++ rest)) other
+  first_gate : (gate : ℕ) → IsTwin second [] (gate ∷ (append_body payload ++ rest)) other ⊎ IsTwin second (payload ∷ []) (gate ∷ (append_body payload ++ rest)) other
   first_gate gate =
       elim (cases_eq gate 1) [
         | inl is ↦ inr (twin_plain second (payload ∷ []) _ other first none (λ e. absurd (omega (arith, e, is)))
-            (record { gate = 0; rest = rest; shut = omega arith; is = ap (λ (x : ℕ). x ∷ (body payload ++ rest)) is ∙ opened [] [] payload rest }))
+            (record { gate = 0; rest = rest; shut = omega arith; is = ap (λ (x : ℕ). x ∷ (append_body payload ++ rest)) is ∙ opened [] [] payload rest }))
         | inr shut ↦ elim (cases_eq gate 4) [
           | inl is ↦ inl (generation_begins gate is)
-          | inr plain ↦ inl (twin_plain second [] _ other first none plain (record { gate = gate; rest = body payload ++ rest; shut = shut; is = refl }))
+          | inr plain ↦ inl (twin_plain second [] _ other first none plain (record { gate = gate; rest = append_body payload ++ rest; shut = shut; is = refl }))
         ]
       ]
     where
-      generation_begins : (gate : ℕ) → gate ≡ 4 → IsTwin second [] (gate ∷ (body payload ++ rest)) other
+      generation_begins : (gate : ℕ) → gate ≡ 4 → IsTwin second [] (gate ∷ (append_body payload ++ rest)) other
       generation_begins gate is =
           let z = two_zeros (length payload) small in
           let more = z.0 ∷ z.1 ∷ (payload ++ 0 ∷ []) ++ rest in
-          let there : gate ∷ (body payload ++ rest) ≡ 4 ∷ 0 ∷ 0 ∷ more =
-          ap (λ (x : ℕ). x ∷ (body payload ++ rest)) is ∙ ap (λ b. 4 ∷ ((b ++ payload ++ 0 ∷ []) ++ rest)) z.2 in
+          let there : gate ∷ (append_body payload ++ rest) ≡ 4 ∷ 0 ∷ 0 ∷ more =
+          ap (λ (x : ℕ). x ∷ (append_body payload ++ rest)) is ∙ ap (λ b. 4 ∷ ((b ++ payload ++ 0 ∷ []) ++ rest)) z.2 in
           subst (λ f. IsTwin second [] f other) (sym there)
           (twin_of second [] (4 ∷ 0 ∷ 0 ∷ more) other 0 (omega arith) refl (subst (IsBehind (Some 0)) (sym none) tt) (record { gate = 0; rest = more; shut = omega arith; is = refl }))
 
 module _ (second : Bool) (payloads : List (List ℕ)) (payload mid rest other : List ℕ) (closing : ℕ) (small : length payload ≤ 32768) (twin : IsTwin second payloads mid other)
-    (is : mid ≡ front_of (generation mid) ++ frames payloads ++ closing ∷ (body payload ++ rest)) where
+    (is : mid ≡ front_of (generation mid) ++ frames payloads ++ closing ∷ (append_body payload ++ rest)) where
   abbrev pub Either : List ℕ → Type 0
   Either c = IsTwin second payloads c other ⊎ IsTwin second (payloads ++ payload ∷ []) c other
 
-  with_plain : (gate : ℕ) → generation mid ≡ None → Either (frames payloads ++ gate ∷ (body payload ++ rest))
+  with_plain : (gate : ℕ) → generation mid ≡ None → Either (frames payloads ++ gate ∷ (append_body payload ++ rest))
   with_plain gate are = go payloads
     where
       first : second ≡ false
@@ -134,63 +134,63 @@ module _ (second : Bool) (payloads : List (List ℕ)) (payload mid rest other : 
       none : generation other ≡ None
       none = behind_plain (generation other) (subst (λ o. IsBehind o (generation other)) are twin.behind)
 
-      go : (ps : List (List ℕ)) → IsTwin second ps (frames ps ++ gate ∷ (body payload ++ rest)) other ⊎ IsTwin second (ps ++ payload ∷ []) (frames ps ++ gate ∷ (body payload ++ rest)) other
+      go : (ps : List (List ℕ)) → IsTwin second ps (frames ps ++ gate ∷ (append_body payload ++ rest)) other ⊎ IsTwin second (ps ++ payload ∷ []) (frames ps ++ gate ∷ (append_body payload ++ rest)) other
       go [] = first_gate second payload rest other small first none gate
       go (q ∷ ps) =
           elim (cases_eq gate 1) [
             | inl open_gate ↦ inr (twin_plain second ((q ∷ ps) ++ payload ∷ []) _ other first none (λ e. absurd (omega (arith, e)))
-                (record { gate = 0; rest = rest; shut = omega arith; is = ap (λ (x : ℕ). frames (q ∷ ps) ++ x ∷ (body payload ++ rest)) open_gate ∙ opened [] (q ∷ ps) payload rest }))
-            | inr shut ↦ inl (twin_plain second (q ∷ ps) _ other first none (λ e. absurd (omega (arith, e))) (record { gate = gate; rest = body payload ++ rest; shut = shut; is = refl }))
+                (record { gate = 0; rest = rest; shut = omega arith; is = ap (λ (x : ℕ). frames (q ∷ ps) ++ x ∷ (append_body payload ++ rest)) open_gate ∙ opened [] (q ∷ ps) payload rest }))
+            | inr shut ↦ inl (twin_plain second (q ∷ ps) _ other first none (λ e. absurd (omega (arith, e))) (record { gate = gate; rest = append_body payload ++ rest; shut = shut; is = refl }))
           ]
 
-  with_generation : (gate g : ℕ) → generation mid ≡ Some g → Either ((4 ∷ g ∷ []) ++ frames payloads ++ gate ∷ (body payload ++ rest))
+  with_generation : (gate g : ℕ) → generation mid ≡ Some g → Either ((4 ∷ g ∷ []) ++ frames payloads ++ gate ∷ (append_body payload ++ rest))
   with_generation gate g are =
       let behind = subst (λ o. IsBehind o (generation other)) are twin.behind in
       elim (cases_eq gate 1) [
-        | inl open_gate ↦ inr (twin_of second (payloads ++ payload ∷ []) _ other g (twin.sound g are) (generation_of_front g (frames payloads) gate (body payload ++ rest)) behind
-            (record { gate = 0; rest = rest; shut = omega arith; is = ap (λ (x : ℕ). (4 ∷ g ∷ []) ++ frames payloads ++ x ∷ (body payload ++ rest)) open_gate ∙ opened (4 ∷ g ∷ []) payloads payload rest }))
-        | inr shut ↦ inl (twin_of second payloads _ other g (twin.sound g are) (generation_of_front g (frames payloads) gate (body payload ++ rest)) behind
-            (record { gate = gate; rest = body payload ++ rest; shut = shut; is = refl }))
+        | inl open_gate ↦ inr (twin_of second (payloads ++ payload ∷ []) _ other g (twin.sound g are) (generation_of_front g (frames payloads) gate (append_body payload ++ rest)) behind
+            (record { gate = 0; rest = rest; shut = omega arith; is = ap (λ (x : ℕ). (4 ∷ g ∷ []) ++ frames payloads ++ x ∷ (append_body payload ++ rest)) open_gate ∙ opened (4 ∷ g ∷ []) payloads payload rest }))
+        | inr shut ↦ inl (twin_of second payloads _ other g (twin.sound g are) (generation_of_front g (frames payloads) gate (append_body payload ++ rest)) behind
+            (record { gate = gate; rest = append_body payload ++ rest; shut = shut; is = refl }))
       ]
 
-  with_gate : (gate : ℕ) (gen : Option ℕ) → generation mid ≡ gen → Either (front_of gen ++ frames payloads ++ gate ∷ (body payload ++ rest))
+  with_gate : (gate : ℕ) (gen : Option ℕ) → generation mid ≡ gen → Either (front_of gen ++ frames payloads ++ gate ∷ (append_body payload ++ rest))
   with_gate gate None are = with_plain gate are
   with_gate gate (Some g) are = with_generation gate g are
 
   pub gate_either : (c : List ℕ) → Torn (length (front_of (generation mid) ++ frames payloads)) 1 mid c → Either c
   gate_either c torn =
       let front = front_of (generation mid) ++ frames payloads in
-      let t = some_gate front closing (body payload ++ rest) c (subst (λ f. Torn (length front) 1 f c) is torn) in
+      let t = some_gate front closing (append_body payload ++ rest) c (subst (λ f. Torn (length front) 1 f c) is torn) in
       subst Either (sym t.1) (with_gate t.0 (generation mid) refl)
 
-  one_begins : (ps : List (List ℕ)) → begins_with (frames ps ++ 1 ∷ (body payload ++ rest)) 4 → ⊥
+  one_begins : (ps : List (List ℕ)) → begins_with (frames ps ++ 1 ∷ (append_body payload ++ rest)) 4 → ⊥
   one_begins [] e = absurd (omega (arith, e))
   one_begins (q ∷ ps) e = absurd (omega (arith, e))
 
-  gate_opens : (gen : Option ℕ) → generation mid ≡ gen → IsTwin second (payloads ++ payload ∷ []) (front_of gen ++ frames payloads ++ 1 ∷ (body payload ++ rest)) other
+  gate_opens : (gen : Option ℕ) → generation mid ≡ gen → IsTwin second (payloads ++ payload ∷ []) (front_of gen ++ frames payloads ++ 1 ∷ (append_body payload ++ rest)) other
   gate_opens None are =
       twin_plain second (payloads ++ payload ∷ []) _ other (twin.plain_is_first are) (behind_plain (generation other) (subst (λ o. IsBehind o (generation other)) are twin.behind)) (one_begins payloads)
       (record { gate = 0; rest = rest; shut = omega arith; is = opened [] payloads payload rest })
   gate_opens (Some g) are =
-      twin_of second (payloads ++ payload ∷ []) _ other g (twin.sound g are) (generation_of_front g (frames payloads) 1 (body payload ++ rest)) (subst (λ o. IsBehind o (generation other)) are twin.behind)
+      twin_of second (payloads ++ payload ∷ []) _ other g (twin.sound g are) (generation_of_front g (frames payloads) 1 (append_body payload ++ rest)) (subst (λ o. IsBehind o (generation other)) are twin.behind)
       (record { gate = 0; rest = rest; shut = omega arith; is = opened (4 ∷ g ∷ []) payloads payload rest })
 
   -- the gate, when it is open
   pub gate_kept : IsTwin second (payloads ++ payload ∷ []) (written (length (front_of (generation mid) ++ frames payloads)) (1 ∷ []) mid) other
   gate_kept =
       let front = front_of (generation mid) ++ frames payloads in
-      let there : written (length front) (1 ∷ []) mid ≡ front ++ 1 ∷ (body payload ++ rest) =
-      ap (λ f. written (length front) (1 ∷ []) f) is ∙ written-behind front (closing ∷ (body payload ++ rest)) (1 ∷ []) ∙ append_assoc front (1 ∷ []) (body payload ++ rest) in
+      let there : written (length front) (1 ∷ []) mid ≡ front ++ 1 ∷ (append_body payload ++ rest) =
+      ap (λ f. written (length front) (1 ∷ []) f) is ∙ written-behind front (closing ∷ (append_body payload ++ rest)) (1 ∷ []) ∙ append_assoc front (1 ∷ []) (append_body payload ++ rest) in
       subst (λ f. IsTwin second (payloads ++ payload ∷ []) f other) (sym there) (gate_opens (generation mid) refl)
 
   -- a file that has one more record keeps its generation
-  has_more : (gen : Option ℕ) → generation mid ≡ gen → generation (front_of gen ++ frames payloads ++ 1 ∷ (body payload ++ rest)) ≡ gen
-  has_more None are = plain_none (frames payloads ++ 1 ∷ (body payload ++ rest)) (one_begins payloads)
-  has_more (Some g) are = generation_of_front g (frames payloads) 1 (body payload ++ rest)
+  has_more : (gen : Option ℕ) → generation mid ≡ gen → generation (front_of gen ++ frames payloads ++ 1 ∷ (append_body payload ++ rest)) ≡ gen
+  has_more None are = plain_none (frames payloads ++ 1 ∷ (append_body payload ++ rest)) (one_begins payloads)
+  has_more (Some g) are = generation_of_front g (frames payloads) 1 (append_body payload ++ rest)
 
   pub gate_generation : generation (written (length (front_of (generation mid) ++ frames payloads)) (1 ∷ []) mid) ≡ generation mid
   gate_generation =
       let front = front_of (generation mid) ++ frames payloads in
-      let there : written (length front) (1 ∷ []) mid ≡ front ++ 1 ∷ (body payload ++ rest) =
-      ap (λ f. written (length front) (1 ∷ []) f) is ∙ written-behind front (closing ∷ (body payload ++ rest)) (1 ∷ []) ∙ append_assoc front (1 ∷ []) (body payload ++ rest) in
+      let there : written (length front) (1 ∷ []) mid ≡ front ++ 1 ∷ (append_body payload ++ rest) =
+      ap (λ f. written (length front) (1 ∷ []) f) is ∙ written-behind front (closing ∷ (append_body payload ++ rest)) (1 ∷ []) ∙ append_assoc front (1 ∷ []) (append_body payload ++ rest) in
       ap generation there ∙ has_more (generation mid) refl

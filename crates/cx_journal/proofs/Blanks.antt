@@ -1,7 +1,7 @@
 -- What a clearing may leave of a disk without records.
 use Rattle.std.proofs.Common.{◌≡◌, ◌≤◌, ℕ, List, [], ◌∷◌, length, None, refl, ◌∙◌, ap, arith}
 use Rattle.std.specs.Prelude.{get_or}
-use Rattle.cx_disk.specs.Disk.{Torn, Cut}
+use Rattle.cx_disk.specs.Disk.{Torn, TornCut}
 use Rattle.cx_journal.specs.Generation.{generation}
 use Rattle.cx_journal.specs.Blank.{IsBlank}
 use Rattle.cx_journal.proofs.Clearing.{few_have_none}
@@ -10,7 +10,7 @@ pub short_blank : (c : List ℕ) → length c ≤ 1 → IsBlank c
 short_blank c few = record { few = omega (arith, few); shut = λ two. absurd (omega (arith, few, two)) }
 
 -- a front of a blank file is blank
-pub cut_blank : (at : ℕ) (d c : List ℕ) → IsBlank d → Cut at d c → IsBlank c
+pub cut_blank : (at : ℕ) (d c : List ℕ) → IsBlank d → TornCut at d c → IsBlank c
 cut_blank at [] [] blank cut = blank
 cut_blank at (a ∷ []) [] blank cut = short_blank [] (omega arith)
 cut_blank at (a ∷ b ∷ []) [] blank cut = short_blank [] (omega arith)

@@ -1,7 +1,7 @@
 -- Which of two disks is live, where one is behind the other.
 use Rattle.std.proofs.Common.{◌≡◌, ◌<◌, inl, ℕ, zero, suc, ◌+◌, Bool, true, false, List, Option, Some, None, Ok, refl, arith, lt-ltb}
 use Rattle.std.specs.Prelude.{◌%◌, nat_lt}
-use Rattle.cx_journal.specs.Generation.{generation, next_of, second_is_live, IsBehind}
+use Rattle.cx_journal.specs.Generation.{generation, next_generation, second_is_live, IsBehind}
 use Rattle.cx_journal.specs.Pair.{StandsAfter, LiveStands, front_of, IsTwin, OpensTo}
 
 -- the three generations, in turn
@@ -29,14 +29,14 @@ second_lives (Some g) None sound some behind = let small : g < 3 = sound g refl 
 second_lives live (Some h) sound some behind = rw (behind.1) (later_wins h behind.0)
 
 -- the next generation, and what is behind it then
-pub next_small : (live : Option ℕ) → ((g : ℕ) → live ≡ Some g → g < 3) → next_of live < 3
+pub next_small : (live : Option ℕ) → ((g : ℕ) → live ≡ Some g → g < 3) → next_generation live < 3
 next_small None sound = omega arith
 next_small (Some zero) sound = omega arith
 next_small (Some (suc zero)) sound = omega arith
 next_small (Some (suc (suc zero))) sound = omega arith
 next_small (Some (suc (suc (suc g)))) sound = let small : suc (suc (suc g)) < 3 = sound _ refl in absurd (omega (arith, small))
 
-pub left_behind : (live : Option ℕ) → ((g : ℕ) → live ≡ Some g → g < 3) → IsBehind (Some (next_of live)) live
+pub left_behind : (live : Option ℕ) → ((g : ℕ) → live ≡ Some g → g < 3) → IsBehind (Some (next_generation live)) live
 left_behind None sound = tt
 left_behind (Some g) sound = (sound g refl, refl)
 

@@ -7,7 +7,7 @@ use Rattle.cx_journal.proofs.Payloads.{both_so}
 use Rattle.cx_msg.specs.declared.kept.Record.{Record}
 use Rattle.cx_journal.specs.Payload.{all_kept_by}
 use Rattle.cx_journal.specs.State.{records_or_none}
-use Rattle.cx_journal.specs.Twin.{told_by, pair_records, pair_image, TwoRest}
+use Rattle.cx_journal.specs.Twin.{seen_pair_records, pair_records, pair_image, TwoRest}
 use Rattle.cx_journal.proofs.Images.{twin_image}
 
 -- two files that tell these records
@@ -15,7 +15,7 @@ pub told_pair : (o p : Option (List ℕ)) (a b : List ℕ) (records : List Recor
 told_pair o p a b records first second is = ap (λ x. pair_records x p) first ∙ ap (λ x. pair_records (Some a) x) second ∙ ap records_or_none is
 
 module _ {D : Type 0} (seen : D → Option (List ℕ)) (may_leave : D → List ℕ → Type 0) where
-  pub told_two : (s : Bool) (gen : Option ℕ) (records : List Record) (first second : D) → all_kept_by None records ≡ true → TwoRest seen may_leave s gen records first second → told_by seen first second ≡ records
+  pub told_two : (s : Bool) (gen : Option ℕ) (records : List Record) (first second : D) → all_kept_by None records ≡ true → TwoRest seen may_leave s gen records first second → seen_pair_records seen first second ≡ records
   told_two true gen records first second fit two =
       told_pair (seen first) (seen second) two.beside two.file records two.other.0 two.rests.0 (twin_image true records two.file two.beside two.twin None fit)
   told_two false gen records first second fit two =

@@ -10,12 +10,12 @@ use Rattle.cx_keeper.specs.declared.keeper.OpenFault.{OpenFault}
 use Rattle.cx_keeper.specs.declared.keeper.OpenFault.TheVariants as fault
 use Rattle.cx_journal.specs.Blank.{IsLeftOr, IsSame}
 use Rattle.cx_journal.specs.Found.{IsOutside}
-use Rattle.cx_journal.specs.Generation.{IsSound, generation, second_is_live}
+use Rattle.cx_journal.specs.Generation.{IsGeneration, generation, second_is_live}
 use Rattle.cx_journal.specs.Journal.{frames, gates_from}
 use Rattle.cx_journal.specs.Pair.{front_of, IsLive}
 use Rattle.cx_journal.specs.Payload.{payloads, all_kept_by}
 use Rattle.cx_journal.specs.State.{has_some, records_or_none, IsUnwritten}
-use Rattle.cx_journal.specs.Twin.{TwinState, BothTell, told_by, pair_records, pair_image, image_chosen, IsPairFault, IsFaultOfPair, PairRests, TwoRest, LeavesSame, LeavesTwo, SamePair, IsTwinReady}
+use Rattle.cx_journal.specs.Twin.{TwinState, BothTell, seen_pair_records, pair_records, pair_image, image_chosen, IsPairFault, IsFaultOfPair, PairRests, TwoRest, LeavesSame, LeavesTwo, SamePair, IsTwinReady}
 use Rattle.cx_journal.specs.declared.image.Found.{Found}
 use Rattle.cx_journal.specs.declared.opening.Live.{Live}
 use Rattle.cx_journal.proofs.Gates.{gates-push, gate_at, is_single, payloads-push}
@@ -37,10 +37,10 @@ same_beside c d a b same o now was k = ap (λ (f : List ℕ). pair_image k c f) 
 
 -- what two disks tell stays, where the second tells the same
 pub told_still : {D : Type 0} (seen : D → Option (List ℕ)) (first second new_first new_second : D) → is_some (seen new_first) ≡ is_some (seen first) → seen new_second ≡ seen second
-    → ((a now : List ℕ) → seen first ≡ Some a → seen new_first ≡ Some now → IsSame now a) → told_by seen new_first new_second ≡ told_by seen first second
+    → ((a now : List ℕ) → seen first ≡ Some a → seen new_first ≡ Some now → IsSame now a) → seen_pair_records seen new_first new_second ≡ seen_pair_records seen first second
 told_still seen first second new_first new_second tells second_seen same = ap (λ o. pair_records (seen new_first) o) second_seen ∙ same_told (seen first) (seen second) (seen new_first) tells same
 
--- where the bytes of one are not known, nothing is told
+-- where the bytes of one are not known, nothing is seen
 pub told_or_none : (o p n m : Option (List ℕ)) → is_some n ≡ is_some o → is_some m ≡ is_some p → ((is_some o ≡ true) × (is_some p ≡ true)) ⊎ (pair_records n m ≡ pair_records o p)
 told_or_none None p None m first second = inr refl
 told_or_none None p (Some a) m first second = absurd cc
@@ -79,8 +79,8 @@ module _ {D : Type 0} (seen : D → Option (List ℕ)) (may_leave : D → List �
   abbrev pub Tells : TwinState D → Type 0
   Tells t = BothTell seen t.first t.second
 
-  abbrev pub told : TwinState D → List Record
-  told t = told_by seen t.first t.second
+  abbrev pub seen_records : TwinState D → List Record
+  seen_records t = seen_pair_records seen t.first t.second
 
   -- the image of what two disks at rest tell
   rest_image : (s : Bool) (gen : Option ℕ) (records : List Record) (first second : D) → all_kept_by None records ≡ true → TwoRest seen may_leave s gen records first second
@@ -93,12 +93,12 @@ module _ {D : Type 0} (seen : D → Option (List ℕ)) (may_leave : D → List �
       ∙ twin_image false records two.file two.beside two.twin None fit
 
   -- a twin whose records are at rest
-  pub ready_from : (t : TwinState D) (records : List Record) → t.gate < (if t.second_lives then size t.second else size t.first) → IsSound t.generation
+  pub ready_from : (t : TwinState D) (records : List Record) → t.gate < (if t.second_lives then size t.second else size t.first) → IsGeneration t.generation
       → (Tells t → TwoRest seen may_leave t.second_lives t.generation records t.first t.second) → (Tells t → all_kept_by None records ≡ true)
       → (Tells t → t.gate ≡ length (front_of t.generation ++ frames (payloads records))) → (Tells t → t.gates ≡ gates_from (length (front_of t.generation)) (payloads records))
       → IsTwinReady seen may_leave size t
   ready_from t records below sound rests fit place gates =
-      let same : Tells t → told t ≡ records = λ h. told_two seen may_leave t.second_lives t.generation records t.first t.second (fit h) (rests h) in
+      let same : Tells t → seen_records t ≡ records = λ h. told_two seen may_leave t.second_lives t.generation records t.first t.second (fit h) (rests h) in
       record {
         below = λ _. below;
         sound = sound;
@@ -113,7 +113,7 @@ module _ {D : Type 0} (seen : D → Option (List ℕ)) (may_leave : D → List �
       }
 
   -- a twin that has to be read again
-  broken_from : (t : TwinState D) → t.whole ≡ false → IsSound t.generation
+  broken_from : (t : TwinState D) → t.whole ≡ false → IsGeneration t.generation
       → ((a b : List ℕ) → seen t.first ≡ Some a → seen t.second ≡ Some b → (records : List Record) × (all_kept_by None records ≡ true) × (pair_image None a b ≡ Ok records)) → IsTwinReady seen may_leave size t
   broken_from t broken sound reads = record {
     below = λ whole. let no_way : false ≡ true = sym broken ∙ whole in absurd cc;
@@ -140,31 +140,31 @@ module _ {D : Type 0} (seen : D → Option (List ℕ)) (may_leave : D → List �
     -- after a change that failed
     module _ (moment : D → ℕ) (left_since : D → ℕ → List ℕ → Type 0) (counts_now : (disk : D) (n : ℕ) (c : List ℕ) → n ≤ moment disk → may_leave disk c → left_since disk n c)
         (told_is_left : (disk : D) (file : List ℕ) → seen disk ≡ Some file → may_leave disk file) (new : List Record) (fit : Tells old → all_kept_by None new ≡ true)
-        (leaves : Tells old → LeavesTwo moment left_since old.first old.second t.first t.second (told old) new) where
-      either : (a b : List ℕ) → seen t.first ≡ Some a → seen t.second ≡ Some b → (pair_image None a b ≡ Ok (told old)) ⊎ (pair_image None a b ≡ Ok new)
+        (leaves : Tells old → LeavesTwo moment left_since old.first old.second t.first t.second (seen_records old) new) where
+      either : (a b : List ℕ) → seen t.first ≡ Some a → seen t.second ≡ Some b → (pair_image None a b ≡ Ok (seen_records old)) ⊎ (pair_image None a b ≡ Ok new)
       either a b is there =
           let h = both a b is there in
           ⊎_elim (λ i. inl (i None (ready.fit h))) (λ i. inr (i None (fit h)))
           ((leaves h).each a b (counts_now t.first (moment old.first) a (leaves h).first_later (told_is_left t.first a is)) (counts_now t.second (moment old.second) b (leaves h).second_later (told_is_left t.second b there)))
 
-      pub failed_so : t.whole ≡ false → IsSound t.generation → IsTwinReady seen may_leave size t
+      pub failed_so : t.whole ≡ false → IsGeneration t.generation → IsTwinReady seen may_leave size t
       failed_so broken sound =
-          broken_from t broken sound (λ a b is there. let h = both a b is there in ⊎_elim (λ i. (told old, ready.fit h, i)) (λ i. (new, fit h, i)) (either a b is there))
+          broken_from t broken sound (λ a b is there. let h = both a b is there in ⊎_elim (λ i. (seen_records old, ready.fit h, i)) (λ i. (new, fit h, i)) (either a b is there))
 
-      pub either_told : Tells old → (told t ≡ told old) ⊎ (told t ≡ new)
+      pub either_told : Tells old → (seen_records t ≡ seen_records old) ⊎ (seen_records t ≡ new)
       either_told h =
           let a = told_of (seen t.first) (first_tells ∙ h.0) in
           let b = told_of (seen t.second) (second_tells ∙ h.1) in
-          ⊎_elim (λ i. inl (told_pair (seen t.first) (seen t.second) a.0 b.0 (told old) a.1 b.1 i)) (λ i. inr (told_pair (seen t.first) (seen t.second) a.0 b.0 new a.1 b.1 i)) (either a.0 b.0 a.1 b.1)
+          ⊎_elim (λ i. inl (told_pair (seen t.first) (seen t.second) a.0 b.0 (seen_records old) a.1 b.1 i)) (λ i. inr (told_pair (seen t.first) (seen t.second) a.0 b.0 new a.1 b.1 i)) (either a.0 b.0 a.1 b.1)
 
     -- after a reading that failed
-    pub unread_so : ((a b c d : List ℕ) → seen old.first ≡ Some a → seen old.second ≡ Some b → seen t.first ≡ Some c → seen t.second ≡ Some d → SamePair c d a b) → t.whole ≡ false → IsSound t.generation → IsTwinReady seen may_leave size t
+    pub unread_so : ((a b c d : List ℕ) → seen old.first ≡ Some a → seen old.second ≡ Some b → seen t.first ≡ Some c → seen t.second ≡ Some d → SamePair c d a b) → t.whole ≡ false → IsGeneration t.generation → IsTwinReady seen may_leave size t
     unread_so same broken sound =
         broken_from t broken sound (λ c d is there.
         let h = both c d is there in
         let a = told_of (seen old.first) h.0 in
         let b = told_of (seen old.second) h.1 in
-        (told old, ready.fit h, same a.0 b.0 c d a.1 b.1 is there None ∙ ready.reads a.0 b.0 a.1 b.1))
+        (seen_records old, ready.fit h, same a.0 b.0 c d a.1 b.1 is there None ∙ ready.reads a.0 b.0 a.1 b.1))
 
   -- a disk that nothing was written to
   live_still : (old new : D) (file : List ℕ) → IsUnwritten seen may_leave size old new → IsLive seen may_leave old file → IsLive seen may_leave new file
@@ -181,13 +181,13 @@ module _ {D : Type 0} (seen : D → Option (List ℕ)) (may_leave : D → List �
   pub ready_still : (t : TwinState D) (first second : D) → IsTwinReady seen may_leave size t → IsUnwritten seen may_leave size t.first first → IsUnwritten seen may_leave size t.second second
       → IsTwinReady seen may_leave size (record { first = first; second = second; second_lives = t.second_lives; generation = t.generation; gates = t.gates; gate = t.gate; whole = t.whole; faults = t.faults })
   ready_still t first second ready one other =
-      let same : told t ≡ told_by seen first second = sym (ap (λ o. pair_records o (seen second)) one.same_bytes ∙ ap (λ o. pair_records (seen t.first) o) other.same_bytes) in
+      let same : seen_records t ≡ seen_pair_records seen first second = sym (ap (λ o. pair_records o (seen second)) one.same_bytes ∙ ap (λ o. pair_records (seen t.first) o) other.same_bytes) in
       let tells : BothTell seen first second → Tells t = λ h. (sym (ap is_some one.same_bytes) ∙ h.0, sym (ap is_some other.same_bytes) ∙ h.1) in
       record {
         below = λ whole.
             subst (λ n. t.gate < (if t.second_lives then n else size first)) (sym other.same_size) (subst (λ n. t.gate < (if t.second_lives then size t.second else n)) (sym one.same_size) (ready.below whole));
         sound = ready.sound;
-        rests = λ whole h. subst (λ rs. TwoRest seen may_leave t.second_lives t.generation rs first second) same (two_still t.second_lives t.generation (told t) t.first t.second first second one other (ready.rests whole (tells h)));
+        rests = λ whole h. subst (λ rs. TwoRest seen may_leave t.second_lives t.generation rs first second) same (two_still t.second_lives t.generation (seen_records t) t.first t.second first second one other (ready.rests whole (tells h)));
         place = λ whole h. ready.place whole (tells h) ∙ ap (λ rs. length (front_of t.generation ++ frames (payloads rs))) same;
         gates_are = λ whole h. ready.gates_are whole (tells h) ∙ ap (λ rs. gates_from (length (front_of t.generation)) (payloads rs)) same;
         fit = λ h. subst (λ rs. all_kept_by None rs ≡ true) same (ready.fit (tells h));
@@ -206,7 +206,7 @@ module _ {D : Type 0} (seen : D → Option (List ℕ)) (may_leave : D → List �
         let b = told_of (seen old_second) (sym second_tells ∙ h.1) in
         read a.0 b.0 a.1 b.1
 
-    pub read_ready : (faults : ℕ) → found.gate < (if live.second then size second else size first) → IsSound live.generation → all_kept_by None found.records.items ≡ true
+    pub read_ready : (faults : ℕ) → found.gate < (if live.second then size second else size first) → IsGeneration live.generation → all_kept_by None found.records.items ≡ true
         → IsTwinReady seen may_leave size (record { first = first; second = second; second_lives = live.second; generation = live.generation; gates = found.gates.items; gate = found.gate; whole = true; faults = faults })
     read_ready faults below sound fit =
         ready_from (record { first = first; second = second; second_lives = live.second; generation = live.generation; gates = found.gates.items; gate = found.gate; whole = true; faults = faults })
@@ -216,17 +216,17 @@ module _ {D : Type 0} (seen : D → Option (List ℕ)) (may_leave : D → List �
 
   -- where a gate is
   pub twin_place : (t : TwinState D) (i place : ℕ) → IsTwinReady seen may_leave size t → i < length t.gates → place ≡ slice_index t.gates i → t.whole ≡ true → Tells t
-      → place ≡ length (front_of t.generation ++ frames (payloads (take i (told t))))
+      → place ≡ length (front_of t.generation ++ frames (payloads (take i (seen_records t))))
   twin_place t i place ready within got whole h =
       let is = ready.gates_are whole h in
-      got ∙ ap (λ gs. slice_index gs i) is ∙ gate_at (length (front_of t.generation)) i (told t) (subst (λ gs. i < length gs) is within)
-      ∙ sym (length-append (front_of t.generation) (frames (payloads (take i (told t)))))
+      got ∙ ap (λ gs. slice_index gs i) is ∙ gate_at (length (front_of t.generation)) i (seen_records t) (subst (λ gs. i < length gs) is within)
+      ∙ sym (length-append (front_of t.generation) (frames (payloads (take i (seen_records t)))))
 
   -- whether it has no record
   pub twin_has_none : (t : TwinState D) (single : Bool) → IsTwinReady seen may_leave size t → single ≡ (length t.gates == 1)
-      → t.whole ≡ true → Tells t → single ≡ not (has_some (told t))
+      → t.whole ≡ true → Tells t → single ≡ not (has_some (seen_records t))
   twin_has_none t single ready got whole h =
-      got ∙ ap (λ (gs : List ℕ). length gs == 1) (ready.gates_are whole h) ∙ is_single (length (front_of t.generation)) (told t)
+      got ∙ ap (λ (gs : List ℕ). length gs == 1) (ready.gates_are whole h) ∙ is_single (length (front_of t.generation)) (seen_records t)
 
 module _ {D : Type 0} (may_leave : D → List ℕ → Type 0) (moment : D → ℕ) (left_since : D → ℕ → List ℕ → Type 0) where
   -- what a crash leaves while two disks are read

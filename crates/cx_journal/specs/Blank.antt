@@ -16,7 +16,7 @@ abbrev pub IsSame : List ℕ → List ℕ → Type 0
 IsSame file other = (file ≡ other) ⊎ (IsBlank file × IsBlank other)
 
 -- the live one of two files, and its generation
-pub record IsChosen (a b : List ℕ) (live : Live) : Type 0 where
+pub record IsLiveOfTwo (a b : List ℕ) (live : Live) : Type 0 where
   pub choice : second_is_live (generation a) (generation b) ≡ Ok live.second
   pub gen : live.generation ≡ generation (live_of live.second a b)
 

@@ -18,14 +18,14 @@ abbrev pub files_image : Option Kind → Files → Image
 files_image k (OneFile file) = image k file
 files_image k (TwoFiles a b) = pair_image k a b
 
--- the records of what is told, none where it is not known
+-- the records of what is seen, none where it is not known
 abbrev pub files_records : Option Files → List Record
 files_records None = []
 files_records (Some files) = records_or_none (files_image None files)
 
 -- for each kind of role that keeps these records, they are those of the store
-abbrev pub IsStored : List Record → Files → Type 0
-IsStored records files = (k : Option Kind) → all_kept_by k records ≡ true → files_image k files ≡ Ok records
+abbrev pub IsFilesImageOf : List Record → Files → Type 0
+IsFilesImageOf records files = (k : Option Kind) → all_kept_by k records ≡ true → files_image k files ≡ Ok records
 
 -- the same records or the same break, for each kind
 abbrev pub SameFiles : Files → Files → Type 0
@@ -42,8 +42,8 @@ front_in (TwoFiles a b) = front_chosen a b (second_is_live (generation a) (gener
 
 -- what one disk tells, or two
 abbrev pub one_told : Option (List ℕ) → Option Files
-one_told told = option_map OneFile told
+one_told seen = option_map OneFile seen
 
 abbrev pub both_told : Option (List ℕ) → Option (List ℕ) → Option Files
-both_told None told = None
-both_told (Some a) told = option_map (TwoFiles a) told
+both_told None seen = None
+both_told (Some a) seen = option_map (TwoFiles a) seen

@@ -7,8 +7,8 @@ use Rattle.cx_journal.specs.Payload.{payloads, all_kept_by}
 use Rattle.cx_journal.specs.Journal.{frames, gates_from, StandsFor}
 use Rattle.cx_journal.specs.Image.{Image, image, image_from, with_first, IsBreak}
 use Rattle.cx_journal.specs.declared.image.Found.{Found}
-use Rattle.cx_journal.specs.declared.split.Stop.{Stop}
-use Rattle.cx_journal.specs.declared.split.Stop.TheVariants as stop
+use Rattle.cx_journal.specs.declared.split.ImageFault.{ImageFault}
+use Rattle.cx_journal.specs.declared.split.ImageFault.TheVariants as stop
 use Rattle.cx_keeper.specs.declared.keeper.OpenFault.{OpenFault}
 use Rattle.cx_keeper.specs.declared.keeper.OpenFault.TheVariants as fault
 
@@ -27,17 +27,17 @@ pub record IsFoundFrom (k : Option Kind) (start : ℕ) (bytes : List ℕ) (found
   pub gate : found.gate ≡ start + length (frames (payloads found.records.items))
 
 -- an image breaks there, unless memory ran out
-abbrev pub Breaks : Image → Stop → Type 0
+abbrev pub Breaks : Image → ImageFault → Type 0
 Breaks image (stop.Break at) = image ≡ Err at
 Breaks image stop.NoMemory = Unit {0}
 
 -- what was read of two bytes or more
-abbrev pub IsRead : Option Kind → List ℕ → Result Found Stop → Type 0
+abbrev pub IsRead : Option Kind → List ℕ → Result Found ImageFault → Type 0
 IsRead k bytes (Ok found) = image k bytes ≡ Ok found.records.items
 IsRead k bytes (Err s) = Breaks (image k bytes) s
 
 -- the same of what stands from a place on
-abbrev pub IsReadFrom : Option Kind → ℕ → List ℕ → Result Found Stop → Type 0
+abbrev pub IsReadFrom : Option Kind → ℕ → List ℕ → Result Found ImageFault → Type 0
 IsReadFrom k start bytes (Ok found) = image_from k start bytes ≡ Ok found.records.items
 IsReadFrom k start bytes (Err s) = Breaks (image_from k start bytes) s
 
@@ -48,7 +48,7 @@ IsFaultIn image bytes fault.Failed = Unit {0}
 IsFaultIn image bytes fault.NoMemory = Unit {0}
 
 -- where a payload that begins at a place stops being a record
-abbrev pub IsStopAt : ℕ → Result Record ℕ → Stop → Type 0
+abbrev pub IsStopAt : ℕ → Result Record ℕ → ImageFault → Type 0
 IsStopAt at read (stop.Break place) = (image : Image) → with_first at read image ≡ Err place
 IsStopAt at read stop.NoMemory = Unit {0}
 

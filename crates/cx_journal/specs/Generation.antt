@@ -9,9 +9,9 @@ generation (a ∷ b ∷ []) = None
 generation (a ∷ b ∷ c ∷ rest) = if a == 4 then Some b else None
 
 -- the generation that a renewal gives, beside a live disk of this one
-abbrev pub next_of : Option ℕ → ℕ
-next_of None = 1
-next_of (Some g) = (g + 1) % 3
+abbrev pub next_generation : Option ℕ → ℕ
+next_generation None = 1
+next_generation (Some g) = (g + 1) % 3
 
 -- which disk is live, the second one or not; or the byte of a generation above 2, or of two that are equal
 abbrev pub second_is_live : Option ℕ → Option ℕ → Result Bool ℕ
@@ -22,9 +22,9 @@ second_is_live (Some g) (Some h) =
     if nat_lt g 3 then (if nat_lt h 3 then (if g == h then Err h else Ok (h == (g + 1) % 3)) else Err h) else Err g
 
 -- a generation, if there is one, is one of the three
-abbrev pub IsSound : Option ℕ → Type 0
-IsSound None = Unit {0}
-IsSound (Some g) = g < 3
+abbrev pub IsGeneration : Option ℕ → Type 0
+IsGeneration None = Unit {0}
+IsGeneration (Some g) = g < 3
 
 -- Beside a live disk of this generation a disk of that one is not live: it is plain, or of the generation before.
 abbrev pub IsBehind : Option ℕ → Option ℕ → Type 0

@@ -11,13 +11,13 @@ abbrev pub Image : Type 0
 Image = Result (List Record) ℕ
 
 -- a record before an image
-abbrev pub with_record : Record → Image → Image
-with_record r (Ok records) = Ok (r ∷ records)
-with_record r (Err break) = Err break
+abbrev pub image_with_record : Record → Image → Image
+image_with_record r (Ok records) = Ok (r ∷ records)
+image_with_record r (Err break) = Err break
 
 -- a payload that was read, before an image; its break counts from the payload's place
 abbrev pub with_first : ℕ → Result Record ℕ → Image → Image
-with_first at (Ok r) image = with_record r image
+with_first at (Ok r) image = image_with_record r image
 with_first at (Err place) image = Err (at + place)
 
 -- a payload of n bytes after its length, at this place

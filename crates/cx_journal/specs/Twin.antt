@@ -3,7 +3,7 @@ use Rattle.std.specs.Prelude.{◌≡◌, ◌<◌, ◌≤◌, ◌⊎◌, ℕ, ◌
 use Rattle.cx_base.specs.declared.role.Kind.{Kind}
 use Rattle.cx_msg.specs.declared.kept.Record.{Record}
 use Rattle.cx_journal.specs.Blank.{IsSame}
-use Rattle.cx_journal.specs.Generation.{IsSound, generation, second_is_live}
+use Rattle.cx_journal.specs.Generation.{IsGeneration, generation, second_is_live}
 use Rattle.cx_journal.specs.Image.{Image, image, image_from}
 use Rattle.cx_journal.specs.Journal.{frames, gates_from}
 use Rattle.cx_journal.specs.Pair.{StandsAfter, begins_with, front_of, live_of, first_file, second_file, IsTwin, IsLive}
@@ -42,7 +42,7 @@ SamePair a b c d = (k : Option Kind) → pair_image k a b ≡ pair_image k c d
 
 -- the records that two disks tell
 abbrev pub pair_records : Option (List ℕ) → Option (List ℕ) → List Record
-pair_records None told = []
+pair_records None seen = []
 pair_records (Some a) None = []
 pair_records (Some a) (Some b) = records_or_none (pair_image None a b)
 
@@ -78,8 +78,8 @@ abbrev pub BothTell : {D : Type 0} → (D → Option (List ℕ)) → D → D →
 BothTell seen first second = (is_some (seen first) ≡ true) × (is_some (seen second) ≡ true)
 
 -- the records that two disks tell
-abbrev pub told_by : {D : Type 0} → (D → Option (List ℕ)) → D → D → List Record
-told_by seen first second = pair_records (seen first) (seen second)
+abbrev pub seen_pair_records : {D : Type 0} → (D → Option (List ℕ)) → D → D → List Record
+seen_pair_records seen first second = pair_records (seen first) (seen second)
 
 -- whatever a crash leaves of the disk that was not live, the two have the old records or the new ones
 abbrev pub IsEitherPair : Bool → List Record → List Record → List ℕ → List ℕ → Type 0
@@ -156,9 +156,9 @@ HasImage seen k first second records = (a b : List ℕ) → seen first ≡ Some 
 -- disk's, and each gate is at its place.
 pub record IsTwinReady {D : Type 0} (seen : D → Option (List ℕ)) (may_leave : D → List ℕ → Type 0) (size : D → ℕ) (t : TwinState D) : Type 0 where
   pub below : t.whole ≡ true → t.gate < (if t.second_lives then size t.second else size t.first)
-  pub sound : IsSound t.generation
-  pub rests : t.whole ≡ true → BothTell seen t.first t.second → TwoRest seen may_leave t.second_lives t.generation (told_by seen t.first t.second) t.first t.second
-  pub place : t.whole ≡ true → BothTell seen t.first t.second → t.gate ≡ length (front_of t.generation ++ frames (payloads (told_by seen t.first t.second)))
-  pub gates_are : t.whole ≡ true → BothTell seen t.first t.second → t.gates ≡ gates_from (length (front_of t.generation)) (payloads (told_by seen t.first t.second))
-  pub fit : BothTell seen t.first t.second → all_kept_by None (told_by seen t.first t.second) ≡ true
-  pub reads : HasImage seen None t.first t.second (told_by seen t.first t.second)
+  pub sound : IsGeneration t.generation
+  pub rests : t.whole ≡ true → BothTell seen t.first t.second → TwoRest seen may_leave t.second_lives t.generation (seen_pair_records seen t.first t.second) t.first t.second
+  pub place : t.whole ≡ true → BothTell seen t.first t.second → t.gate ≡ length (front_of t.generation ++ frames (payloads (seen_pair_records seen t.first t.second)))
+  pub gates_are : t.whole ≡ true → BothTell seen t.first t.second → t.gates ≡ gates_from (length (front_of t.generation)) (payloads (seen_pair_records seen t.first t.second))
+  pub fit : BothTell seen t.first t.second → all_kept_by None (seen_pair_records seen t.first t.second) ≡ true
+  pub reads : HasImage seen None t.first t.second (seen_pair_records seen t.first t.second)

@@ -2,19 +2,19 @@
 use Rattle.std.specs.Prelude.{◌≡◌, ◌⊎◌, ◌+◌, ◌≤◌, ◌&&◌, ℕ, Bool, true, false, is_some, List, length, Option, None, Result, Ok, Err}
 use Rattle.cx_base.specs.Faults.{Rises}
 use Rattle.cx_msg.specs.declared.kept.Record.{Record}
-use Rattle.cx_keeper.specs.Keeper.{Change, Append, Renewal, IsChange, list_after}
+use Rattle.cx_keeper.specs.Keeper.{KeeperChange, Append, Renewal, IsKeeperChange, list_after}
 use Rattle.cx_keeper.specs.declared.keeper.KeepFault.{KeepFault}
 use Rattle.cx_keeper.specs.declared.keeper.KeepFault.TheVariants.{Failed, NoMemory}
 use Rattle.cx_journal.specs.Appends.{count_append}
 use Rattle.cx_journal.specs.Payload.{all_kept_by}
-use Rattle.cx_journal.specs.Twin.{TwinState, BothTell, told_by, LeavesSame, LeavesTwo, IsPairImageOf}
+use Rattle.cx_journal.specs.Twin.{TwinState, BothTell, seen_pair_records, LeavesSame, LeavesTwo, IsPairImageOf}
 
 -- whether the bytes of both disks are known
 abbrev pub both_tell : {D : Type 0} → (D → Option (List ℕ)) → D → D → Bool
 both_tell seen first second = is_some (seen first) && is_some (seen second)
 
 -- how many gates there are after a change, the closed one counted
-abbrev pub gates_after : Change → ℕ → ℕ
+abbrev pub gates_after : KeeperChange → ℕ → ℕ
 gates_after (Append r) gates = gates + 1
 gates_after (Renewal records) gates = length records + 1
 
@@ -35,17 +35,17 @@ pub record IsAgain {D : Type 0} (may_leave : D → List ℕ → Type 0) (moment 
 -- At Ok, every crash from then on leaves the records after the change. Out of memory, nothing changes, unless they had to be
 -- read again. It fails only where the count of one of the disks rose, unless their bytes are not known; and these rise only where it fails.
 pub record IsTwinChange {D : Type 0} (seen : D → Option (List ℕ)) (may_leave : D → List ℕ → Type 0) (moment : D → ℕ) (left_since : D → ℕ → List ℕ → Type 0) (disk_faults : D → ℕ)
-    (old : TwinState D) (change : Change) (answer : Result (Unit {0}) KeepFault) (new : TwinState D) : Type 0 where
-  pub changes : IsChange (λ (t : TwinState D). both_tell seen t.first t.second) (λ (t : TwinState D). told_by seen t.first t.second) (λ (t : TwinState D). t.faults) old change answer new
-  pub fit : BothTell seen old.first old.second → all_kept_by None (told_by seen old.first old.second) ≡ true
-  pub fit_after : BothTell seen old.first old.second → all_kept_by None (list_after (told_by seen old.first old.second) change) ≡ true
+    (old : TwinState D) (change : KeeperChange) (answer : Result (Unit {0}) KeepFault) (new : TwinState D) : Type 0 where
+  pub changes : IsKeeperChange (λ (t : TwinState D). both_tell seen t.first t.second) (λ (t : TwinState D). seen_pair_records seen t.first t.second) (λ (t : TwinState D). t.faults) old change answer new
+  pub fit : BothTell seen old.first old.second → all_kept_by None (seen_pair_records seen old.first old.second) ≡ true
+  pub fit_after : BothTell seen old.first old.second → all_kept_by None (list_after (seen_pair_records seen old.first old.second) change) ≡ true
   pub any_moment : old.whole ≡ true → BothTell seen old.first old.second
-      → LeavesTwo moment left_since old.first old.second new.first new.second (told_by seen old.first old.second) (list_after (told_by seen old.first old.second) change)
+      → LeavesTwo moment left_since old.first old.second new.first new.second (seen_pair_records seen old.first old.second) (list_after (seen_pair_records seen old.first old.second) change)
   pub read_again : old.whole ≡ false → BothTell seen old.first old.second
       → LeavesSame may_leave moment left_since old.first old.second new.first new.second
-      ⊎ IsAgain may_leave moment left_since old.first old.second new.first new.second (told_by seen old.first old.second) (list_after (told_by seen old.first old.second) change)
+      ⊎ IsAgain may_leave moment left_since old.first old.second new.first new.second (seen_pair_records seen old.first old.second) (list_after (seen_pair_records seen old.first old.second) change)
   pub lasts : answer ≡ Ok tt → BothTell seen old.first old.second
-      → (a b : List ℕ) → may_leave new.first a → may_leave new.second b → IsPairImageOf (list_after (told_by seen old.first old.second) change) a b
+      → (a b : List ℕ) → may_leave new.first a → may_leave new.second b → IsPairImageOf (list_after (seen_pair_records seen old.first old.second) change) a b
   pub whole : answer ≡ Ok tt → new.whole ≡ true
   pub placed : answer ≡ Ok tt → old.whole ≡ true → length new.gates ≡ gates_after change (length old.gates)
   pub disk_cause : answer ≡ Err Failed → BothTell seen old.first old.second → OneRises disk_faults old.first old.second new.first new.second

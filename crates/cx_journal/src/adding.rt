@@ -3,7 +3,7 @@ ghost use Rattle.std.specs.Prelude.{◌≡◌, ◌+◌, ◌<◌, ◌≤◌, ◌+
 ghost use Rattle.cx_base.specs.Faults.{Rises};
 ghost use Rattle.cx_msg.specs.Records.{spelling};
 ghost use Rattle.cx_disk.specs.Disk.{written, Torn, Only, LeavesOnly, HasCause};
-ghost use Rattle.cx_journal.specs.Journal.{body, IsAtRest, IsBeforeOrAfter};
+ghost use Rattle.cx_journal.specs.Journal.{append_body, IsAtRest, IsBeforeOrAfter};
 
 use cx_base::NoMemory;
 use cx_disk::{Disk, Failed};
@@ -30,7 +30,7 @@ pub(crate) fn write_synced<D: Disk>(disk: &mut D, at: u64, bytes: &[u8]) -> Resu
 
 /// What comes after the gate of a record: its length, its bytes, and a closed gate.
 pub(crate) fn body_of(alloc: Global, what: &Record) -> Result<Vec<u8>, NoMemory>
-    ensures body { IfOk result (λ v. v.items ≡ body (spelling what.now)) }
+    ensures body { IfOk result (λ v. v.items ≡ append_body (spelling what.now)) }
     ensures most { IfOk result (λ _. length (spelling what.now) ≤ 30018) }
 {
     let mut payload = Vec::new(alloc);

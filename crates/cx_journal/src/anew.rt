@@ -4,7 +4,7 @@ ghost use Rattle.cx_base.specs.Faults.{Rises};
 ghost use Rattle.cx_msg.specs.declared.kept.Record.{Record};
 ghost use Rattle.cx_disk.specs.Disk.{LeavesOnly};
 ghost use Rattle.cx_keeper.specs.Keeper.{all_fit};
-ghost use Rattle.cx_journal.specs.Generation.{IsSound, generation, next_of};
+ghost use Rattle.cx_journal.specs.Generation.{IsGeneration, generation, next_generation};
 ghost use Rattle.cx_journal.specs.Journal.{frames, gates_from};
 ghost use Rattle.cx_journal.specs.Pair.{IsTwin, IsLive};
 ghost use Rattle.cx_journal.specs.Payload.{payloads};
@@ -25,9 +25,9 @@ pub struct Renewed {
     pub gate: u64,
 }
 
-fn next_of(generation: Option<u8>) -> u8
-    requires { IsSound generation }
-    ensures next { result ≡ next_of generation }
+fn next_generation(generation: Option<u8>) -> u8
+    requires { IsGeneration generation }
+    ensures next { result ≡ next_generation generation }
     ensures below { result < 3 }
 {
     match generation {
@@ -44,7 +44,7 @@ pub(crate) fn renew_other<D: Disk>(
     records: &[Record],
 ) -> Result<Renewed, KeepFault>
     requires fits { IsTrue (all_fit records.now) }
-    requires sound { IsSound live_generation }
+    requires sound { IsGeneration live_generation }
 
     // At `Ok` this disk is live, with these records.
     ensures done { (second : Bool) (old : List Record) (live beside : List ℕ)
@@ -58,7 +58,7 @@ pub(crate) fn renew_other<D: Disk>(
         → live_generation ≡ generation live
         → LeavesOnly D.moment D.left_since other.old other.new
         (IsEitherPair second old records.now live) }
-    ensures generation { IfOk result (λ r. r.generation ≡ next_of live_generation) }
+    ensures generation { IfOk result (λ r. r.generation ≡ next_generation live_generation) }
     ensures below { IfOk result (λ r. r.generation < 3) }
     ensures size { IfOk result (λ r. r.gate < D.size other.new) }
     ensures gates { IfOk result (λ r. r.gates.items ≡ gates_from 2 (payloads records.now)) }
@@ -69,7 +69,7 @@ pub(crate) fn renew_other<D: Disk>(
     ensures failed { IsErrOf result KeepFault.Failed → Rises (D.faults other.old) (D.faults other.new) }
     ensures no_memory { IsErrOf result KeepFault.NoMemory → other.new ≡ other.old }
 {
-    let generation = next_of(live_generation);
+    let generation = next_generation(live_generation);
     let whole = match whole_of(alloc, generation, records) {
         Ok(whole) => whole,
         Err(_) => return Err(KeepFault::NoMemory),

@@ -3,7 +3,7 @@ ghost use Rattle.std.specs.Prelude.{◌≡◌, ◌⊎◌, ◌+◌, ◌<◌, ◌�
 ghost use Rattle.cx_disk.specs.Disk.{Only, LeavesOnly, HasCause};
 ghost use Rattle.cx_journal.specs.Generation.{generation};
 ghost use Rattle.cx_journal.specs.Pair.{front_of, IsTwin, IsLive};
-ghost use Rattle.cx_journal.specs.Journal.{body, frames};
+ghost use Rattle.cx_journal.specs.Journal.{append_body, frames};
 
 use crate::adding::write_synced;
 use cx_disk::{Disk, Failed};
@@ -14,7 +14,7 @@ pub(crate) fn append_to<D: Disk>(disk: &mut D, gate: u64, bytes: &[u8]) -> Resul
 
     // At `Ok` the list has the record.
     ensures kept { (second : Bool) (payloads : List (List ℕ)) (payload live other : List ℕ)
-        → length payload ≤ 32768 → bytes.now ≡ body payload
+        → length payload ≤ 32768 → bytes.now ≡ append_body payload
         → IsLive D.seen D.may_leave disk.old live → IsTwin second payloads live other
         → gate ≡ length (front_of (generation live) ++ frames payloads)
         → OnOk result ((file : List ℕ) × IsLive D.seen D.may_leave disk.new file
@@ -22,7 +22,7 @@ pub(crate) fn append_to<D: Disk>(disk: &mut D, gate: u64, bytes: &[u8]) -> Resul
 
     // At each moment the pair has the list, or the list and the record.
     ensures any_moment { (second : Bool) (payloads : List (List ℕ)) (payload live other : List ℕ)
-        → length payload ≤ 32768 → bytes.now ≡ body payload
+        → length payload ≤ 32768 → bytes.now ≡ append_body payload
         → IsLive D.seen D.may_leave disk.old live → IsTwin second payloads live other
         → gate ≡ length (front_of (generation live) ++ frames payloads)
         → LeavesOnly D.moment D.left_since disk.old disk.new (λ c. IsTwin second payloads c other

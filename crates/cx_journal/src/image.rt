@@ -7,7 +7,7 @@ ghost use Rattle.cx_msg.specs.Records.{spelling};
 ghost use Rattle.cx_journal.specs.Payload.{payload_read, is_kept_by};
 
 use crate::payload::{PayloadFault, payload_from};
-use crate::split::{Stop, first_record};
+use crate::split::{ImageFault, first_record};
 use cx_base::{Kind, NoMemory};
 use cx_keeper::OpenFault;
 use cx_msg::Record;
@@ -22,7 +22,12 @@ pub struct Found {
 }
 
 /// The record of a payload that begins at a place.
-fn record_at(alloc: Global, kind: Option<Kind>, payload: &[u8], at: usize) -> Result<Record, Stop>
+fn record_at(
+    alloc: Global,
+    kind: Option<Kind>,
+    payload: &[u8],
+    at: usize,
+) -> Result<Record, ImageFault>
     requires some { 0 < length payload.now }
     requires most { at + length payload.now < 2 ^ 63 }
     ensures read { MatchResult result (λ r. payload_read kind payload.now ≡ Ok r)
@@ -33,8 +38,8 @@ fn record_at(alloc: Global, kind: Option<Kind>, payload: &[u8], at: usize) -> Re
     match payload_from(alloc, kind, payload) {
         Ok(what) => Ok(what),
         Err(fault) => match fault {
-            PayloadFault::Bad(place) => Err(Stop::Break(at + place)),
-            PayloadFault::NoMemory => Err(Stop::NoMemory),
+            PayloadFault::Bad(place) => Err(ImageFault::Break(at + place)),
+            PayloadFault::NoMemory => Err(ImageFault::NoMemory),
         },
     }
 }
@@ -61,7 +66,12 @@ fn push_gate(gates: &mut Vec<u64>, gate: u64) -> Result<(), NoMemory>
 }
 
 /// The records of the bytes from a place on.
-fn records_in(alloc: Global, kind: Option<Kind>, bytes: &[u8], start: usize) -> Result<Found, Stop>
+fn records_in(
+    alloc: Global,
+    kind: Option<Kind>,
+    bytes: &[u8],
+    start: usize,
+) -> Result<Found, ImageFault>
     requires start { start ≤ length bytes.now }
     requires most { length bytes.now < 2 ^ 63 }
     ensures image { IsReadFrom kind start bytes.now result }
@@ -80,7 +90,7 @@ fn records_in(alloc: Global, kind: Option<Kind>, bytes: &[u8], start: usize) -> 
                         gates,
                         gate: at,
                     }),
-                    Err(_) => Err(Stop::NoMemory),
+                    Err(_) => Err(ImageFault::NoMemory),
                 };
             }
             Ok(Some(split)) => {
@@ -90,7 +100,7 @@ fn records_in(alloc: Global, kind: Option<Kind>, bytes: &[u8], start: usize) -> 
                 };
                 match push_found(&mut records, &mut gates, what, at as u64) {
                     Ok(()) => {}
-                    Err(_) => return Err(Stop::NoMemory),
+                    Err(_) => return Err(ImageFault::NoMemory),
                 }
                 at += 5 + split.payload.len();
                 left = split.after;
@@ -101,7 +111,7 @@ fn records_in(alloc: Global, kind: Option<Kind>, bytes: &[u8], start: usize) -> 
 }
 
 /// The records of at least two bytes.
-fn plain_records(alloc: Global, kind: Option<Kind>, bytes: &[u8]) -> Result<Found, Stop>
+fn plain_records(alloc: Global, kind: Option<Kind>, bytes: &[u8]) -> Result<Found, ImageFault>
     requires least { 2 ≤ length bytes.now }
     requires most { length bytes.now < 2 ^ 63 }
     ensures image { IsRead kind bytes.now result }
@@ -139,11 +149,11 @@ pub(crate) fn found_in(alloc: Global, kind: Option<Kind>, bytes: &[u8]) -> Resul
 {
     match plain_records(alloc, kind, bytes) {
         Ok(found) => Ok(found),
-        Err(Stop::Break(at)) => Err(OpenFault::NotJournal {
+        Err(ImageFault::Break(at)) => Err(OpenFault::NotJournal {
             at: at as u64,
             byte: bytes.get(at).copied(),
         }),
-        Err(Stop::NoMemory) => Err(OpenFault::NoMemory),
+        Err(ImageFault::NoMemory) => Err(OpenFault::NoMemory),
     }
 }
 
@@ -162,10 +172,10 @@ pub(crate) fn found_after(
 {
     match records_in(alloc, kind, bytes, 2) {
         Ok(found) => Ok(found),
-        Err(Stop::Break(at)) => Err(OpenFault::NotJournal {
+        Err(ImageFault::Break(at)) => Err(OpenFault::NotJournal {
             at: at as u64,
             byte: bytes.get(at).copied(),
         }),
-        Err(Stop::NoMemory) => Err(OpenFault::NoMemory),
+        Err(ImageFault::NoMemory) => Err(OpenFault::NoMemory),
     }
 }

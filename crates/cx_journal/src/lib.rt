@@ -29,5 +29,5 @@ mod whole;
 
 pub use image::Found;
 pub use journal::Journal;
-pub use store::Store;
+pub use store::RecordStore;
 pub use twin::Twin;

@@ -1,9 +1,9 @@
 //! Which of two disks is live: both are synced before either is read.
 ghost use Rattle.std.specs.Prelude.{◌≡◌, ◌+◌, ◌≤◌, [], ◌∷◌, is_some, true, false, List, ℕ, Bool, Option, Some, None, Ok, Err, Result, length, IfOk, OnOk, OnErr, IfErr};
 ghost use Rattle.cx_disk.specs.Disk.{Only, LeavesOnly, HasCause};
-ghost use Rattle.cx_journal.specs.Generation.{IsSound, generation, second_is_live};
+ghost use Rattle.cx_journal.specs.Generation.{IsGeneration, generation, second_is_live};
 ghost use Rattle.cx_journal.specs.Pair.{IsLive};
-ghost use Rattle.cx_journal.specs.Blank.{IsBlank, IsChosen, IsBadPair};
+ghost use Rattle.cx_journal.specs.Blank.{IsBlank, IsLiveOfTwo, IsBadPair};
 ghost use Rattle.cx_journal.specs.TwinChanges.{OneRises};
 ghost use Rattle.cx_journal.specs.declared.opening.PairFault.TheVariants as fault;
 
@@ -59,10 +59,10 @@ fn generation_of<D: Disk>(disk: &mut D) -> Result<Option<u8>, Failed>
     Ok(None)
 }
 
-/// Which of two disks is live; or the generation that is above 2, or the second of two that are equal. It takes no memory.
+/// Which of two disks is live; or the generation that is above 2, or the second of two that are equal.
 fn choose(first: Option<u8>, second: Option<u8>) -> Result<bool, u8>
     ensures choice { result ≡ second_is_live first second }
-    ensures sound { IfOk result (λ _. IsSound first × IsSound second) }
+    ensures sound { IfOk result (λ _. IsGeneration first × IsGeneration second) }
 {
     match first {
         None => match second {
@@ -145,7 +145,7 @@ fn generations<D: Disk>(first: &mut D, second: &mut D) -> Result<(Option<u8>, Op
 /// Syncs two disks and finds the live one. Nothing is written.
 pub(crate) fn find_live<D: Disk>(first: &mut D, second: &mut D) -> Result<Live, PairFault>
     ensures chosen { (a b : List ℕ) → D.seen first.old ≡ Some a → D.seen second.old ≡ Some b
-        → IfOk result (IsChosen a b) }
+        → IfOk result (IsLiveOfTwo a b) }
     ensures broken { (a b : List ℕ) → D.seen first.old ≡ Some a → D.seen second.old ≡ Some b
         → IfErr result (IsBadPair a b) }
     ensures first_rests { (a : List ℕ) → D.seen first.old ≡ Some a
@@ -161,7 +161,7 @@ pub(crate) fn find_live<D: Disk>(first: &mut D, second: &mut D) -> Result<Live, 
     ensures first_quiet { LeavesOnly D.moment D.left_since first.old first.new (D.may_leave first.old) }
     ensures second_quiet { LeavesOnly D.moment D.left_since second.old second.new
         (D.may_leave second.old) }
-    ensures sound { IfOk result (λ l. IsSound l.generation) }
+    ensures sound { IfOk result (λ l. IsGeneration l.generation) }
     ensures long { IfOk result (λ l. l.second ≡ true → 1 ≤ D.size second.new) }
     ensures first_later { D.faults first.old ≤ D.faults first.new }
     ensures second_later { D.faults second.old ≤ D.faults second.new }

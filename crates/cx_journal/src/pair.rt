@@ -6,11 +6,11 @@ ghost use Rattle.cx_msg.specs.declared.kept.Record.{Record};
 ghost use Rattle.cx_journal.specs.Blank.{IsLeftOr, IsSame};
 ghost use Rattle.cx_journal.specs.Files.{TwoFiles, front_in};
 ghost use Rattle.cx_journal.specs.Found.{IsOutside};
-ghost use Rattle.cx_journal.specs.Generation.{IsSound, generation, second_is_live};
+ghost use Rattle.cx_journal.specs.Generation.{IsGeneration, generation, second_is_live};
 ghost use Rattle.cx_journal.specs.Pair.{front_of};
 ghost use Rattle.cx_journal.specs.Payload.{all_kept_by};
 ghost use Rattle.cx_journal.specs.State.{IsUnwritten};
-ghost use Rattle.cx_journal.specs.Twin.{BothTell, told_by, PairRests, IsFaultOfPair, HasImage, LeavesSame, SamePair, pair_image};
+ghost use Rattle.cx_journal.specs.Twin.{BothTell, seen_pair_records, PairRests, IsFaultOfPair, HasImage, LeavesSame, SamePair, pair_image};
 ghost use Rattle.cx_journal.specs.TwinChanges.{OneRises};
 
 use crate::Found;
@@ -55,7 +55,7 @@ pub(crate) fn read_pair<D: Disk>(
     ensures second_unwritten { result ≡ Err fault.NoMemory
         → IsUnwritten D.seen D.may_leave D.size second.old second.new }
     ensures fit { IfOk result (λ p. all_kept_by kind p.1.records.items ≡ true) }
-    ensures sound { IfOk result (λ p. IsSound p.0.generation) }
+    ensures sound { IfOk result (λ p. IsGeneration p.0.generation) }
     ensures gates { IfOk result (λ p. length p.1.gates.items ≡ length p.1.records.items + 1) }
     ensures gate { IfOk result
         (λ p. p.1.gate < (if p.0.second then D.size second.new else D.size first.new)) }
@@ -117,7 +117,7 @@ pub(crate) fn read_both<D: Disk>(
         → HasImage D.seen kind first.old second.old records → IfErr result (λ e. IsOutside e) }
 
     // What a read gives keeps its records, or its break, also where the call fails.
-    ensures told { told_by D.seen first.new second.new ≡ told_by D.seen first.old second.old }
+    ensures records { seen_pair_records D.seen first.new second.new ≡ seen_pair_records D.seen first.old second.old }
     ensures same { (a b c d : List ℕ) → D.seen first.old ≡ Some a → D.seen second.old ≡ Some b
         → D.seen first.new ≡ Some c → D.seen second.new ≡ Some d → SamePair c d a b }
 
@@ -131,7 +131,7 @@ pub(crate) fn read_both<D: Disk>(
     ensures second_unwritten { result ≡ Err fault.NoMemory
         → IsUnwritten D.seen D.may_leave D.size second.old second.new }
     ensures fit { IfOk result (λ p. all_kept_by kind p.1.records.items ≡ true) }
-    ensures sound { IfOk result (λ p. IsSound p.0.generation) }
+    ensures sound { IfOk result (λ p. IsGeneration p.0.generation) }
     ensures gates { IfOk result (λ p. length p.1.gates.items ≡ length p.1.records.items + 1) }
     ensures gate { IfOk result
         (λ p. p.1.gate < (if p.0.second then D.size second.new else D.size first.new)) }

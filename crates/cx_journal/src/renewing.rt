@@ -1,6 +1,6 @@
 //! A disk that is written anew: cleared first, then its bytes, then its first byte, each with a sync of its own.
 ghost use Rattle.std.specs.Prelude.{◌≡◌, ◌+◌, ◌≤◌, [], ◌∷◌, max, take, is_some, List, ℕ, Option, Some, length, OnOk};
-ghost use Rattle.cx_disk.specs.Disk.{written, Torn, Cut, Only, LeavesOnly, HasCause};
+ghost use Rattle.cx_disk.specs.Disk.{written, Torn, TornCut, Only, LeavesOnly, HasCause};
 ghost use Rattle.cx_journal.specs.Generation.{generation, IsBehind, IsOldOrNew};
 ghost use Rattle.cx_journal.specs.Blank.{IsBlank};
 
@@ -13,7 +13,7 @@ pub(crate) fn cut_synced<D: Disk>(disk: &mut D, at: u64) -> Result<(), Failed>
     ensures done { (file : List ℕ) → D.seen disk.old ≡ Some file → OnOk result
         ((D.seen disk.new ≡ Some (take at file)) × Only (take at file) (D.may_leave disk.new)) }
     ensures any_moment { (file : List ℕ) → Only file (D.may_leave disk.old) →
-        LeavesOnly D.moment D.left_since disk.old disk.new (Cut at file) }
+        LeavesOnly D.moment D.left_since disk.old disk.new (TornCut at file) }
     ensures tells { is_some (D.seen disk.new) ≡ is_some (D.seen disk.old) }
     ensures size { OnOk result (D.size disk.new ≡ at) }
     ensures cause { HasCause (D.faults disk.old) (D.faults disk.new) result }

@@ -14,26 +14,26 @@ use cx_msg::Record;
 
 /// Where a role's records are kept. A list over two disks can be put anew; one on a single disk can't.
 #[derive(Drop)]
-pub enum Store<D: Disk> {
+pub enum RecordStore<D: Disk> {
     One { journal: Journal<D> },
     Two { twin: Twin<D> },
 }
 
-impl<D: Disk> Store<D> {
-    /// Whether it has no record. It takes no memory.
+impl<D: Disk> RecordStore<D> {
+    /// Whether it has no record.
     pub fn is_empty(&self) -> bool
         ensures gates { result ≡ (length (store_gates self.now) == 1) }
-        ensures told { store_whole self.now ≡ true → is_some (store_told D.seen self.now) ≡ true
+        ensures empty { store_whole self.now ≡ true → is_some (store_told D.seen self.now) ≡ true
             → result ≡ not (has_some (files_records (store_told D.seen self.now))) }
     {
         match self {
-            Store::One { journal } => journal.is_empty(),
-            Store::Two { twin } => twin.is_empty(),
+            RecordStore::One { journal } => journal.is_empty(),
+            RecordStore::Two { twin } => twin.is_empty(),
         }
     }
 }
 
-impl<D: Disk> Keeper for Store<D> {
+impl<D: Disk> Keeper for RecordStore<D> {
     ghost tells = { λ s. is_some (store_told D.seen s) };
 
     ghost kept = { λ s. files_records (store_told D.seen s) };
@@ -55,20 +55,20 @@ impl<D: Disk> Keeper for Store<D> {
 
     fn append(&mut self, what: &Record) -> Result<(), KeepFault> {
         match self {
-            Store::One { journal } => journal.append(what),
-            Store::Two { twin } => twin.append(what),
+            RecordStore::One { journal } => journal.append(what),
+            RecordStore::Two { twin } => twin.append(what),
         }
     }
 
     fn recover(&mut self) -> Result<Vec<Record>, OpenFault> {
         match self {
-            Store::One { journal } => journal.recover(),
-            Store::Two { twin } => twin.recover(),
+            RecordStore::One { journal } => journal.recover(),
+            RecordStore::Two { twin } => twin.recover(),
         }
     }
 }
 
-impl<D: Disk> Renew for Store<D> {
+impl<D: Disk> Renew for RecordStore<D> {
     ghost renew_gives = { λ old records answer new. IsStoreChange D.Disk old (Renewal records) answer new };
 
     ghost renew_is = { λ old records answer new given. store_change_is
@@ -85,8 +85,8 @@ impl<D: Disk> Renew for Store<D> {
     /// A journal on one disk refuses, and counts that as a failure.
     fn renew(&mut self, records: &[Record]) -> Result<(), KeepFault> {
         match self {
-            Store::One { journal } => Err(journal.refuse()),
-            Store::Two { twin } => twin.renew(records),
+            RecordStore::One { journal } => Err(journal.refuse()),
+            RecordStore::Two { twin } => twin.renew(records),
         }
     }
 }

@@ -11,7 +11,7 @@ ghost use Rattle.cx_journal.specs.Journal.{frames};
 ghost use Rattle.cx_journal.specs.Pair.{front_of};
 ghost use Rattle.cx_journal.specs.Payload.{all_kept_by, payloads};
 ghost use Rattle.cx_journal.specs.State.{IsUnwritten, has_some};
-ghost use Rattle.cx_journal.specs.Twin.{BothTell, told_by, pair_image, IsFaultOfPair, SamePair, LeavesSame, LeavesTwo, IsPairImageOf};
+ghost use Rattle.cx_journal.specs.Twin.{BothTell, seen_pair_records, pair_image, IsFaultOfPair, SamePair, LeavesSame, LeavesTwo, IsPairImageOf};
 ghost use Rattle.cx_journal.specs.TwinChanges.{OneRises};
 
 use crate::longer::append_noted;
@@ -94,7 +94,7 @@ impl<D: Disk> Twin<D> {
         ensures records { (a b : List ℕ) → D.seen first ≡ Some a → D.seen second ≡ Some b
             → IfOk result (λ p. pair_image (Some kind.Replica) a b ≡ Ok p.1.items) }
         ensures kept { BothTell D.seen first second
-            → IfOk result (λ p. told_by D.seen p.0.first p.0.second ≡ p.1.items) }
+            → IfOk result (λ p. seen_pair_records D.seen p.0.first p.0.second ≡ p.1.items) }
         ensures fit { IfOk result (λ p. all_kept_by (Some kind.Replica) p.1.items ≡ true) }
         ensures fits { IfOk result (λ p. IsTrue (all_fit p.1.items)) }
         ensures broken { (a b : List ℕ) → D.seen first ≡ Some a → D.seen second ≡ Some b
@@ -175,7 +175,7 @@ impl<D: Disk> Twin<D> {
 
         // At `Ok` the list is the new one, and every crash leaves it.
         ensures kept { BothTell D.seen self.old.first self.old.second
-            → OnOk result (told_by D.seen self.new.first self.new.second ≡ records.now) }
+            → OnOk result (seen_pair_records D.seen self.new.first self.new.second ≡ records.now) }
         ensures lasts { BothTell D.seen self.old.first self.old.second
             → OnOk result ((a b : List ℕ) → D.may_leave self.new.first a → D.may_leave self.new.second b
             → IsPairImageOf records.now a b) }
@@ -183,12 +183,12 @@ impl<D: Disk> Twin<D> {
         // A crash at any moment of the call leaves the old list or the new one.
         ensures any_moment { BothTell D.seen self.old.first self.old.second
             → LeavesTwo D.moment D.left_since self.old.first self.old.second self.new.first self.new.second
-            (told_by D.seen self.old.first self.old.second) records.now }
+            (seen_pair_records D.seen self.old.first self.old.second) records.now }
         ensures old_or_new { BothTell D.seen self.old.first self.old.second
             → IsErrOf result KeepFault.Failed
-            → (told_by D.seen self.new.first self.new.second
-            ≡ told_by D.seen self.old.first self.old.second)
-            ⊎ (told_by D.seen self.new.first self.new.second ≡ records.now) }
+            → (seen_pair_records D.seen self.new.first self.new.second
+            ≡ seen_pair_records D.seen self.old.first self.old.second)
+            ⊎ (seen_pair_records D.seen self.new.first self.new.second ≡ records.now) }
         ensures whole { OnOk result (self.new.whole ≡ true) }
         ensures gates { OnOk result (length self.new.gates ≡ length records.now + 1) }
         ensures first_tells { is_some (D.seen self.new.first) ≡ is_some (D.seen self.old.first) }
@@ -235,23 +235,23 @@ impl<D: Disk> Twin<D> {
 
         // At `Ok` the list has the record, and every crash leaves it.
         ensures kept { BothTell D.seen self.old.first self.old.second
-            → OnOk result (told_by D.seen self.new.first self.new.second
-            ≡ told_by D.seen self.old.first self.old.second ++ what.now ∷ []) }
+            → OnOk result (seen_pair_records D.seen self.new.first self.new.second
+            ≡ seen_pair_records D.seen self.old.first self.old.second ++ what.now ∷ []) }
         ensures lasts { BothTell D.seen self.old.first self.old.second
             → OnOk result ((a b : List ℕ) → D.may_leave self.new.first a → D.may_leave self.new.second b
-            → IsPairImageOf (told_by D.seen self.old.first self.old.second ++ what.now ∷ []) a b) }
+            → IsPairImageOf (seen_pair_records D.seen self.old.first self.old.second ++ what.now ∷ []) a b) }
 
         // A crash at any moment of the call leaves the list from before it, or that list with the record.
         ensures any_moment { BothTell D.seen self.old.first self.old.second
             → LeavesTwo D.moment D.left_since self.old.first self.old.second self.new.first self.new.second
-            (told_by D.seen self.old.first self.old.second)
-            (told_by D.seen self.old.first self.old.second ++ what.now ∷ []) }
+            (seen_pair_records D.seen self.old.first self.old.second)
+            (seen_pair_records D.seen self.old.first self.old.second ++ what.now ∷ []) }
         ensures lost_or_kept { BothTell D.seen self.old.first self.old.second
             → IsErrOf result KeepFault.Failed
-            → (told_by D.seen self.new.first self.new.second
-            ≡ told_by D.seen self.old.first self.old.second)
-            ⊎ (told_by D.seen self.new.first self.new.second
-            ≡ told_by D.seen self.old.first self.old.second ++ what.now ∷ []) }
+            → (seen_pair_records D.seen self.new.first self.new.second
+            ≡ seen_pair_records D.seen self.old.first self.old.second)
+            ⊎ (seen_pair_records D.seen self.new.first self.new.second
+            ≡ seen_pair_records D.seen self.old.first self.old.second ++ what.now ∷ []) }
         ensures whole { OnOk result (self.new.whole ≡ true) }
         ensures gates { OnOk result (length self.new.gates ≡ length self.old.gates + 1) }
         ensures first_tells { is_some (D.seen self.new.first) ≡ is_some (D.seen self.old.first) }
@@ -293,10 +293,10 @@ impl<D: Disk> Twin<D> {
     /// bytes of both are known.
     pub fn recover_records(&mut self) -> Result<Vec<Record>, OpenFault>
         ensures list { BothTell D.seen self.old.first self.old.second
-            → IfOk result (λ records. records.items ≡ told_by D.seen self.old.first self.old.second) }
+            → IfOk result (λ records. records.items ≡ seen_pair_records D.seen self.old.first self.old.second) }
         ensures ranges { IfOk result (λ records. all_kept_by None records.items ≡ true) }
-        ensures same { told_by D.seen self.new.first self.new.second
-            ≡ told_by D.seen self.old.first self.old.second }
+        ensures same { seen_pair_records D.seen self.new.first self.new.second
+            ≡ seen_pair_records D.seen self.old.first self.old.second }
         ensures whole { IfOk result (λ _. self.new.whole ≡ true) }
         ensures gates { IfOk result (λ records. length self.new.gates ≡ length records.items + 1) }
 
@@ -348,8 +348,8 @@ impl<D: Disk> Twin<D> {
     /// The same before a change. That there are no records any more, which only disks whose bytes are not known can say, is a
     /// failure too.
     pub(crate) fn read_again(&mut self) -> Result<(), KeepFault>
-        ensures same { told_by D.seen self.new.first self.new.second
-            ≡ told_by D.seen self.old.first self.old.second }
+        ensures same { seen_pair_records D.seen self.new.first self.new.second
+            ≡ seen_pair_records D.seen self.old.first self.old.second }
         ensures whole { OnOk result (self.new.whole ≡ true) }
         ensures any_moment { BothTell D.seen self.old.first self.old.second
             → LeavesSame D.may_leave D.moment D.left_since self.old.first self.old.second self.new.first
@@ -376,14 +376,14 @@ impl<D: Disk> Twin<D> {
         }
     }
 
-    /// The disks, given back: the first and the second. It takes no memory.
+    /// The disks, given back: the first and the second.
     pub fn into_disks(self) -> (D, D)
         ensures { result ≡ (self.first, self.second) }
     {
         (self.first, self.second)
     }
 
-    /// The place of a record's gate on the live disk, and of the closed gate at the number of records. It takes no memory.
+    /// The place of a record's gate on the live disk, and of the closed gate at the number of records.
     pub fn place(&self, index: usize) -> u64
         requires { index < length self.now.gates }
         ensures gate { result ≡ slice_index self.now.gates index }
@@ -391,16 +391,16 @@ impl<D: Disk> Twin<D> {
         // It is as many bytes from the start as the generation and the records before it take.
         ensures place { self.now.whole ≡ true → BothTell D.seen self.now.first self.now.second
             → result ≡ length (front_of self.now.generation
-            ++ frames (payloads (take index (told_by D.seen self.now.first self.now.second)))) }
+            ++ frames (payloads (take index (seen_pair_records D.seen self.now.first self.now.second)))) }
     {
         gate_of(&self.gates, index)
     }
 
-    /// Whether it has no record. It takes no memory.
+    /// Whether it has no record.
     pub fn is_empty(&self) -> bool
         ensures gates { result ≡ (length self.now.gates == 1) }
-        ensures told { self.now.whole ≡ true → BothTell D.seen self.now.first self.now.second
-            → result ≡ not (has_some (told_by D.seen self.now.first self.now.second)) }
+        ensures empty { self.now.whole ≡ true → BothTell D.seen self.now.first self.now.second
+            → result ≡ not (has_some (seen_pair_records D.seen self.now.first self.now.second)) }
     {
         is_single(&self.gates)
     }

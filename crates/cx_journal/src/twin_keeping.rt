@@ -1,6 +1,6 @@
 //! A twin as a keeper whose list can be put anew. What it keeps is known where the bytes of both disks are.
 ghost use Rattle.cx_keeper.specs.Keeper.{Append, Renewal};
-ghost use Rattle.cx_journal.specs.Twin.{told_by};
+ghost use Rattle.cx_journal.specs.Twin.{seen_pair_records};
 ghost use Rattle.cx_journal.specs.TwinChanges.{both_tell, IsTwinChange};
 
 use crate::Twin;
@@ -11,7 +11,7 @@ use cx_msg::Record;
 impl<D: Disk> Keeper for Twin<D> {
     ghost tells = { λ t. both_tell D.seen t.first t.second };
 
-    ghost kept = { λ t. told_by D.seen t.first t.second };
+    ghost kept = { λ t. seen_pair_records D.seen t.first t.second };
 
     ghost faults = { λ t. t.faults };
 

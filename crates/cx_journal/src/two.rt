@@ -2,7 +2,7 @@
 ghost use Rattle.std.specs.Prelude.{◌≡◌, ◌⊎◌, ◌+◌, ◌<◌, ◌≤◌, ◌++◌, length, if◌then◌else◌, not, is_some, true, List, ℕ, Some, IfOk, IsErrOf, IsTrue};
 ghost use Rattle.cx_msg.specs.declared.kept.Record.{Record};
 ghost use Rattle.cx_keeper.specs.Keeper.{all_fit};
-ghost use Rattle.cx_journal.specs.Generation.{IsSound};
+ghost use Rattle.cx_journal.specs.Generation.{IsGeneration};
 ghost use Rattle.cx_journal.specs.Journal.{frames, gates_from};
 ghost use Rattle.cx_journal.specs.Payload.{payloads};
 ghost use Rattle.cx_journal.specs.Twin.{TwoRest, LeavesTwo, IsPairImageOf};
@@ -24,7 +24,7 @@ pub(crate) fn renew_two<D: Disk>(
     records: &[Record],
 ) -> Result<Renewed, KeepFault>
     requires fits { IsTrue (all_fit records.now) }
-    requires sound { IsSound live_generation }
+    requires sound { IsGeneration live_generation }
 
     // At `Ok` the other disk is live, with these records, and every crash leaves them.
     ensures done { (old : List Record)

@@ -3,7 +3,7 @@ use Rattle.std.proofs.Common.{◌≡◌, ◌≤◌, ◌+◌, ◌-◌, ◌∙◌,
 use Rattle.std.specs.List.{slice_get}
 use Rattle.std.proofs.lemmas.List.{drop-append-le, take-append-le, length-append, length-drop, map-append}
 use Rattle.std.proofs.Math.Seq.{drop-append_seam, take-length}
-use Rattle.cx_msg.specs.Records.{fits, recorded, spelling}
+use Rattle.cx_msg.specs.Records.{fits, record_of_bytes, spelling}
 use Rattle.cx_msg.specs.declared.kept.Record.{Record}
 use Rattle.cx_msg.proofs.RecordLaws.{recorded-again}
 use Rattle.cx_keeper.specs.Pieces.{ArePieces, IsPiece, IsPut, bytes_at, record_at, record_or, records_at}
@@ -18,7 +18,7 @@ put r fit old new from size bytes begins long =
     let same : size ≡ length (spelling r) = omega (arith, all, begins, long) in
     let rest : drop from new ≡ spelling r = rw (bytes, begins) (drop-append_seam old (spelling r)) in
     let spelled : bytes_at new p ≡ spelling r = rw (same, rest) (take-length (spelling r)) in
-    let read : recorded (bytes_at new p) ≡ Ok r = ap recorded spelled ∙ recorded-again r fit in
+    let read : record_of_bytes (bytes_at new p) ≡ Ok r = ap record_of_bytes spelled ∙ recorded-again r fit in
     let what : record_at new p ≡ r = ap record_or read in
     record {
       bytes = bytes;

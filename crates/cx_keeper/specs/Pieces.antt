@@ -1,6 +1,6 @@
 -- Records as pieces of one list of bytes.
 use Rattle.std.specs.Prelude.{◌≡◌, ◌≤◌, ◌+◌, ℕ, List, [], ◌∷◌, ◌++◌, Result, Ok, Err, length, take, drop, map}
-use Rattle.cx_msg.specs.Records.{recorded, spelling}
+use Rattle.cx_msg.specs.Records.{record_of_bytes, spelling}
 use Rattle.cx_msg.specs.declared.fault.WireFault.{WireFault}
 use Rattle.cx_msg.specs.declared.kept.Record.{Record}
 use Rattle.cx_msg.specs.declared.kept.Record.TheVariants as kept
@@ -19,7 +19,7 @@ abbrev pub bytes_at : List ℕ → Piece → List ℕ
 bytes_at bytes p = take p.size (drop p.from bytes)
 
 abbrev pub record_at : List ℕ → Piece → Record
-record_at bytes p = record_or (recorded (bytes_at bytes p))
+record_at bytes p = record_or (record_of_bytes (bytes_at bytes p))
 
 abbrev pub records_at : List ℕ → List Piece → List Record
 records_at bytes pieces = map (λ (p : Piece). record_at bytes p) pieces
@@ -27,7 +27,7 @@ records_at bytes pieces = map (λ (p : Piece). record_at bytes p) pieces
 -- a piece lies in the bytes and spells a record
 pub record IsPiece (bytes : List ℕ) (p : Piece) : Type 0 where
   pub lies : p.from + p.size ≤ length bytes
-  pub spells : recorded (bytes_at bytes p) ≡ Ok (record_at bytes p)
+  pub spells : record_of_bytes (bytes_at bytes p) ≡ Ok (record_at bytes p)
 
 abbrev pub ArePieces : List ℕ → List Piece → Type 0
 ArePieces bytes [] = Unit {0}

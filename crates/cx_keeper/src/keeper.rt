@@ -7,7 +7,7 @@ ghost use Rattle.cx_msg.specs.Records.{fits};
 ghost use Rattle.cx_keeper.specs.declared.keeper.KeepFault.{KeepFault};
 ghost use Rattle.cx_keeper.specs.declared.keeper.KeepFault.TheVariants as fault;
 ghost use Rattle.cx_keeper.specs.declared.keeper.OpenFault.TheVariants as open_fault;
-ghost use Rattle.cx_keeper.specs.Keeper.{IsAppend, IsChange, Renewal, all_fit};
+ghost use Rattle.cx_keeper.specs.Keeper.{IsAppend, IsKeeperChange, Renewal, all_fit};
 
 use cx_base::NoMemory;
 use cx_msg::Record;
@@ -87,7 +87,7 @@ pub trait Keeper {
     fn append(&mut self, what: &Record) -> Result<(), KeepFault>
         requires { IsTrue (fits what.now) }
         ensures gives { append_gives self.old what.now result self.new }
-        ensures told { tells self.new ≡ tells self.old };
+        ensures tells_same { tells self.new ≡ tells self.old };
 
     /// Reads the records again, which changes none of them. `Failed` comes exactly where the count of faults rose, and
     /// `NotJournal` never where what it keeps is known.
@@ -95,7 +95,7 @@ pub trait Keeper {
         ensures list { IfOk result (λ records. tells self.old ≡ true → records.items ≡ kept self.old) }
         ensures ranges { IfOk result (λ records. IsTrue (all_fit records.items)) }
         ensures same { kept self.new ≡ kept self.old }
-        ensures told { tells self.new ≡ tells self.old }
+        ensures tells_same { tells self.new ≡ tells self.old }
         ensures cause { result ≡ Err open_fault.Failed → Rises (faults self.old) (faults self.new) }
         ensures never { tells self.old ≡ true → (at : ℕ) (byte : Option ℕ)
             → result ≡ Err (open_fault.NotJournal at byte) → ⊥ }
@@ -116,9 +116,9 @@ pub trait Renew: Keeper {
     fn renew(&mut self, records: &[Record]) -> Result<(), KeepFault>
         requires { IsTrue (all_fit records.now) }
         ensures gives { renew_gives self.old records.now result self.new }
-        ensures told { Self.Keeper.tells self.new ≡ Self.Keeper.tells self.old };
+        ensures tells_same { Self.Keeper.tells self.new ≡ Self.Keeper.tells self.old };
 
     ghost renew_is: { (old : Self) (records : List Record) (answer : Result (Unit {0}) KeepFault) (new : Self)
         → renew_gives old records answer new
-        → IsChange Self.Keeper.tells Self.Keeper.kept Self.Keeper.faults old (Renewal records) answer new };
+        → IsKeeperChange Self.Keeper.tells Self.Keeper.kept Self.Keeper.faults old (Renewal records) answer new };
 }

@@ -44,7 +44,7 @@ impl MemKeeper {
         }
     }
 
-    /// How many records it keeps. It takes no memory.
+    /// How many records it keeps.
     pub fn len(&self) -> usize
         ensures { result ≡ length self.now.kept }
     {
@@ -61,8 +61,7 @@ impl MemKeeper {
         self.kept.get(count)
     }
 
-    /// How appends and renewals go from here on: `Torn` leaves the old list and fails, `Kept` the new one and fails. It takes no
-    /// memory.
+    /// How appends and renewals go from here on: `Torn` leaves the old list and fails, `Kept` the new one and fails.
     pub fn cut(&mut self, cut: Cut)
         ensures { self.new ≡ record self.old { cut = cut } }
     {

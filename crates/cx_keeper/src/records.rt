@@ -109,7 +109,7 @@ impl Records {
         Ok(made)
     }
 
-    /// How many they are. It takes no memory.
+    /// How many they are.
     pub fn len(&self) -> usize
         ensures { result ≡ length self.now }
     {

@@ -11,7 +11,7 @@ use Rattle.std.proofs.lemmas.List.{drop-map}
 use Rattle.std.proofs.lemmas.Option.{slice_get-get_or}
 use Rattle.cx_base.specs.Fold.{is_less, with_text}
 use Rattle.cx_base.specs.declared.command.Pair.{Pair}
-use Rattle.cx_kv.specs.Picked.{AreBelow, IsOrdered, comes_before, pair_at, picked, renamed}
+use Rattle.cx_kv.specs.Picked.{AreBelow, IsKeyOrder, is_pair_before, pair_at, picked, renamed}
 use Rattle.cx_kv.specs.Place.{IsFreeAt, IsHeldAt, IsPlace}
 use Rattle.cx_kv.specs.Rising.{IsBeforeAll, IsRising}
 use Rattle.cx_kv.proofs.Keys.{is_less-back}
@@ -32,15 +32,15 @@ picked_at list order j d e l = get_or-map (pair_at list) order j d e l
 
 tested : (list : List Pair) (order : List ℕ) (key : List ℕ) (j d : ℕ) (e : Pair) → AreBelow (length list) order
     → j < length order
-    → comes_before key (slice_get list (get_or order j d)) ≡ is_less (get_or (picked list order) j e).key key
+    → is_pair_before key (slice_get list (get_or order j d)) ≡ is_less (get_or (picked list order) j e).key key
 tested list order key j d e all l =
-    ap (comes_before key) (slice_get-get_or list (get_or order j d) none (below_at (length list) order j d all l))
+    ap (is_pair_before key) (slice_get-get_or list (get_or order j d) none (below_at (length list) order j d all l))
     ∙ ap (λ (p : Pair). is_less p.key key) (sym (picked_at list order j d e l))
 
 -- places whose pairs come before a key stand in front
 pub order_parted : (list : List Pair) (order : List ℕ) (key : List ℕ) → IsRising (picked list order)
     → AreBelow (length list) order
-    → IsPartitionedBy (λ i. comes_before key (slice_get list i)) order
+    → IsPartitionedBy (λ i. is_pair_before key (slice_get list i)) order
 order_parted list order key rising all i j d ij l less =
     let long : length (picked list order) ≡ length order = length-map order (pair_at list) in
     tested list order key i d none all (omega arith)
@@ -48,8 +48,8 @@ order_parted list order key rising all i j d ij l less =
 
 pub order_place : (list : List Pair) (order : List ℕ) (key : List ℕ) (place : ℕ) → AreBelow (length list) order
     → place ≤ length order
-    → IsPartitionPoint (λ i. comes_before key (slice_get list i) ≡ true)
-    (λ i. comes_before key (slice_get list i) ≡ false) order place
+    → IsPartitionPoint (λ i. is_pair_before key (slice_get list i) ≡ true)
+    (λ i. is_pair_before key (slice_get list i) ≡ false) order place
     → IsPlace key (picked list order) place
 order_place list order key place all bound point =
     let long : length (picked list order) ≡ length order = length-map order (pair_at list) in
@@ -195,16 +195,16 @@ picked_is list order place index e p d is within l value =
     picked_at list order place e d l ∙ ap (pair_at list) (sym is) ∙ get_or_default list index none p within ∙ sym value
 
 -- a key's text is set where the key stands
-pub text_set : (key text : List ℕ) (list new : List Pair) (order : List ℕ) (place : ℕ) → IsOrdered list order
+pub text_set : (key text : List ℕ) (list new : List Pair) (order : List ℕ) (place : ℕ) → IsKeyOrder list order
     → IsHeldAt key (picked list order) place
     → new ≡ set list (get_or order place 0) (record { key = key; text = text })
     → picked new order ≡ with_text key text (picked list order)
-text_set key text list new order place ordered held is =
+text_set key text list new order place ordered placed is =
     let v : Pair = record { key = key; text = text } in
     let long : length (picked list order) ≡ length order = length-map order (pair_at list) in
-    let l : place < length order = omega (arith, held.inside) in
+    let l : place < length order = omega (arith, placed.inside) in
     rw is (picked_set list order place 0 v ordered.below (apart list order place 0 ordered.rising l) l
-    ∙ sym (with_text-held key text (picked list order) place v held.before held.inside (held.same v)))
+    ∙ sym (with_text-held key text (picked list order) place v placed.before placed.inside (placed.same v)))
 
 pub below_set : (list new : List Pair) (order : List ℕ) (i : ℕ) (v : Pair) → AreBelow (length list) order
     → new ≡ set list i v → AreBelow (length new) order
@@ -212,7 +212,7 @@ below_set list new order i v all is = rw (is, length-set list i v) all
 
 -- a key comes where it belongs
 pub text_inserted : (key text : List ℕ) (list new : List Pair) (order places : List ℕ) (place end : ℕ)
-    → IsOrdered list order → IsFreeAt key (picked list order) place
+    → IsKeyOrder list order → IsFreeAt key (picked list order) place
     → new ≡ list ++ record { key = key; text = text } ∷ [] → places ≡ insert order place end → end ≡ length list
     → picked new places ≡ with_text key text (picked list order)
 text_inserted key text list new order places place end ordered free is there long =
@@ -238,7 +238,7 @@ below_rest : (list : List Pair) (order : List ℕ) (place last n : ℕ) → AreB
     → last + 1 ≡ n → AreBelow (last + 1) (remove order place)
 below_rest list order place last n all is long = rw (long, is) (below_remove (length list) order place all)
 
-pub picked_removed : (list new : List Pair) (order rest after : List ℕ) (place gap last n : ℕ) → IsOrdered list order
+pub picked_removed : (list new : List Pair) (order rest after : List ℕ) (place gap last n : ℕ) → IsKeyOrder list order
     → place < length order → gap ≡ get_or order place gap
     → rest ≡ remove order place → after ≡ map (renamed last gap) rest → n ≡ length list → last + 1 ≡ n
     → ((d : Pair) → gap + 1 < n → get_or new gap d ≡ get_or list (n - 1) d)
@@ -253,7 +253,7 @@ picked_removed list new order rest after place gap last n ordered l here without
     (elsewhere_at list order place gap ordered.rising l here)
     ∙ picked_remove list order place)
 
-pub below_removed : (list new : List Pair) (order rest after : List ℕ) (place gap last n : ℕ) → IsOrdered list order
+pub below_removed : (list new : List Pair) (order rest after : List ℕ) (place gap last n : ℕ) → IsKeyOrder list order
     → place < length order → gap ≡ get_or order place gap
     → rest ≡ remove order place → after ≡ map (renamed last gap) rest → n ≡ length list → last + 1 ≡ n
     → length new ≡ last → AreBelow (length new) after

@@ -5,20 +5,20 @@ use Rattle.cx_base.specs.declared.command.Reply.{Reply}
 use Rattle.cx_base.specs.Fold.{acts}
 use Rattle.cx_base.specs.Noted.{Table, is_used, new_table, with_answer, with_told}
 use Rattle.cx_base.proofs.Used.{rising_behind, used_again, used_noted}
-use Rattle.cx_kv.specs.Acting.{Decides}
+use Rattle.cx_kv.specs.Acting.{IsDecidingTable}
 use Rattle.cx_table.specs.Judged.{is_new, judge_of}
 use Rattle.cx_table.proofs.Judging.{new_unused}
 
-pub decides_none : Decides new_table []
+pub decides_none : IsDecidingTable new_table []
 decides_none = record { rising = refl; used = λ client seq. refl }
 
-module _ (t : Table) (list : List Command) (c : Command) (is : Decides t list) where
+module _ (t : Table) (list : List Command) (c : Command) (is : IsDecidingTable t list) where
   -- a command acts whose number is new
   pub acts_new : is_new (judge_of t c.client c.seq) ≡ acts list c
   acts_new = new_unused t c.client c.seq ∙ ap not (sym (is.used c.client c.seq))
 
   pub decides_noted : (at : ℕ) (reply : Reply)
-      → Decides (with_answer (record { client = c.client; seq = c.seq; at = at; reply = reply }) c.floor t)
+      → IsDecidingTable (with_answer (record { client = c.client; seq = c.seq; at = at; reply = reply }) c.floor t)
       (list ++ c ∷ [])
   decides_noted at reply = record {
     rising = rising_behind list t c is.rising is.used;
@@ -26,7 +26,7 @@ module _ (t : Table) (list : List Command) (c : Command) (is : Decides t list) w
   }
 
   pub decides_told : is_new (judge_of t c.client c.seq) ≡ false
-      → Decides (with_told c.client c.floor t) (list ++ c ∷ [])
+      → IsDecidingTable (with_told c.client c.floor t) (list ++ c ∷ [])
   decides_told old = record {
     rising = rising_behind list t c is.rising is.used;
     used = used_again list t c is.rising is.used (turned (is_used c.client c.seq t) (sym (new_unused t c.client c.seq) ∙ old));

@@ -6,6 +6,6 @@ use Rattle.cx_base.specs.Noted.{Table, are_rising, is_used}
 use Rattle.cx_base.specs.declared.command.Command.{Command}
 
 -- the table, whose floors rise, decides for each number whether the list overtakes it
-pub record Decides (t : Table) (list : List Command) : Type 0 where
+pub record IsDecidingTable (t : Table) (list : List Command) : Type 0 where
   pub rising : are_rising 0 t.floors ≡ true
   pub used : (client seq : ℕ) → list_any (overtakes client seq) list ≡ is_used client seq t

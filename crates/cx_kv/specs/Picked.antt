@@ -19,14 +19,14 @@ AreBelow end [] = Unit {0}
 AreBelow end (place ∷ order) = (place < end) × AreBelow end order
 
 -- the places are those of pairs, whose keys rise
-pub record IsOrdered (list : List Pair) (order : List ℕ) : Type 0 where
+pub record IsKeyOrder (list : List Pair) (order : List ℕ) : Type 0 where
   pub below : AreBelow (length list) order
   pub rising : IsRising (picked list order)
 
 -- whether a pair, if there is one, comes before a key
-abbrev pub comes_before : List ℕ → Option Pair → Bool
-comes_before key None = false
-comes_before key (Some p) = is_less p.key key
+abbrev pub is_pair_before : List ℕ → Option Pair → Bool
+is_pair_before key None = false
+is_pair_before key (Some p) = is_less p.key key
 
 -- a place, once the last pair has moved to the gap
 abbrev pub renamed : ℕ → ℕ → ℕ → ℕ

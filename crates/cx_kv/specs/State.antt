@@ -8,7 +8,7 @@ pub record MapState : Type 0 where
   pub spare : ℕ
 
 -- two lists have room for this many more, and the first stays within 2^32
-pub record HasRoom (pairs capacity places places_capacity spare : ℕ) : Type 0 where
+pub record HasRoomForPairs (pairs capacity places places_capacity spare : ℕ) : Type 0 where
   pub pairs_fit : pairs + spare ≤ capacity
   pub places_fit : places + spare ≤ places_capacity
   pub short : pairs + spare ≤ 2 ^ 32

@@ -3,7 +3,7 @@
 ghost use Rattle.std.specs.Prelude.{◌≡◌, ◌+◌, ◌++◌, ◌<◌, ◌≤◌, length, take};
 ghost use Rattle.cx_base.specs.Fold.{map_appended, reply_appended, text_at};
 
-use crate::pairs::Pairs;
+use crate::pairs::PairMap;
 use cx_base::{Key, Reply, TEXT_LENGTH, Text};
 
 /// How many bytes a text may have.
@@ -31,8 +31,8 @@ fn joined(one: &Text, other: &Text) -> Text
     Text::new(&bytes[..one.len() + other.len()])
 }
 
-impl Pairs {
-    /// Adds a text at the end of a key's, or sets it; a text that would grow past its limit stays. It takes no memory.
+impl PairMap {
+    /// Adds a text at the end of a key's, or sets it; a text that would grow past its limit stays.
     pub fn append(&mut self, key: &Key, more: &Text) -> Reply
         requires { 0 < self.old.spare }
         ensures reply { result ≡ reply_appended more.now (text_at key.now self.old.pairs) }

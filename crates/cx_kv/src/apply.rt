@@ -3,12 +3,12 @@
 ghost use Rattle.std.specs.Prelude.{◌≡◌, ◌+◌, ◌<◌, ◌≤◌};
 ghost use Rattle.cx_base.specs.Fold.{map_after, reply_of};
 
-use crate::pairs::Pairs;
+use crate::pairs::PairMap;
 use cx_base::{Command, Op, Reply};
 
-impl Pairs {
+impl PairMap {
     /// Does a command's operation to the map, and answers it (this project's own operations). An append that would make
-    /// a text longer than 64 bytes is answered Full, and changes nothing. It takes no memory.
+    /// a text longer than 64 bytes is answered Full, and changes nothing.
     pub fn apply(&mut self, command: &Command) -> Reply
         requires { 0 < self.old.spare }
         ensures reply { result ≡ reply_of self.old.pairs command.now.op }

@@ -4,7 +4,7 @@ ghost use Rattle.std.specs.Prelude.{◌≡◌, ◌<◌, ℕ, length, slice_get, 
 ghost use Rattle.std.specs.Str.{bytes_eq};
 ghost use Rattle.cx_base.specs.Fold.{is_less};
 ghost use Rattle.cx_base.specs.declared.command.Pair.{Pair};
-ghost use Rattle.cx_kv.specs.Picked.{AreBelow, comes_before, picked, IsOrdered};
+ghost use Rattle.cx_kv.specs.Picked.{AreBelow, is_pair_before, picked, IsKeyOrder};
 ghost use Rattle.cx_kv.specs.Place.{IsFreeAt, IsHeldAt, IsPlace};
 
 use cx_base::{Key, Pair};
@@ -34,7 +34,7 @@ pub fn index_at(order: &[u32], place: usize) -> usize
 
 /// The pair at a place of the order.
 pub fn pair_at<'a>(list: &'a [Pair], order: &[u32], place: usize) -> &'a Pair
-    requires ordered { IsOrdered list.now order.now }
+    requires ordered { IsKeyOrder list.now order.now }
     requires inside { place < length order.now }
     ensures { (d : Pair) → slice_index_or (picked list.now order.now) place d ≡ result.now }
 {
@@ -42,8 +42,8 @@ pub fn pair_at<'a>(list: &'a [Pair], order: &[u32], place: usize) -> &'a Pair
     &list[index]
 }
 
-fn comes_before(list: &[Pair], index: u32, key: &Key) -> bool
-    ensures { result ≡ comes_before key.now (slice_get list.now index) }
+fn is_pair_before(list: &[Pair], index: u32, key: &Key) -> bool
+    ensures { result ≡ is_pair_before key.now (slice_get list.now index) }
 {
     match list.get(index as usize) {
         Some(pair) => is_less(&pair.key, key),
@@ -52,20 +52,20 @@ fn comes_before(list: &[Pair], index: u32, key: &Key) -> bool
 }
 
 /// The place of a key in the order, or where it would be.
-pub fn place_of(list: &[Pair], order: &[u32], key: &Key) -> usize
-    requires { IsOrdered list.now order.now }
+pub fn key_place(list: &[Pair], order: &[u32], key: &Key) -> usize
+    requires { IsKeyOrder list.now order.now }
     ensures { IsPlace key.now (picked list.now order.now) result }
 {
-    order.partition_point(|index| comes_before(list, *index, key))
+    order.partition_point(|index| is_pair_before(list, *index, key))
 }
 
 /// Where a key is in the order, or else where it belongs.
 pub fn look_up(list: &[Pair], order: &[u32], key: &Key) -> Result<usize, usize>
-    requires { IsOrdered list.now order.now }
-    ensures held { IfOk result (IsHeldAt key.now (picked list.now order.now)) }
+    requires { IsKeyOrder list.now order.now }
+    ensures placed { IfOk result (IsHeldAt key.now (picked list.now order.now)) }
     ensures free { IfErr result (IsFreeAt key.now (picked list.now order.now)) }
 {
-    let place = place_of(list, order, key);
+    let place = key_place(list, order, key);
     if place < order.len() && same_key(&pair_at(list, order, place).key, key) {
         return Ok(place);
     }

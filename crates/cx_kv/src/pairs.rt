@@ -7,7 +7,7 @@ ghost use Rattle.std.specs.Option.{option_copied};
 ghost use Rattle.cx_base.specs.declared.command.Pair.{Pair};
 ghost use Rattle.cx_base.specs.Fold.{text_at, with_text, without_key};
 ghost use Rattle.cx_base.specs.Lists.{rises};
-ghost use Rattle.cx_kv.specs.Picked.{AreBelow, IsOrdered, picked, renamed};
+ghost use Rattle.cx_kv.specs.Picked.{AreBelow, IsKeyOrder, picked, renamed};
 ghost use Rattle.cx_kv.specs.Rising.{IsRising, has_lower_key};
 ghost use Rattle.cx_kv.specs.State.{MapState};
 
@@ -22,7 +22,7 @@ const MOST: usize = 1 << 32;
 /// A map from keys to texts, with room that was taken beforehand. Contracts see the list of its pairs in the rising
 /// order of their keys, and for how many more keys there is room.
 #[derive(Drop)]
-pub struct Pairs {
+pub struct PairMap {
     // The pairs as they came.
     list: Vec<Pair>,
     // Their places there, in the rising order of their keys: so a new key moves four bytes for each one after it, and
@@ -31,25 +31,25 @@ pub struct Pairs {
     spare: usize,
 }
 
-impl Model for Pairs {
+impl Model for PairMap {
     ghost use Rattle.std.specs.Prelude.{vec_capacity, vec_len};
-    ghost use Rattle.cx_kv.specs.Picked.{IsOrdered, picked};
-    ghost use Rattle.cx_kv.specs.State.{HasRoom, MapState};
+    ghost use Rattle.cx_kv.specs.Picked.{IsKeyOrder, picked};
+    ghost use Rattle.cx_kv.specs.State.{HasRoomForPairs, MapState};
 
     ghost Value = { MapState };
 
     ghost view = { λ p. record { pairs = picked p.list.items p.order.items; spare = p.spare } };
 
-    ghost invariant = { λ p. IsOrdered p.list.items p.order.items
-        × HasRoom (vec_len p.list) (vec_capacity p.list) (vec_len p.order) (vec_capacity p.order) p.spare };
+    ghost invariant = { λ p. IsKeyOrder p.list.items p.order.items
+        × HasRoomForPairs (vec_len p.list) (vec_capacity p.list) (vec_len p.order) (vec_capacity p.order) p.spare };
 }
 
-impl Pairs {
+impl PairMap {
     /// The empty map, without room. It takes no memory.
     pub fn new(alloc: Global) -> Self
         ensures { result ≡ record { pairs = []; spare = 0 } }
     {
-        Pairs {
+        PairMap {
             list: Vec::new(alloc),
             order: Vec::new(alloc),
             spare: 0,
@@ -73,7 +73,7 @@ impl Pairs {
         Ok(())
     }
 
-    /// The text of a key. It takes no memory.
+    /// The text of a key.
     pub fn get(&self, key: &Key) -> Option<&Text>
         ensures text { option_copied result ≡ text_at key.now self.now.pairs }
         ensures rising { IsRising self.now.pairs }
@@ -81,7 +81,7 @@ impl Pairs {
         text_in(self.list.as_slice(), self.order.as_slice(), key)
     }
 
-    /// How many keys it has. It takes no memory.
+    /// How many keys it has.
     pub fn len(&self) -> usize
         ensures len { result ≡ length self.now.pairs }
         ensures rises { rises has_lower_key self.now.pairs ≡ true }
@@ -89,7 +89,7 @@ impl Pairs {
         self.order.len()
     }
 
-    /// The pair at a place in the rising order of the keys. It takes no memory.
+    /// The pair at a place in the rising order of the keys.
     pub fn at(&self, place: usize) -> &Pair
         requires { place < length self.now.pairs }
         ensures { (d : Pair) → slice_index_or self.now.pairs place d ≡ result.now }
@@ -97,7 +97,7 @@ impl Pairs {
         pair_at(self.list.as_slice(), self.order.as_slice(), place)
     }
 
-    /// Sets the text of a key. It takes no memory.
+    /// Sets the text of a key.
     pub fn put(&mut self, key: &Key, text: &Text)
         requires { 0 < self.old.spare }
         ensures pairs { self.new.pairs ≡ with_text key.now text.now self.old.pairs }
@@ -132,7 +132,7 @@ impl Pairs {
 }
 
 fn text_in<'a>(list: &'a [Pair], order: &[u32], key: &Key) -> Option<&'a Text>
-    requires { IsOrdered list.now order.now }
+    requires { IsKeyOrder list.now order.now }
     ensures { option_copied result ≡ text_at key.now (picked list.now order.now) }
 {
     match look_up(list, order, key) {
@@ -143,7 +143,7 @@ fn text_in<'a>(list: &'a [Pair], order: &[u32], key: &Key) -> Option<&'a Text>
 
 // Another pair at a place of the order.
 fn set_at(list: &mut Vec<Pair>, order: &[u32], place: usize, pair: &Pair)
-    requires ordered { IsOrdered list.old.items order.now }
+    requires ordered { IsKeyOrder list.old.items order.now }
     requires inside { place < length order.now }
     ensures items { list.new.items ≡ slice_set list.old.items (slice_index_or order.now place 0) pair.now }
     ensures len { vec_len list.new ≡ vec_len list.old }
@@ -176,7 +176,7 @@ fn insert_at(list: &mut Vec<Pair>, order: &mut Vec<u32>, place: usize, pair: &Pa
 }
 
 fn set_in(list: &mut Vec<Pair>, order: &mut Vec<u32>, key: &Key, text: &Text)
-    requires ordered { IsOrdered list.old.items order.old.items }
+    requires ordered { IsKeyOrder list.old.items order.old.items }
     requires list { vec_len list.old < vec_capacity list.old }
     requires order { vec_len order.old < vec_capacity order.old }
     requires short { vec_len list.old < 2 ^ 32 }
@@ -215,7 +215,7 @@ fn rename(order: &mut [u32], last: u32, gap: u32)
 }
 
 fn remove_at(list: &mut Vec<Pair>, order: &mut Vec<u32>, place: usize) -> Text
-    requires ordered { IsOrdered list.old.items order.old.items }
+    requires ordered { IsKeyOrder list.old.items order.old.items }
     requires inside { place < vec_len order.old }
     requires short { vec_len list.old ≤ 2 ^ 32 }
     ensures text { (d : Pair) → (slice_index_or (picked list.old.items order.old.items) place d).text ≡ result }
@@ -233,7 +233,7 @@ fn remove_at(list: &mut Vec<Pair>, order: &mut Vec<u32>, place: usize) -> Text
 }
 
 fn remove_from(list: &mut Vec<Pair>, order: &mut Vec<u32>, key: &Key) -> Option<Text>
-    requires ordered { IsOrdered list.old.items order.old.items }
+    requires ordered { IsKeyOrder list.old.items order.old.items }
     requires short { vec_len list.old ≤ 2 ^ 32 }
     ensures text { result ≡ text_at key.now (picked list.old.items order.old.items) }
     ensures pairs { picked list.new.items order.new.items

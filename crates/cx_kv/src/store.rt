@@ -5,7 +5,7 @@ ghost use Rattle.std.specs.Option.{option_copied};
 ghost use Rattle.cx_base.specs.Fold.{map_after, reply_of, text_at};
 ghost use Rattle.cx_kv.specs.Printed.{map_text, pair_text};
 
-use crate::pairs::Pairs;
+use crate::pairs::PairMap;
 use cx_base::{Command, Key, NoMemory, Pair, Reply, Text};
 use std::alloc::Global;
 use std::marker::Model;
@@ -13,7 +13,7 @@ use std::marker::Model;
 /// A map from keys to texts, which contracts see as the list of its pairs in the rising order of their keys.
 #[derive(Drop)]
 pub struct Store {
-    map: Pairs,
+    map: PairMap,
 }
 
 impl Model for Store {
@@ -31,7 +31,7 @@ impl Store {
         ensures { IfOk result (λ store. store ≡ []) }
     {
         Ok(Store {
-            map: Pairs::new(alloc),
+            map: PairMap::new(alloc),
         })
     }
 
@@ -46,7 +46,7 @@ impl Store {
         Ok(self.map.apply(command))
     }
 
-    /// The text of a key. It takes no memory.
+    /// The text of a key.
     pub fn get(&self, key: &Key) -> Option<&Text>
         ensures { option_copied result ≡ text_at key.now self.now }
     {
@@ -76,7 +76,7 @@ fn print_pair(pair: &Pair, out: &mut Vec<u8>) -> Result<(), NoMemory>
     Ok(())
 }
 
-fn print_pairs(map: &Pairs, out: &mut Vec<u8>) -> Result<(), NoMemory>
+fn print_pairs(map: &PairMap, out: &mut Vec<u8>) -> Result<(), NoMemory>
     ensures ok { OnOk result (out.new.items ≡ out.old.items ++ map_text map.now.pairs) }
     ensures err { OnErr result (take (length out.old.items) out.new.items ≡ out.old.items) }
 {

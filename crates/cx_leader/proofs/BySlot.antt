@@ -3,8 +3,8 @@ use Rattle.cx_role.proofs.Common.{◌≡◌, ◌≤◌, ◌<◌, ◌+◌, ◌-�
 use Rattle.cx_role.proofs.Common.{[], ◌∷◌, ◌++◌, drop, Some, All, refl, ap, arith, ◌∙◌, inl, inr, append_assoc}
 use Rattle.cx_role.proofs.Common.{cases_Bool, nat_tests, All-head, All-tail, filter-append, Placed, numbers}
 use Rattle.std.proofs.lemmas.List.{append-nil, map-append}
-use Rattle.cx_ring.specs.Ring.{value_at, with_value, values_from}
-use Rattle.cx_leader.specs.Proposing.{only}
+use Rattle.cx_ring.specs.Ring.{value_at, with_value, values_from_slot}
+use Rattle.cx_leader.specs.Proposing.{placed_list}
 
 abbrev pub slot_of : Placed → ℕ
 slot_of p = p.slot
@@ -31,7 +31,7 @@ slots_next a n ps one h at =
 
 -- a greater beginning drops the slots below it
 pub slots_from : (k a n : ℕ) (ps : List Placed) → AreAt a n ps
-    → AreAt (max a k) (a + n - max a k) (values_from slot_of k ps)
+    → AreAt (max a k) (a + n - max a k) (values_from_slot slot_of k ps)
 slots_from k a zero [] h = let e : a + 0 - max a k ≡ 0 = omega arith in rw e refl
 slots_from k a (suc n) [] h = cc
 slots_from k a zero (p ∷ ps) h = cc
@@ -39,7 +39,7 @@ slots_from k a (suc n) (p ∷ ps) h =
     let first : p.slot ≡ a = cc in
     let next : AreAt (a + 1) n ps = cc in
     let rest = slots_from k (a + 1) n ps next in
-    elim (cases_Bool (nat_le k p.slot)) as (λ _. AreAt (max a k) (a + suc n - max a k) (values_from slot_of k (p ∷ ps))) [
+    elim (cases_Bool (nat_le k p.slot)) as (λ _. AreAt (max a k) (a + suc n - max a k) (values_from_slot slot_of k (p ∷ ps))) [
       | inl low ↦
           let le : k ≤ a = grind (arith, nat_tests) in
           let one : max (a + 1) k ≡ a + 1 = omega arith in
@@ -69,7 +69,7 @@ found_at a (suc n) k (p ∷ ps) x h found = grind (arith, nat_tests, found_at (a
 
 -- of the values that are left, the first is that of the first slot
 next_at : (a n i : ℕ) (ps : List Placed) → AreAt a n ps → i < n
-    → drop i ps ≡ only (value_at slot_of (a + i) ps) ++ drop (i + 1) ps
+    → drop i ps ≡ placed_list (value_at slot_of (a + i) ps) ++ drop (i + 1) ps
 next_at a zero i ps h lt = absurd (omega arith)
 next_at a (suc n) i [] h lt = cc
 next_at a (suc n) zero (p ∷ ps) h lt = grind (arith, nat_tests)
@@ -86,7 +86,7 @@ none_left a (suc n) (suc i) (p ∷ ps) h le = grind (arith, none_left (a + 1) n 
 -- is all;
 module _ {Y : Type 0} (f : Placed → Y) (test : Placed → Bool) (a n s : ℕ) (ps : List Placed) (sent all : List Y) where
   pub sent_on : AreAt a n ps → a ≤ s → s < a + n → sent ++ map f (filter test (drop (s - a) ps)) ≡ all
-      → (sent ++ map f (filter test (only (value_at slot_of s ps)))) ++ map f (filter test (drop (s + 1 - a) ps)) ≡ all
+      → (sent ++ map f (filter test (placed_list (value_at slot_of s ps)))) ++ map f (filter test (drop (s + 1 - a) ps)) ≡ all
   sent_on h low high so_far =
       let at : a + (s - a) ≡ s = omega arith in
       let next : s - a + 1 ≡ s + 1 - a = omega arith in

@@ -3,7 +3,7 @@ use Rattle.cx_role.proofs.Common.{◌≡◌, ◌==◌, ℕ, ◌&&◌, ◌||◌, 
 use Rattle.cx_role.proofs.Common.{arith, sym, ◌∙◌, Bor, Option, Some, None, option_copied, inl, inr, cases_Bool, eqb-true, nat_tests, list_any-append, is_in}
 use Rattle.std.proofs.lemmas.Map.Views.{any-filter_same}
 use Rattle.cx_base.proofs.Used.{or_false}
-use Rattle.cx_ring.specs.Ring.{value_at, with_value, values_from}
+use Rattle.cx_ring.specs.Ring.{value_at, with_value, values_from_slot}
 use Rattle.cx_leader.specs.Knowing.{AreSame}
 
 abbrev pub itself : ℕ → ℕ
@@ -20,15 +20,15 @@ in_from : (k s : ℕ) (xs : List ℕ) → is_in s (filter (λ x. nat_le k x) xs)
 in_from k s xs = any-filter_same (λ x. x == s) (λ x. nat_le k x) (nat_le k s) (λ x e. ap (nat_le k) (eqb-true x s e)) xs
 
 -- a slot that is noted is in both
-pub same_noted : (s : ℕ) (held list : List ℕ) → AreSame held list → AreSame (with_value itself s held) (list ++ s ∷ [])
-same_noted s held list are =
-    record { same = λ x. in_put x s held ∙ ap (λ b. b || (s == x)) (are.same x) ∙ sym (in_push x s list) }
+pub same_noted : (s : ℕ) (in_ring list : List ℕ) → AreSame in_ring list → AreSame (with_value itself s in_ring) (list ++ s ∷ [])
+same_noted s in_ring list are =
+    record { same = λ x. in_put x s in_ring ∙ ap (λ b. b || (s == x)) (are.same x) ∙ sym (in_push x s list) }
 
 -- and the slots below a beginning in neither
-pub same_from : (k : ℕ) (held list : List ℕ) → AreSame held list
-    → AreSame (values_from itself k held) (filter (λ s. nat_le k s) list)
-same_from k held list are =
-    record { same = λ x. in_from k x held ∙ ap (λ b. nat_le k x && b) (are.same x) ∙ sym (in_from k x list) }
+pub same_from : (k : ℕ) (in_ring list : List ℕ) → AreSame in_ring list
+    → AreSame (values_from_slot itself k in_ring) (filter (λ s. nat_le k s) list)
+same_from k in_ring list are =
+    record { same = λ x. in_from k x in_ring ∙ ap (λ b. nat_le k x && b) (are.same x) ∙ sym (in_from k x list) }
 
 is_found : (s : ℕ) (xs : List ℕ) → is_some (value_at itself s xs) ≡ is_in s xs
 is_found s [] = refl
@@ -38,12 +38,12 @@ is_found s (x ∷ xs) =
       | inr e ↦ rw e (is_found s xs)
     ]
 
--- a slot that is held is in the list
+-- a slot that is in the ring is in the list
 pub copied : (o : Option (Bor ℕ)) → is_some o ≡ is_some (option_copied o)
 copied None = refl
 copied (Some x) = refl
 
-pub found_in : (s : ℕ) (held list : List ℕ) → AreSame held list → is_some (value_at itself s held) ≡ is_in s list
-found_in s held list are = is_found s held ∙ are.same s
+pub found_in : (s : ℕ) (in_ring list : List ℕ) → AreSame in_ring list → is_some (value_at itself s in_ring) ≡ is_in s list
+found_in s in_ring list are = is_found s in_ring ∙ are.same s
 
 pub ruleset found = (copied, found_in)

@@ -5,8 +5,8 @@ use Rattle.cx_role.proofs.Common.{and_from, list_all-append, filter-append, All-
 use Rattle.cx_role.proofs.Common.{All-tail, Cluster, Round, Entry, MatchAnswer, entries_told, live_entries, names_entry}
 use Rattle.std.proofs.lemmas.List.{append-nil}
 use Rattle.std.proofs.lemmas.Grind.{common_steps}
-use Rattle.cx_model.specs.Leader.{reaching, greatest_of, held_by}
-use Rattle.cx_model.specs.Matchmaker.{entries_from}
+use Rattle.cx_model.specs.Leader.{count_reaching, greatest_of, held_by}
+use Rattle.cx_model.specs.Matchmaker.{entries_since}
 use Rattle.cx_phase1.specs.Counting.{are_ids}
 use Rattle.cx_leader.specs.State.{is_named}
 
@@ -17,8 +17,8 @@ entries_told-push (b ∷ told) a = grind (arith, entries_told-push told a, appen
 
 -- the entries from a round on, with those of one more answer
 pub entries_from-push : (w : Round) (told : List MatchAnswer) (a : MatchAnswer)
-    → entries_from w (entries_told (told ++ a ∷ [])) ≡ entries_from w (entries_told told) ++ entries_from w a.entries
-entries_from-push w told a = ap (entries_from w) (entries_told-push told a) ∙ filter-append _ (entries_told told) a.entries
+    → entries_since w (entries_told (told ++ a ∷ [])) ≡ entries_since w (entries_told told) ++ entries_since w a.entries
+entries_from-push w told a = ap (entries_since w) (entries_told-push told a) ∙ filter-append _ (entries_told told) a.entries
 
 pub ruleset more_told = (common_steps, append-nil, entries_from-push)
 
@@ -30,7 +30,7 @@ greatest_high (n ∷ ns) k all =
 
 -- what enough replicas hold is a number that one of them reported
 pub held_high : (count k : ℕ) (held : List ℕ) → All (λ n. n ≤ k) held → held_by count held ≤ k
-held_high count k held all = greatest_high (filter (λ n. nat_le count (reaching n held)) held) k (All-filter (λ n. nat_le count (reaching n held)) (λ x. x ≤ k) held all)
+held_high count k held all = greatest_high (filter (λ n. nat_le count (count_reaching n held)) held) k (All-filter (λ n. nat_le count (count_reaching n held)) (λ x. x ≤ k) held all)
 
 -- ---- names of what was reported
 

@@ -3,7 +3,7 @@ use Rattle.cx_role.proofs.Common.{◌≡◌, ◌<◌, ◌≤◌, ◌+◌, ◌^�
 use Rattle.cx_role.proofs.Common.{ap, arith, sym, ltb-true, All-nil, All-cons, Cluster, Kind, RoleId, numbers, below}
 use Rattle.cx_role.proofs.Common.{role, names_role}
 use Rattle.cx_role.proofs.Common.kind
-use Rattle.cx_leader.specs.State.{IsHeld}
+use Rattle.cx_leader.specs.State.{AreHeldNumbers}
 
 -- a role of a leader's kind is the leader of its index
 pub leader_itself : (me : RoleId) → me.kind ≡ kind.Leader → role kind.Leader me.index ≡ me
@@ -21,8 +21,8 @@ zeros_low k first zero = All-nil (λ h. h ≤ k)
 zeros_low k first (suc n) = All-cons (λ h. h ≤ k) 0 (map (λ (r : ℕ). 0) (numbers (first + 1) n)) (omega arith) (zeros_low k (first + 1) n)
 
 -- no replica reported anything
-pub none_told : (c : Cluster) → IsHeld c (map (λ (r : ℕ). 0) (below c.replicas))
-none_told c = record { count = length-zeros 0 c.replicas; marks = zeros_low (2 ^ 40) 0 c.replicas }
+pub none_told : (c : Cluster) → AreHeldNumbers c (map (λ (r : ℕ). 0) (below c.replicas))
+none_told c = record { count = length-zeros 0 c.replicas; bounded = zeros_low (2 ^ 40) 0 c.replicas }
 
 -- what opening a leader needs
 pub ruleset openings = (leader_itself, leader_named, none_told)

@@ -3,19 +3,19 @@ use Rattle.cx_role.proofs.Common.{◌≡◌, ◌&&◌, ℕ, Bool, true, false, L
 use Rattle.cx_role.proofs.Common.{Round, Entry, Vote, Promised, live_entries, is_member_of, rows_whole}
 use Rattle.cx_model.specs.Leader.{LeaderDurable, LeaderVolatile, is_promising, is_own, phase1b_row}
 use Rattle.cx_model.specs.Plan.{has_promised, promised_by}
-use Rattle.cx_phase1.specs.Counting.{Counting, told_by, counted_by}
+use Rattle.cx_phase1.specs.Counting.{Phase1State, count_promise, counted_by}
 use Rattle.cx_phase1.specs.declared.told.Told.TheVariants.{Same, Unasked, Whole}
 use Rattle.cx_leader.specs.Promising.{promised_row}
 
 -- the answer with which the phase is whole is counted
-whole_by : (k : Counting) (p : Promised) (member twice : Bool) → is_member_of k.live p.acceptor ≡ member
-    → has_promised p.acceptor k.promises ≡ twice → told_by k p ≡ Whole
+whole_by : (k : Phase1State) (p : Promised) (member twice : Bool) → is_member_of k.live p.acceptor ≡ member
+    → has_promised p.acceptor k.promises ≡ twice → count_promise k p ≡ Whole
     → counted_by k p ≡ record k { promises = k.promises ++ p ∷ [] }
 whole_by k p false twice m t h = let no : Unasked ≡ Whole = rw m at h in cc
 whole_by k p true true m t h = let no : Same ≡ Whole = rw (m, t) at h in cc
 whole_by k p true false m t h = rw (m, t) refl
 
-pub counted_whole : (k : Counting) (p : Promised) → told_by k p ≡ Whole
+pub counted_whole : (k : Phase1State) (p : Promised) → count_promise k p ≡ Whole
     → counted_by k p ≡ record k { promises = k.promises ++ p ∷ [] }
 counted_whole k p h = whole_by k p _ _ refl refl h
 

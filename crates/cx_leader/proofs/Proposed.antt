@@ -9,8 +9,8 @@ use Rattle.cx_model.specs.Leader.{without_known}
 use Rattle.cx_model.specs.Plan.{placed_from}
 use Rattle.cx_phase1.specs.Planned.{IsPlan}
 use Rattle.cx_phase1.specs.Window.{Window, IsWindow, is_used_up, free_slot}
-use Rattle.cx_ring.specs.Ring.{RingState, raised, value_at, with_value}
-use Rattle.cx_leader.specs.Proposing.{IsSlot, IsSpelled, IsProposing, IsHolding}
+use Rattle.cx_ring.specs.Ring.{RingState, raise_ring, value_at, with_value}
+use Rattle.cx_leader.specs.Proposing.{IsWindowSlot, HasSpelledValue, IsProposing, IsHolding}
 use Rattle.cx_leader.proofs.BySlot.{slot_of, put_next, slots_next, slots_from, found_at}
 
 -- ---- a value at the next slot
@@ -22,7 +22,7 @@ some_by false s n h = (refl, cc)
 pub some_free : (w : Window) (s : ℕ) → Some s ≡ free_slot w → (is_used_up w ≡ false) × (s ≡ w.next)
 some_free w s h = some_by (is_used_up w) s w.next h
 
-pub slot_free : (w : Window) → IsWindow w.cw w.next → is_used_up w ≡ false → IsSlot w.cw w.next
+pub slot_free : (w : Window) → IsWindow w.cw w.next → is_used_up w ≡ false → IsWindowSlot w.cw w.next
 slot_free w is h =
     let p = or_parts (w.next == w.cw + 32) (w.next == 1099511627776) h in
     let a : w.next ≢ w.cw + 32 = eqb-false w.next (w.cw + 32) p.0 in
@@ -32,14 +32,14 @@ slot_free w is h =
 pub proposed_next : (w : Window) (ps : List Placed) (v : Value) → IsProposing w.cw w.next ps → is_used_up w ≡ false
     → IsTrue (field.value.fits v) → IsProposing w.cw (w.next + 1) (ps ++ record { slot = w.next; value = v } ∷ [])
 proposed_next w ps v is h fits =
-    let slot : IsSlot w.cw w.next = slot_free w is.window h in
+    let slot : IsWindowSlot w.cw w.next = slot_free w is.window h in
     let one : Placed = record { slot = w.next; value = v } in
     let at : w.next ≡ w.cw + (w.next - w.cw) = omega (arith, slot.low) in
     let more : w.next - w.cw + 1 ≡ w.next + 1 - w.cw = omega (arith, slot.low) in
     record {
       window = record { low = omega (arith, slot.low); high = omega (arith, slot.high); end = omega (arith, slot.end) };
       slots = rw more at (slots_next w.cw (w.next - w.cw) ps one is.slots at);
-      values = All-push IsSpelled ps one is.values fits;
+      values = All-push HasSpelledValue ps one is.values fits;
     }
 
 -- a value at the next slot comes last
@@ -51,7 +51,7 @@ pub ruleset adding = (some_free, slot_free, proposed_next, put_last)
 
 -- a value that is found has a slot at which the leader may propose
 pub found_slot : (cw next k : ℕ) (ps : List Placed) (x : Placed) → IsProposing cw next ps
-    → value_at slot_of k ps ≡ Some x → IsSlot cw x.slot
+    → value_at slot_of k ps ≡ Some x → IsWindowSlot cw x.slot
 found_slot cw next k ps x is found =
     let at = found_at cw (next - cw) k ps x is.slots found in
     let high : x.slot < next = omega (arith, at.1, is.window.low) in
@@ -59,7 +59,7 @@ found_slot cw next k ps x is found =
 
 -- a greater watermark
 pub holding_raised : (cw next k : ℕ) (list : RingState Placed) (known : ℕ) → IsHolding cw next list known → k ≤ 2 ^ 40
-    → IsHolding (max cw k) (max next (max cw k)) (raised slot_of (max cw k) list) (max known (max cw k))
+    → IsHolding (max cw k) (max next (max cw k)) (raise_ring slot_of (max cw k) list) (max known (max cw k))
 holding_raised cw next k list known is le =
     let window = is.proposing.window in
     let low = window.low in
@@ -71,7 +71,7 @@ holding_raised cw next k list known is le =
           rw first (record {
             window = record { low = omega arith; high = omega (arith, window.high); end = omega (arith, window.end) };
             slots = rw (begin, count) at (slots_from (max cw k) cw (next - cw) list.items is.proposing.slots);
-            values = All-filter _ IsSpelled list.items is.proposing.values;
+            values = All-filter _ HasSpelledValue list.items is.proposing.values;
           });
       first = first;
       known_first = omega (arith, is.known_first);
@@ -83,11 +83,11 @@ slots-placed_from s [] = refl
 slots-placed_from s (v ∷ vs) = ap (λ ss. s ∷ ss) (slots-placed_from (s + 1) vs)
 
 all_placed : (s : ℕ) (vs : List Value) → All (λ (v : Value). IsTrue (field.value.fits v)) vs
-    → All IsSpelled (placed_from s vs)
-all_placed s [] fits = All-nil IsSpelled
+    → All HasSpelledValue (placed_from s vs)
+all_placed s [] fits = All-nil HasSpelledValue
 all_placed s (v ∷ vs) fits =
     let Fits = λ (x : Value). IsTrue (field.value.fits x) in
-    All-cons IsSpelled _ _ (All-head Fits v vs fits) (all_placed (s + 1) vs (All-tail Fits v vs fits))
+    All-cons HasSpelledValue _ _ (All-head Fits v vs fits) (all_placed (s + 1) vs (All-tail Fits v vs fits))
 
 pub proposed_plan : (p : Plan) → IsPlan p → IsProposing p.cw p.end (placed_from p.cw p.values)
 proposed_plan p is =

@@ -1,18 +1,18 @@
 -- What a leader knows of its first phase.
 use Rattle.std.specs.Prelude.{◌∷◌, ◌++◌}
 use Rattle.cx_role.specs.Prelude.{List, [], Option, map, option_map, Cluster, RoleId, Entry, MatchAnswer}
-use Rattle.cx_role.specs.Prelude.{Promised, live_entries, members_of, Outcome, answered, replied}
+use Rattle.cx_role.specs.Prelude.{Promised, live_entries, members_of, Outcome, only_word, replied}
 use Rattle.cx_role.specs.Prelude.why
 use Rattle.cx_role.specs.Prelude.mode
 use Rattle.std.specs.Option.{option_map_or}
 use Rattle.cx_model.specs.Leader.{LeaderVolatile, finish, phase1a_to}
-use Rattle.cx_phase1.specs.Counting.{Counting, told_by}
+use Rattle.cx_phase1.specs.Counting.{Phase1State, count_promise}
 use Rattle.cx_phase1.specs.declared.told.Told.{Told}
 use Rattle.cx_phase1.specs.declared.told.Told.TheVariants as told
 
 -- one more matchmaker has answered
-abbrev pub with_answer : MatchAnswer → LeaderVolatile → LeaderVolatile
-with_answer a v = record v { told = v.told ++ a ∷ [] }
+abbrev pub leader_with_answer : MatchAnswer → LeaderVolatile → LeaderVolatile
+leader_with_answer a v = record v { told = v.told ++ a ∷ [] }
 
 -- the acceptors of the live grids are asked
 abbrev pub ask_row : Cluster → RoleId → Entry → LeaderVolatile → List Entry → Outcome LeaderVolatile
@@ -20,27 +20,27 @@ ask_row c me own v live =
     replied why.Phase1 (record v { mode = mode.Phase1 }) (map (phase1a_to me own.round) (members_of c live))
 
 -- the acceptors that were counted, if somebody was asked
-abbrev pub promises_of : Option Counting → List Promised
-promises_of phase1 = option_map_or (λ (k : Counting). k.promises) phase1 []
+abbrev pub promises_of : Option Phase1State → List Promised
+promises_of phase1 = option_map_or (λ (k : Phase1State). k.promises) phase1 []
 
 -- the entries whose acceptors are asked
-abbrev pub live_of : Option Counting → Option (List Entry)
-live_of phase1 = option_map (λ (k : Counting). k.live) phase1
+abbrev pub asked_entries : Option Phase1State → Option (List Entry)
+asked_entries phase1 = option_map (λ (k : Phase1State). k.live) phase1
 
 -- what it counts of its first phase
-abbrev pub counting : LeaderVolatile → Counting
+abbrev pub counting : LeaderVolatile → Phase1State
 counting v = record { live = live_entries v.told; promises = v.promises }
 
 -- one more acceptor has promised
-abbrev pub with_promise : Promised → LeaderVolatile → LeaderVolatile
-with_promise p v = record v { promises = v.promises ++ p ∷ [] }
+abbrev pub leader_with_promise : Promised → LeaderVolatile → LeaderVolatile
+leader_with_promise p v = record v { promises = v.promises ++ p ∷ [] }
 
 -- the row of an acceptor's answer, by how the answer counts
 abbrev pub told_row : Cluster → RoleId → Entry → LeaderVolatile → Promised → Told → Outcome LeaderVolatile
-told_row c me own v p told.Unasked = answered why.Unasked v
-told_row c me own v p told.Same = answered why.Same v
-told_row c me own v p told.Counted = answered why.Counted (with_promise p v)
-told_row c me own v p told.Whole = finish c me own (with_promise p v)
+told_row c me own v p told.Unasked = only_word why.Unasked v
+told_row c me own v p told.Same = only_word why.Same v
+told_row c me own v p told.Counted = only_word why.Counted (leader_with_promise p v)
+told_row c me own v p told.Whole = finish c me own (leader_with_promise p v)
 
 abbrev pub promised_row : Cluster → RoleId → Entry → LeaderVolatile → Promised → Outcome LeaderVolatile
-promised_row c me own v p = told_row c me own v p (told_by (counting v) p)
+promised_row c me own v p = told_row c me own v p (count_promise (counting v) p)

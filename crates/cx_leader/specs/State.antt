@@ -4,18 +4,18 @@ use Rattle.cx_role.specs.Prelude.{ℕ, Bool, true, not, is_some, length}
 use Rattle.cx_role.specs.Prelude.{Option, None, Some, IsTrue, List, All, list_all, option_map, Cluster, Round, role}
 use Rattle.cx_role.specs.Prelude.{Entry, MatchAnswer, live_entries, names_entry, Running}
 use Rattle.cx_role.specs.Prelude.kind
-use Rattle.cx_collect.specs.Collecting.{Collecting}
+use Rattle.cx_collect.specs.Collecting.{CollectorState}
 use Rattle.cx_field.specs.Fields as field
 use Rattle.cx_model.specs.declared.states.Mode.{Mode}
 use Rattle.cx_model.specs.Collection.{is_off}
 use Rattle.cx_model.specs.Leader.{LeaderDurable, LeaderVolatile, is_idle, is_matching, is_promising}
-use Rattle.cx_phase1.specs.Counting.{Counting}
-use Rattle.cx_leader.specs.Promising.{live_of, promises_of}
-use Rattle.cx_leader.specs.Proposing.{Proposing}
+use Rattle.cx_phase1.specs.Counting.{Phase1State}
+use Rattle.cx_leader.specs.Promising.{asked_entries, promises_of}
+use Rattle.cx_leader.specs.Proposing.{ProposalsState}
 
 -- a leader as contracts see it, by the parts that it holds
-abbrev pub leader_view : Cluster → ℕ → Bool → Option Entry → Mode → Round → List ℕ → List ℕ → List MatchAnswer → Option Counting
-    → Proposing → Collecting → Running LeaderDurable LeaderVolatile
+abbrev pub leader_view : Cluster → ℕ → Bool → Option Entry → Mode → Round → List ℕ → List ℕ → List MatchAnswer → Option Phase1State
+    → ProposalsState → CollectorState → Running LeaderDurable LeaderVolatile
 leader_view c index live own mode seen set held told phase1 p k =
     record {
       cluster = c;
@@ -56,28 +56,28 @@ pub record IsBegun (c : Cluster) (index : ℕ) (own : Option Entry) (mode : Mode
 
 -- It counts at most f + 1 matchmakers. While it asks acceptors, it asks those of the live grids that the matchmakers
 -- reported, and none before that.
-pub record IsMatched (c : Cluster) (mode : Mode) (told : List MatchAnswer) (phase1 : Option Counting) : Type 0 where
+pub record IsMatchmaking (c : Cluster) (mode : Mode) (told : List MatchAnswer) (phase1 : Option Phase1State) : Type 0 where
   pub count : length told ≤ c.f + 1
   pub fewer : IsTrue (is_matching mode) → length told ≤ c.f
   pub named : IsTrue (list_all (λ (a : MatchAnswer). is_named c a) told)
   pub unasked : IsTrue (is_matching mode) → phase1 ≡ None
-  pub asked : IsTrue (is_promising mode) → live_of phase1 ≡ Some (live_entries told)
+  pub asked : IsTrue (is_promising mode) → asked_entries phase1 ≡ Some (live_entries told)
 
 -- each replica reported a number of slots
-pub record IsHeld (c : Cluster) (held : List ℕ) : Type 0 where
+pub record AreHeldNumbers (c : Cluster) (held : List ℕ) : Type 0 where
   pub count : length held ≡ c.replicas
-  pub marks : All (λ n. n ≤ 2 ^ 40) held
+  pub bounded : All (λ n. n ≤ 2 ^ 40) held
 
 -- it retires the rounds below its own with the grid of its own
-pub record IsRetiring (c : Cluster) (own : Option Entry) (k : Collecting) : Type 0 where
+pub record HasOwnCollection (c : Cluster) (own : Option Entry) (k : CollectorState) : Type 0 where
   pub grid : IsTrue (not (is_off k.collection.stage)) → option_map (λ (e : Entry). e.grid) own ≡ Some k.grid
   pub f : IsTrue (not (is_off k.collection.stage)) → k.f ≡ c.f
   pub mark : k.collection.mark ≤ 2 ^ 40
 
 -- what holds of each leader
 pub record IsLeader (c : Cluster) (index : ℕ) (own : Option Entry) (mode : Mode) (told : List MatchAnswer)
-    (phase1 : Option Counting) (held : List ℕ) (k : Collecting) : Type 0 where
+    (phase1 : Option Phase1State) (held : List ℕ) (k : CollectorState) : Type 0 where
   pub begun : IsBegun c index own mode
-  pub matched : IsMatched c mode told phase1
-  pub holding : IsHeld c held
-  pub retiring : IsRetiring c own k
+  pub matched : IsMatchmaking c mode told phase1
+  pub holding : AreHeldNumbers c held
+  pub retiring : HasOwnCollection c own k

@@ -6,8 +6,8 @@ use Rattle.cx_model.specs.Leader.{LeaderDurable, LeaderVolatile, are_known, is_l
 use Rattle.cx_model.specs.Matched.{enough}
 
 -- whether it never began a round
-abbrev pub is_new : LeaderDurable → Bool
-is_new d = not (is_some d.own)
+abbrev pub is_new_leader : LeaderDurable → Bool
+is_new_leader d = not (is_some d.own)
 
 -- whether as many replicas as keep a slot for good have reported to it that they hold some
 abbrev pub has_heard : Cluster → LeaderVolatile → Bool

@@ -1,15 +1,16 @@
-//! How many slots the replicas hold. What f + 1 of them hold is never lost (this project's own).
+//! How many slots the replicas hold. What f + 1 of them hold is never lost (this project's own). A replica holds n slots once
+//! it has stored the values of all slots below n.
 
 ghost use Rattle.std.specs.Prelude.{◌≡◌, ◌≤◌, ◌<◌, ◌^◌};
 ghost use Rattle.cx_role.specs.Prelude.{[], Replies};
-ghost use Rattle.cx_model.specs.Leader.{reaching, held_by, held_row, leader_rules};
+ghost use Rattle.cx_model.specs.Leader.{count_reaching, held_by, held_row, leader_rules};
 
 use crate::Leader;
 use cx_base::{RoleId, Why};
 
 // How many of the numbers reach this one.
-fn reaching(held: &[u64], n: u64) -> usize
-    ensures { result ≡ reaching n held.now }
+fn count_reaching(held: &[u64], n: u64) -> usize
+    ensures { result ≡ count_reaching n held.now }
 {
     held.iter().filter(|other| **other >= n).count()
 }
@@ -20,7 +21,7 @@ fn held_by(held: &[u64], count: usize) -> u64
 {
     let mut greatest = 0;
     for n in held {
-        if reaching(held, *n) >= count {
+        if count_reaching(held, *n) >= count {
             greatest = greatest.max(*n);
         }
     }

@@ -25,18 +25,23 @@ pub struct Leader {
     pub(crate) alloc: Global,
     pub(crate) cluster: Cluster,
     pub(crate) index: u16,
+    // Whether it may take a step: until an append fails.
     pub(crate) live: bool,
+    // Its last round with the round's grid: all that its records leave. Each mode but `Idle` has one.
     pub(crate) own: Option<Entry>,
     pub(crate) mode: Mode,
+    // The greatest round that a refusal named; the next order to lead goes above it.
     pub(crate) seen: Round,
-    // The matchmakers that are asked, and whose answers count.
+    // The known set: the matchmakers that are asked, and whose answers count.
     pub(crate) set: Set,
     // The greatest number of slots that each replica reported.
     pub(crate) held: Vec<u64>,
+    // The matchmakers' answers in its round, f + 1 at most.
     pub(crate) told: Vec<MatchAnswer>,
     // Who has promised, where acceptors are asked.
     pub(crate) phase1: Option<Phase1>,
     pub(crate) proposals: Proposals,
+    // How far it is in retiring the rounds below its own.
     pub(crate) collector: Collector,
 }
 
@@ -63,9 +68,9 @@ impl Leader {
 }
 
 impl Leader {
-    // One datagram, by its kind.
+    // One datagram, by its kind; `names` says that all that it names is in the cluster.
     #[tactic(auto, unfolding(cx_field::specs::Fields::mark, cx_wire::specs::Format::u64))]
-    fn taken(&mut self, datagram: &Datagram, out: &mut Outbox) -> Result<Why, NoMemory>
+    fn dispatch(&mut self, datagram: &Datagram, out: &mut Outbox) -> Result<Why, NoMemory>
         requires names { IsTrue (names self.old.cluster datagram.now) }
         requires empty { out.old.list ≡ [] }
         ensures { let s = self.old in
@@ -92,6 +97,7 @@ impl Leader {
             Msg::Informed { round, mark } => self.informed(from, *round, *mark, out),
             Msg::GarbageB { round } => Ok(self.forgotten(from, *round)),
             Msg::Sets { set } => self.learn(*set, out),
+            // No leader is sent these kinds.
             _ => Ok(Why::Stranger),
         }
     }
@@ -99,7 +105,7 @@ impl Leader {
 
 // A leader that was just opened, whose records left this round.
 #[tactic(auto, using(crate::proofs::Opened::none_told))]
-fn opened(
+fn new_leader(
     alloc: Global,
     cluster: &Cluster,
     index: u16,
@@ -149,7 +155,7 @@ impl Role for Leader {
         records: &[Record],
     ) -> Result<Self, WakeFault> {
         let own = last_begun(None, cluster, me, records)?;
-        Ok(opened(alloc, cluster, me.index, own)?)
+        Ok(new_leader(alloc, cluster, me.index, own)?)
     }
 
     #[tactic(auto, using(crate::proofs::Opened::openings))]
@@ -163,7 +169,7 @@ impl Role for Leader {
         } = self;
         let me = RoleId::new(Kind::Leader, index);
         let own = last_begun(own, &cluster, me, records)?;
-        Ok(opened(alloc, &cluster, index, own)?)
+        Ok(new_leader(alloc, &cluster, index, own)?)
     }
 
     #[tactic(auto, using(crate::proofs::Fits::take_fits))]
@@ -177,7 +183,8 @@ impl Role for Leader {
         if !is_for(&self.cluster, me, datagram) {
             return Ok(Why::Stranger);
         }
-        Ok(self.taken(datagram, out)?)
+        // Nothing is appended: only an order begins a round.
+        Ok(self.dispatch(datagram, out)?)
     }
 
     fn order<K: Keeper>(
@@ -190,6 +197,7 @@ impl Role for Leader {
             Order::Lead(grid) => self.lead(keeper, grid, out),
             Order::Change(grid) => self.change(keeper, grid, out),
             Order::Collect => Ok(self.collect(out)?),
+            // Replacers replace the matchmakers.
             Order::Replace(_) => Ok(Why::Stranger),
         }
     }

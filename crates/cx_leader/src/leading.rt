@@ -49,7 +49,7 @@ pub fn begin_to_lead(
 
 impl Leader {
     /// Its first phase is done: it leads, proposes what the plan says, and announces it to the batchers.
-    pub(crate) fn finish(
+    pub(crate) fn lead_with(
         &mut self,
         own: &Entry,
         plan: &Plan,
@@ -87,6 +87,7 @@ impl Leader {
         };
         let value = Value::Batch(commands.copy(self.alloc)?);
         out.room(1)?;
+        // Last of what can fail, since it takes the slot.
         match self.proposals.add(self.alloc, &value)? {
             None => Ok(Why::Window),
             Some(slot) => {
@@ -97,7 +98,7 @@ impl Leader {
         }
     }
 
-    /// A proxy reports that a slot is chosen in this round.
+    /// A proxy reports that a slot is chosen in this round. A slot below the chosen watermark was forgotten (`Past`).
     pub(crate) fn chosen_in(&mut self, round: Round, slot: u64) -> Result<Why, NoMemory>
         ensures { let s = self.old in
             IsReply leader_rules s (chosen_in_row s.durable s.volatile round slot) result self.new [] }

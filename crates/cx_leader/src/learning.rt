@@ -7,7 +7,7 @@ ghost use Rattle.cx_field.specs.Fields as field;
 ghost use Rattle.cx_model.specs.Leader.{set_learnt, sets_row, leader_rules};
 
 use crate::Leader;
-use crate::sending::{ask_matchmakers, ask_to_forget};
+use crate::sending::{ask_to_forget, ask_to_record};
 use cx_base::{NoMemory, Set, Why};
 use cx_field::Entry;
 use cx_model::{Mode, Stage};
@@ -26,11 +26,11 @@ impl Leader {
         out.room(set.ids().len())?;
         self.set = set;
         self.told.clear();
-        ask_matchmakers(self.index, own.round, &own.grid, set.ids(), out);
+        ask_to_record(self.index, own.round, &own.grid, set.ids(), out);
         Ok(Why::Learnt)
     }
 
-    // Where matchmakers are to forget the earlier rounds, it asks these.
+    // Where matchmakers are to forget the earlier rounds, it asks these. In another stage it waits for none.
     fn collect_anew(&mut self, set: Set, own: &Entry, out: &mut Outbox) -> Result<Why, NoMemory>
         requires round { IsTrue (field.round.fits own.now.round) }
         requires empty { out.old.list ≡ [] }
@@ -49,7 +49,7 @@ impl Leader {
         Ok(Why::Learnt)
     }
 
-    // It begins anew with what it waits for from matchmakers.
+    // It begins anew with what it waits for from matchmakers. Idle or in phase 1 it waits for nothing from them.
     fn asks_anew(&mut self, set: Set, out: &mut Outbox) -> Result<Why, NoMemory>
         requires empty { out.old.list ≡ [] }
         ensures { let s = self.old in
@@ -71,8 +71,8 @@ impl Leader {
         }
     }
 
-    /// Another set of matchmakers took over, which then is the known one, unless it is not above that. What was counted of
-    /// the earlier set goes, where more is waited for, and these are asked instead.
+    /// Another set of matchmakers took over. It becomes the known one if it is above that (each of its indexes is greater).
+    /// What is still waited for is then asked of it, and answers of the earlier set count no longer.
     pub(crate) fn learn(&mut self, set: Set, out: &mut Outbox) -> Result<Why, NoMemory>
         requires empty { out.old.list ≡ [] }
         ensures { let s = self.old in

@@ -1,18 +1,18 @@
-//! A leader that asks the matchmakers which grids earlier rounds used (JSys 2021).
+//! A leader that asks the matchmakers which grids earlier rounds used (JSys 2021). A grid is live until its round is retired.
 
 ghost use Rattle.std.specs.Prelude.{◌≡◌, ◌++◌, ◌∷◌, ◌&&◌};
 ghost use Rattle.cx_role.specs.Prelude.{[], Some, IsTrue, is_in, list_all, live_entries, names_entry};
 ghost use Rattle.cx_role.specs.Prelude.{Entry as EntryOf, IsReply};
 ghost use Rattle.cx_model.specs.Leader.{is_matching, is_own, bypass, finish, matched_by, match_counted, match_b_row};
 ghost use Rattle.cx_model.specs.Leader.{leader_rules};
-ghost use Rattle.cx_leader.specs.Promising.{ask_row, with_answer};
+ghost use Rattle.cx_leader.specs.Promising.{ask_row, leader_with_answer};
 ghost use Rattle.cx_leader.specs.State.{is_named};
 
 use crate::Leader;
 use crate::entries::{is_counted, live_entries};
 use crate::leading::begin_to_lead;
 use crate::rounds::{is_same, round_of};
-use crate::sending::{ask_acceptors, tell_batchers};
+use crate::sending::{ask_to_promise, tell_batchers};
 use cx_base::{Duplicate, NoMemory, RoleId, Round, Why};
 use cx_field::{Entries, Entry};
 use cx_model::{MatchAnswer, Mode};
@@ -20,7 +20,8 @@ use cx_phase1::Phase1;
 use cx_role::Outbox;
 
 impl Leader {
-    // No earlier grid is live, so there is nobody to ask, and nothing to propose.
+    // No earlier grid is live, so there is nobody to ask, and nothing to propose: a round that has proposed is recorded by
+    // f + 1 matchmakers, and one that retires it is live in its place.
     fn lead_alone(
         &mut self,
         answer: MatchAnswer,
@@ -31,7 +32,7 @@ impl Leader {
         requires own { self.old.durable.own ≡ Some own.now }
         requires named { IsTrue (is_named self.old.cluster answer) }
         requires empty { out.old.list ≡ [] }
-        ensures { let s = self.old in let v = with_answer answer s.volatile in
+        ensures { let s = self.old in let v = leader_with_answer answer s.volatile in
             IsReply leader_rules s (finish s.cluster s.me own.now v) result self.new out.new.list }
     {
         self.told.reserve(1)?;
@@ -43,7 +44,9 @@ impl Leader {
         Ok(Why::Leads)
     }
 
-    // The round came by a change, so nobody is asked: it begins with what its leader proposed in the round before.
+    // The round came by a change, so no acceptor is asked (phase 1 bypassing, JSys 2021): no round lies between it and the
+    // one before, in which its leader proposed all that can have been chosen from `cw` on. It proposes these values again. The
+    // matchmakers' answers say only that later leaders will find its grid.
     fn bypass(
         &mut self,
         answer: MatchAnswer,
@@ -54,7 +57,7 @@ impl Leader {
         requires own { self.old.durable.own ≡ Some own.now }
         requires named { IsTrue (is_named self.old.cluster answer) }
         requires empty { out.old.list ≡ [] }
-        ensures { let s = self.old in let v = with_answer answer s.volatile in
+        ensures { let s = self.old in let v = leader_with_answer answer s.volatile in
             IsReply leader_rules s (bypass s.cluster s.me own.now v) result self.new out.new.list }
     {
         self.told.reserve(1)?;
@@ -79,14 +82,14 @@ impl Leader {
         requires named { IsTrue (is_named self.old.cluster answer) }
         requires live { live.now ≡ live_entries (self.old.volatile.told ++ answer ∷ []) }
         requires empty { out.old.list ≡ [] }
-        ensures { let s = self.old in let v = with_answer answer s.volatile in
+        ensures { let s = self.old in let v = leader_with_answer answer s.volatile in
             IsReply leader_rules s (ask_row s.cluster s.me own.now v live.now) result self.new out.new.list }
     {
         let phase1 = Phase1::new(self.alloc, live)?;
         self.told.reserve(1)?;
         out.room(usize::from(self.cluster.acceptors))?;
         self.told.push_reserved(answer);
-        ask_acceptors(self.index, own.round, &self.cluster, &phase1, out);
+        ask_to_promise(self.index, own.round, &self.cluster, &phase1, out);
         self.phase1 = Some(phase1);
         self.mode = Mode::Phase1;
         Ok(Why::Phase1)
@@ -103,7 +106,7 @@ impl Leader {
         requires own { self.old.durable.own ≡ Some own.now }
         requires named { IsTrue (is_named self.old.cluster answer) }
         requires empty { out.old.list ≡ [] }
-        ensures { let s = self.old in let v = with_answer answer s.volatile in
+        ensures { let s = self.old in let v = leader_with_answer answer s.volatile in
             IsReply leader_rules s (matched_by s.cluster s.me own.now v (live_entries v.told))
             result self.new out.new.list }
     {
@@ -120,13 +123,15 @@ impl Leader {
         requires own { self.old.durable.own ≡ Some own.now }
         requires named { IsTrue (is_named self.old.cluster answer) }
         requires empty { out.old.list ≡ [] }
-        ensures { let s = self.old in let v = with_answer answer s.volatile in
+        ensures { let s = self.old in let v = leader_with_answer answer s.volatile in
             IsReply leader_rules s (match_counted s.cluster s.me s.durable.own v) result self.new out.new.list }
     {
+        // The list lacks this answer: with f in it, f + 1 have answered.
         if self.told.len() < usize::from(self.cluster.f) {
             self.told.push(answer)?;
             return Ok(Why::Counted);
         }
+        // The third number of a round counts the changes of its grid: an order to lead begins with 0.
         if own.round.s > 0 {
             return self.bypass(answer, own, out);
         }
@@ -143,7 +148,7 @@ impl Leader {
             && self.set.contains(matchmaker)
     }
 
-    /// A matchmaker answers with its watermark and its entries.
+    /// A matchmaker answers with its retirement watermark and its entries.
     pub(crate) fn match_answer(
         &mut self,
         from: RoleId,

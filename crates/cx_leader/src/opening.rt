@@ -13,6 +13,7 @@ use cx_msg::Record;
 use cx_role::WakeFault;
 use std::alloc::Global;
 
+/// The numbers of slots held before any replica has reported one.
 #[tactic(auto, using(cx_role::proofs::Sends::sends))]
 pub fn none_held(alloc: Global, replicas: u16) -> Result<Vec<u64>, NoMemory>
     ensures { IfOk result (λ held. held.items ≡ map (λ r. 0) (below replicas)) }
@@ -24,7 +25,8 @@ pub fn none_held(alloc: Global, replicas: u16) -> Result<Vec<u64>, NoMemory>
     Ok(held)
 }
 
-/// The round that these records leave after an earlier one, with its grid.
+/// The round that these records leave after an earlier one, with its grid. The fault names the first record that this leader
+/// can't have appended.
 #[tactic(auto, unfolding(cx_msg::specs::Records::kept_record, cx_msg::specs::Records::round_grid))]
 pub fn last_begun(
     before: Option<Entry>,

@@ -15,6 +15,7 @@ use cx_phase1::Told;
 use cx_role::Outbox;
 
 impl Leader {
+    // Whether it waits for promises of this round.
     fn asks(&self, round: Round) -> bool
         ensures { result ≡ (is_promising self.now.volatile.mode && is_own self.now.durable round) }
     {
@@ -53,9 +54,11 @@ impl Leader {
                 self.phase1 = Some(phase1);
                 Ok(Why::Counted)
             }
+            // Each live grid now has a whole row of promises. The plan begins at the greatest chosen watermark, this
+            // leader's or a reported one.
             Told::Whole => {
                 let plan = phase1.plan(self.proposals.cw())?;
-                self.finish(own, &plan, out)
+                self.lead_with(own, &plan, out)
             }
         }
     }

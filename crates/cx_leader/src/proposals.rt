@@ -6,11 +6,11 @@ ghost use Rattle.cx_field.specs.Fields as field;
 ghost use Rattle.cx_model.specs.Leader.{are_known, without_known};
 ghost use Rattle.cx_model.specs.Plan.{placed_from};
 ghost use Rattle.cx_phase1.specs.Planned.{IsPlan};
-ghost use Rattle.cx_leader.specs.Proposing.{Adds, nothing_from, planned, led_on, with_chosen, raised, is_settled};
-ghost use Rattle.cx_leader.specs.Proposing.{only, propose_sends};
+ghost use Rattle.cx_leader.specs.Proposing.{Adds, nothing_from, planned, led_on, with_chosen, raise_proposing, is_settled};
+ghost use Rattle.cx_leader.specs.Proposing.{placed_list, propose_sends};
 ghost use Rattle.cx_ring.specs.Ring.{value_at};
 
-use crate::known::Known;
+use crate::known::KnownSlots;
 use crate::sending::proposal;
 use cx_base::{Cluster, Duplicate, Kind, NoMemory, Placed, Value};
 use cx_field::Entry;
@@ -25,17 +25,18 @@ use std::marker::Model;
 /// chosen in its round. While it goes on to the next round these are the values of the round before.
 #[derive(Drop)]
 pub struct Proposals {
+    // The chosen watermark and the next free slot.
     slots: Slots,
-    // The slot before which it proposed when it began to lead.
+    // The slot behind the last one that it proposed when it began to lead; those from here on came as batches.
     end: u64,
     list: Ring<Placed, BySlot>,
-    chosen: Known,
+    chosen: KnownSlots,
 }
 
 impl Model for Proposals {
-    ghost use Rattle.cx_leader.specs.Proposing.{Proposing, IsHolding};
+    ghost use Rattle.cx_leader.specs.Proposing.{ProposalsState, IsHolding};
 
-    ghost Value = { Proposing };
+    ghost Value = { ProposalsState };
 
     ghost view = { λ p. record {
       cw = p.slots.cw;
@@ -48,7 +49,7 @@ impl Model for Proposals {
     ghost invariant = { λ p. IsHolding p.slots.cw p.slots.next p.list p.chosen.first };
 }
 
-// A proposed value is held at its slot.
+// A proposed value stands in the ring at its slot.
 struct BySlot;
 
 impl Slotted<Placed> for BySlot {
@@ -85,10 +86,11 @@ impl Proposals {
             slots: Slots::new(0, 0),
             end: 0,
             list: Ring::new(alloc, 0),
-            chosen: Known::new(alloc, 0),
+            chosen: KnownSlots::new(alloc, 0),
         }
     }
 
+    /// The values that a first phase found for its slots, and no-ops in the others.
     pub fn planned(alloc: Global, plan: &Plan) -> Result<Self, NoMemory>
         requires { IsPlan plan.now }
         ensures { IfOk result (λ proposals. proposals ≡ planned plan.now) }
@@ -97,11 +99,11 @@ impl Proposals {
             slots: Slots::new(plan.cw, plan.end),
             end: plan.end,
             list: placed(alloc, plan.cw, plan.values.as_slice())?,
-            chosen: Known::new(alloc, plan.cw),
+            chosen: KnownSlots::new(alloc, plan.cw),
         })
     }
 
-    /// Forgets all that was proposed from the watermark on.
+    /// Forgets all that was proposed from the chosen watermark on.
     pub fn clear(&mut self)
         ensures { self.new ≡ nothing_from self.old.cw }
     {
@@ -153,19 +155,20 @@ impl Proposals {
     /// forgotten, and none of them is free.
     pub fn raise(&mut self, cw: u64)
         requires { cw ≤ 2 ^ 40 }
-        ensures { self.new ≡ raised cw self.old }
+        ensures { self.new ≡ raise_proposing cw self.old }
     {
         self.slots.raise(cw);
+        // This may be the greater one that it left.
         let cw = self.slots.cw();
         self.list.raise(cw);
         self.chosen.raise(cw);
     }
 
-    // Proposes the value of a slot, if it has one, unless the slot is known to be chosen.
+    // Proposes the value of a slot, if it has one, unless the slot is in `known`.
     #[tactic(auto, using(crate::proofs::Proposed::found_slot))]
     fn propose(
         &self,
-        known: &Known,
+        known: &KnownSlots,
         alloc: Global,
         cluster: &Cluster,
         leader: u16,
@@ -177,7 +180,7 @@ impl Proposals {
         requires round { IsTrue (field.round.fits own.now.round) }
         ensures list { let p = self.now in OnOk result (out.new.list ≡ out.old.list
             ++ propose_sends cluster.now leader own.now p.cw
-            (without_known known.now.list (only (value_at (λ x. x.slot) slot p.proposed)))) }
+            (without_known known.now.list (placed_list (value_at (λ x. x.slot) slot p.proposed)))) }
         ensures spare { OnOk result (out.old.spare ≤ out.new.spare + 1) }
     {
         let Some(placed) = self.list.get(slot) else {
@@ -192,10 +195,10 @@ impl Proposals {
         Ok(())
     }
 
-    // Proposes each value whose slot is not known to be chosen.
+    // Proposes each value whose slot is not in `known`. Each slot from `cw` to the next free one has a value.
     fn propose_each(
         &self,
-        known: &Known,
+        known: &KnownSlots,
         alloc: Global,
         cluster: &Cluster,
         leader: u16,
@@ -214,7 +217,8 @@ impl Proposals {
         Ok(())
     }
 
-    /// Proposes each value, at most 32 of them; out of memory, it may leave some sent.
+    /// Proposes each value, at most 32 of them, also where it was chosen in the round before, which this one can retire only
+    /// once the slot is chosen again, or held by enough replicas. Out of memory, it may leave some sent.
     #[tactic(auto, using(crate::proofs::Proposed::none_known))]
     pub fn propose_all(
         &self,
@@ -230,7 +234,7 @@ impl Proposals {
             OnOk result (out.new.list ≡ out.old.list ++ propose_sends cluster.now leader own.now p.cw p.proposed) }
         ensures spare { OnOk result (out.old.spare ≤ out.new.spare + 32) }
     {
-        let none = Known::new(alloc, 0);
+        let none = KnownSlots::new(alloc, 0);
         self.propose_each(&none, alloc, cluster, leader, own, out)?;
         Ok(())
     }
@@ -262,12 +266,14 @@ impl Proposals {
         self.slots.cw()
     }
 
+    /// The next free slot.
     pub fn next(&self) -> u64
         ensures { result ≡ self.now.next }
     {
         self.slots.next()
     }
 
+    /// Whether a proxy has reported that a slot is chosen in this round.
     pub fn is_chosen(&self, slot: u64) -> bool
         ensures { result ≡ is_in slot self.now.chosen }
     {
@@ -288,6 +294,7 @@ impl Proposals {
         ensures { result ≡ is_settled self.now }
     {
         let cw = self.slots.cw();
+        // Of none where the chosen watermark is at the end or past it: replicas hold them all.
         self.chosen.contains_all(cw, self.end.saturating_sub(cw))
     }
 }

@@ -4,7 +4,7 @@ ghost use Rattle.cx_role.specs.Prelude.{[], Replies};
 ghost use Rattle.cx_model.specs.Leader.{nack_row, match_nack_row, leader_rules};
 
 use crate::Leader;
-use crate::entries::later;
+use crate::entries::later_round;
 use crate::rounds::{is_same, round_of};
 use cx_base::{RoleId, Round, Why};
 use cx_field::NackReason;
@@ -17,16 +17,17 @@ impl Leader {
         ensures { let s = self.old in
             Replies leader_rules s (nack_row s.durable s.volatile round promise) result self.new [] }
     {
-        self.seen = later(self.seen, promise);
+        self.seen = later_round(self.seen, promise);
         if matches!(self.mode, Mode::Idle) || !is_same(round, round_of(&self.own)) {
             return Why::Old;
         }
+        // The rest stays until it begins another round.
         self.mode = Mode::Idle;
         Why::Nacked
     }
 
     /// A matchmaker does not record the round, and reports another one, which is noted whatever the answer; where it has no
-    /// room the leader goes on.
+    /// room the leader goes on, as others may record it.
     pub(crate) fn match_nack(
         &mut self,
         from: RoleId,
@@ -37,7 +38,7 @@ impl Leader {
         ensures { let s = self.old in
             Replies leader_rules s (match_nack_row s.durable s.volatile from round reason other) result self.new [] }
     {
-        self.seen = later(self.seen, other);
+        self.seen = later_round(self.seen, other);
         if matches!(self.mode, Mode::Idle)
             || !is_same(round, round_of(&self.own))
             || !self.set.contains(from.index)

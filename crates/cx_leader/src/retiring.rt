@@ -1,5 +1,6 @@
 //! How a leader retires the rounds below its own (JSys 2021): a column of its grid learns how many slots enough
-//! replicas hold (this project's own), then f + 1 matchmakers forget the earlier rounds.
+//! replicas hold (this project's own), then f + 1 matchmakers forget the earlier rounds. A later leader asks a row of that
+//! grid, which meets the column, so it learns below which slot it need not know what the retired rounds chose.
 
 ghost use Rattle.std.specs.Prelude.{◌≡◌, ◌<◌, ◌&&◌};
 ghost use Rattle.cx_role.specs.Prelude.{[], IsReply, Replies};
@@ -15,6 +16,7 @@ use cx_model::{Mode, Stage};
 use cx_role::Outbox;
 
 impl Leader {
+    // Whether it leads, and in this round.
     fn leads(&self, round: Round) -> bool
         ensures { result ≡ (is_leading self.now.volatile.mode && is_own self.now.durable round) }
     {
@@ -47,7 +49,8 @@ impl Leader {
         Ok(Why::Informing)
     }
 
-    /// An acceptor knows how many slots enough replicas hold; a whole column ends the stage.
+    /// An acceptor knows how many slots enough replicas hold; a whole column ends the stage. A lesser number than the
+    /// acceptors were sent doesn't count.
     pub(crate) fn informed(
         &mut self,
         from: RoleId,
@@ -76,6 +79,7 @@ impl Leader {
         if self.collector.counted(from.index) {
             return Ok(Why::Same);
         }
+        // The answer may end the stage, and once it is counted nothing can fail.
         out.room(self.set.ids().len())?;
         if !self.collector.informed(from.index, cw) {
             return Ok(Why::Counted);

@@ -1,4 +1,5 @@
-//! Which rounds follow one another, and the orders to begin one.
+//! Which rounds follow one another, and the orders to begin one. A round is a number, its leader, and how often that leader has
+//! changed its grid since it began with the number: `(r, id, s)`, in this order.
 
 ghost use Rattle.std.specs.Prelude.{◌≡◌, ◌==◌, ◌&&◌, ◌+◌};
 ghost use Rattle.cx_role.specs.Prelude.{[], true, Some, IsTrue, same_round, names_round, names_grid, IsStep, MayKeep};
@@ -6,7 +7,7 @@ ghost use Rattle.cx_model.specs.Leader.{round_of, follows, begin_in, lead_row, c
 ghost use Rattle.cx_field.specs.Fields as field;
 
 use crate::Leader;
-use crate::sending::ask_matchmakers;
+use crate::sending::ask_to_record;
 use cx_base::{Cluster, Grid, Round, Why};
 use cx_collect::Collector;
 use cx_field::{Entry, grid_fits};
@@ -31,6 +32,7 @@ pub fn round_of(own: &Option<Entry>) -> Round
     }
 }
 
+// Whether a change goes from one round on to the other.
 fn is_next(own: Round, round: Round) -> bool
     ensures { result ≡ same_round round (record own { s = own.s + 1 }) }
 {
@@ -40,6 +42,7 @@ fn is_next(own: Round, round: Round) -> bool
     }
 }
 
+// Whether a leader's last round and its next one may be these: it leads in a greater one anew, or it changes its grid.
 fn follows(own: Round, round: Round) -> bool
     ensures { result ≡ follows own round }
 {
@@ -58,7 +61,7 @@ pub fn may_begin(cluster: &Cluster, leader: u16, own: Round, round: Round, grid:
 }
 
 impl Leader {
-    // The round is kept before the matchmakers are asked to record it.
+    // The round is kept before the matchmakers are asked to record it. What was proposed stays, for a change to begin with.
     #[tactic(auto, unfolding(cx_msg::specs::Records::kept_record, cx_msg::specs::Records::round_grid))]
     fn begin<K: Keeper>(
         &mut self,
@@ -76,6 +79,7 @@ impl Leader {
             result self.new keeper.old keeper.new out.new.list }
     {
         out.room(self.set.ids().len())?;
+        // It does nothing when it runs: its contract says that the record has a spelling, the bytes it is stored as.
         grid_fits(grid);
         keep(
             keeper,
@@ -87,11 +91,11 @@ impl Leader {
         self.told.clear();
         self.phase1 = None;
         self.collector = Collector::off();
-        ask_matchmakers(self.index, round, grid, self.set.ids(), out);
+        ask_to_record(self.index, round, grid, self.set.ids(), out);
         Ok(Why::Started)
     }
 
-    /// The order to lead: a round above all that it has seen.
+    /// The order to lead: a round above all that it has seen, unless numbers end (`End`).
     #[tactic(auto, unfolding(cx_field::specs::Fields::round, cx_wire::specs::Format::u16, cx_wire::specs::Format::u32))]
     pub(crate) fn lead<K: Keeper>(
         &mut self,

@@ -1,11 +1,11 @@
-//! What a leader sends to several roles, by rising index. Room in the outbox was taken beforehand.
+//! What a leader sends to several roles, by rising index. Room in the outbox (`spare`) was taken beforehand.
 #![tactic(auto, using(cx_role::proofs::Sends::sends))]
 
 ghost use Rattle.std.specs.Prelude.{◌≡◌, ◌≤◌, ◌+◌, ◌++◌, ◌^◌};
 ghost use Rattle.cx_role.specs.Prelude.{map, length, IsTrue, Kind as KindOf, below, role, members_of, members_in};
 ghost use Rattle.cx_field.specs.Fields as field;
 ghost use Rattle.cx_model.specs.Leader.{match_a_to, phase1a_to, leads_to, propose_to, inform_to, garbage_a_to};
-ghost use Rattle.cx_leader.specs.Proposing.{IsSlot};
+ghost use Rattle.cx_leader.specs.Proposing.{IsWindowSlot};
 
 use cx_base::{Cluster, Grid, Kind, Round, Value};
 use cx_field::Entry;
@@ -15,7 +15,7 @@ use cx_phase1::Phase1;
 use cx_role::Outbox;
 
 /// Asks the matchmakers of a set to record the round and its grid.
-pub fn ask_matchmakers(leader: u16, round: Round, grid: &Grid, set: &[u16], out: &mut Outbox)
+pub fn ask_to_record(leader: u16, round: Round, grid: &Grid, set: &[u16], out: &mut Outbox)
     requires spare { length set.now ≤ out.old.spare }
     requires round { IsTrue (field.round.fits round) }
     ensures { out.new.list ≡ out.old.list ++ map (match_a_to (role Kind.Leader leader) round grid.now) set.now }
@@ -37,7 +37,7 @@ pub fn ask_to_forget(leader: u16, own: &Entry, set: &[u16], out: &mut Outbox)
 }
 
 /// Asks the acceptors of the first phase to promise the round.
-pub fn ask_acceptors(
+pub fn ask_to_promise(
     leader: u16,
     round: Round,
     cluster: &Cluster,
@@ -84,7 +84,7 @@ pub fn tell_batchers(leader: u16, round: Round, count: u16, out: &mut Outbox)
     }
 }
 
-/// The value of a slot, for the slot's proxy.
+/// The value of a slot, for the slot's proxy: the proxies take turns.
 #[tactic(auto, unfolding(cx_field::specs::Fields::slot, cx_field::specs::Fields::mark, cx_wire::specs::Format::u64))]
 pub fn proposal(
     cluster: &Cluster,
@@ -95,7 +95,7 @@ pub fn proposal(
     value: Value,
 ) -> Datagram
     requires round { IsTrue (field.round.fits own.now.round) }
-    requires slot { IsSlot cw slot }
+    requires slot { IsWindowSlot cw slot }
     requires value { IsTrue (field.value.fits value) }
     ensures { result
         ≡ propose_to cluster.now (role Kind.Leader leader) own.now cw (record { slot = slot; value = value }) }

@@ -7,15 +7,14 @@ ghost use Rattle.cx_model.specs.Leader.{stage_sends, tick_in, leader_rules};
 ghost use Rattle.cx_field.specs.Fields as field;
 
 use crate::Leader;
-use crate::sending::{
-    ask_acceptors, ask_matchmakers, ask_to_forget, inform_members, tell_batchers,
-};
+use crate::sending::{ask_to_forget, ask_to_promise, ask_to_record, inform_members, tell_batchers};
 use cx_base::{NoMemory, WINDOW_LENGTH, Why};
 use cx_field::Entry;
 use cx_model::Stage;
 use cx_role::Outbox;
 
 impl Leader {
+    /// It asks the matchmakers of the known set again, also those that have answered.
     pub(crate) fn match_again(&self, own: &Entry, out: &mut Outbox) -> Result<Why, NoMemory>
         requires round { IsTrue (field.round.fits own.now.round) }
         requires empty { out.old.list ≡ [] }
@@ -25,7 +24,7 @@ impl Leader {
     {
         let set = self.set.ids();
         out.room(set.len())?;
-        ask_matchmakers(self.index, own.round, &own.grid, set, out);
+        ask_to_record(self.index, own.round, &own.grid, set, out);
         Ok(Why::Resent)
     }
 
@@ -42,7 +41,7 @@ impl Leader {
             return Ok(Why::Resent);
         };
         out.room(usize::from(self.cluster.acceptors))?;
-        ask_acceptors(self.index, own.round, &self.cluster, phase1, out);
+        ask_to_promise(self.index, own.round, &self.cluster, phase1, out);
         Ok(Why::Resent)
     }
 
@@ -74,6 +73,7 @@ impl Leader {
             result s out.new.list }
     {
         let batchers = self.cluster.batchers;
+        // A stage asks acceptors or matchmakers: the sum is enough for either.
         let asked = usize::from(self.cluster.acceptors) + self.set.ids().len();
         out.room(WINDOW_LENGTH + usize::from(batchers) + asked)?;
         match self

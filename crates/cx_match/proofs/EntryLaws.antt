@@ -5,7 +5,7 @@ use Rattle.cx_role.proofs.Common.{same_round, Entry, entries_filter, by_test}
 use Rattle.cx_field.specs.Fields.{round, entries}
 use Rattle.cx_field.specs.Ranges.{entry_in_range}
 use Rattle.cx_field.proofs.ListLaws.{entries_apart, entries_cons}
-use Rattle.cx_model.specs.Matchmaker.{entry, entries_from, has_round, greatest, with_own}
+use Rattle.cx_model.specs.Matchmaker.{entry, entries_since, has_round, greatest, with_own}
 
 -- entries that a datagram may have are at most 255
 pub at_most_255 : (es : List Entry) → entries.fits es ≡ true → length es ≤ 255
@@ -19,19 +19,19 @@ abbrev are_above : Round → List Entry → Bool
 are_above i es = list_all (λ (e : Entry). is_before i e.round) es
 
 -- of entries from a round on, none of that round, all are above it
-above_from : (i : Round) (es : List Entry) → has_round i (entries_from i es) ≡ false
-    → are_above i (entries_from i es) ≡ true
+above_from : (i : Round) (es : List Entry) → has_round i (entries_since i es) ≡ false
+    → are_above i (entries_since i es) ≡ true
 above_from i [] none = refl
 above_from i (e ∷ es) none = grind (arith, nat_tests, above_from i es)
 
 -- a retiring round's own entry goes before the others, which leave room for it
 pub with_own_fits : (i : Round) (g : Shape) (es : List Entry) → entries.fits es ≡ true
-    → length (entries_from i es) ≤ 254 → entry_in_range (entry i g) ≡ true
-    → entries.fits (with_own i g (entries_from i es)) ≡ true
+    → length (entries_since i es) ≤ 254 → entry_in_range (entry i g) ≡ true
+    → entries.fits (with_own i g (entries_since i es)) ≡ true
 with_own_fits i g es h few own =
     let later = entries_filter (λ (e : Entry). not (is_before e.round i)) es h in
-    by_test (λ (all : List Entry). entries.fits all ≡ true) (has_round i (entries_from i es)) _ _ (λ has. later)
-    (λ none. entries_cons (entry i g) (entries_from i es) later (omega arith) own (above_from i es none))
+    by_test (λ (all : List Entry). entries.fits all ≡ true) (has_round i (entries_since i es)) _ _ (λ has. later)
+    (λ none. entries_cons (entry i g) (entries_since i es) later (omega arith) own (above_from i es none))
 
 -- and the list has an entry of that round
 pub own_round : (i : Round) (g : Shape) (es : List Entry) → has_round i (with_own i g es) ≡ true
@@ -44,7 +44,7 @@ filter_fewer q (x ∷ xs) = let rest = filter_fewer q xs in grind (arith, rest)
 
 -- an entry below a retiring round makes room for its own
 pub from_fewer : (w i : Round) (es : List Entry) → is_before w i ≡ true → has_round w es ≡ true
-    → length (entries_from i es) + 1 ≤ length es
+    → length (entries_since i es) + 1 ≤ length es
 from_fewer w i [] before has = cc
 from_fewer w i (e ∷ es) before has =
     let fewer = filter_fewer (λ (x : Entry). not (is_before x.round i)) es in

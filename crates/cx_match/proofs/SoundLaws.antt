@@ -9,8 +9,8 @@ use Rattle.cx_wire.specs.Format.{u16, u32}
 use Rattle.cx_field.specs.Fields.{goes_with, entries, grid, joined, round, round0, set}
 use Rattle.cx_msg.specs.Records.{fits, kept_record}
 use Rattle.cx_field.proofs.ListLaws.{entries_fit, entries_snoc}
-use Rattle.cx_model.specs.Matchmaker.{MatchmakerDurable, matchmaker_after, matchmaker_fits, entry, entries_from, has_round}
-use Rattle.cx_match.specs.Sound.{IsSound, durable_of}
+use Rattle.cx_model.specs.Matchmaker.{MatchmakerDurable, matchmaker_after, matchmaker_fits, entry, entries_since, has_round}
+use Rattle.cx_match.specs.Sound.{IsSound, matchmaker_durable}
 use Rattle.cx_match.proofs.EntryLaws.{at_most_255, with_own_fits, own_round, from_fewer, filter_fewer}
 
 has_room_or : (n : ℕ) (b : Bool) → n ≤ 254 → (nat_le n 254 || b) ≡ true
@@ -34,7 +34,7 @@ module _ (me : RoleId) (d : MatchmakerDurable) (i : Round) (g : Shape) (sound : 
       }
 
   -- the entries from a retiring round on leave room for its own
-  from_few : is_before d.watermark i ≡ true → length (entries_from i d.entries) ≤ 254
+  from_few : is_before d.watermark i ≡ true → length (entries_since i d.entries) ≤ 254
   from_few above =
       let most = at_most_255 d.entries sound.entries in
       let fewer = filter_fewer (λ (e : Entry). not (is_before e.round i)) d.entries in
@@ -44,7 +44,7 @@ module _ (me : RoleId) (d : MatchmakerDurable) (i : Round) (g : Shape) (sound : 
 
   pub sound_garbage : is_before d.watermark i ≡ true → IsSound me (matchmaker_after d (kept.Garbage i g))
   sound_garbage above =
-      let own = own_round i g (entries_from i d.entries) in
+      let own = own_round i g (entries_since i d.entries) in
       record {
         who = sound.who;
         watermark = real_or_none i real;
@@ -98,11 +98,11 @@ module _ (me : RoleId) (d : MatchmakerDurable) (sound : IsSound me d) where
 
   pub sound_boot : (s : List ℕ) (w : Round) (es : List Entry) → round0.fits w ≡ true → joined.fits es ≡ true
       → IsSound me (matchmaker_after d (kept.Boot s w es))
-  sound_boot s w es mark fit =
+  sound_boot s w es fits_round fit =
       let told = joined_told es fit in
       record {
         who = sound.who;
-        watermark = mark;
+        watermark = fits_round;
         entries = told.0;
         room = has_room_or (length es) (has_round w es) told.1;
         ballot = sound.ballot;
@@ -160,9 +160,9 @@ next_fits b s real fit = rw (real, fit) refl
 pub boot_fits : (s : List ℕ) (w : Round) (es : List Entry) → set.fits s ≡ true → round0.fits w ≡ true → joined.fits es ≡ true
     → fits (kept.Boot s w es) ≡ true
 unfolding kept_record
-boot_fits s w es fit mark told = rw (fit, mark, told) refl
+boot_fits s w es fit fits_round told = rw (fit, fits_round, told) refl
 
-pub empty_sound : (me : RoleId) → me ≡ role Matchmaker me.index → IsSound me (durable_of no_round [] None no_round no_round [])
+pub empty_sound : (me : RoleId) → me ≡ role Matchmaker me.index → IsSound me (matchmaker_durable no_round [] None no_round no_round [])
 unfolding round0 u16 u32
 empty_sound me who = record {
   who = who;

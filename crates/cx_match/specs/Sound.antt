@@ -5,13 +5,13 @@ use Rattle.cx_field.specs.Fields.{goes_with, round0, entries}
 use Rattle.cx_model.specs.Matchmaker.{MatchmakerDurable, has_round}
 
 -- what a matchmaker's records left, by the parts that it holds
-abbrev pub durable_of : Round → List Entry → Option (List ℕ) → Round → Round → List ℕ → MatchmakerDurable
-durable_of w es booted ballot accepted next =
+abbrev pub matchmaker_durable : Round → List Entry → Option (List ℕ) → Round → Round → List ℕ → MatchmakerDurable
+matchmaker_durable w es booted ballot accepted next =
     record { watermark = w; entries = es; booted = booted; ballot = ballot; accepted = accepted; next = next }
 
--- It is a matchmaker, its watermark is a round or none, and its entries are such as a datagram may have: at most 255, each in
+-- It is a matchmaker, its retirement watermark is a round or none, and its entries are such as a datagram may have: at most 255, each in
 -- its ranges, in the rising order of their rounds. It began with at most 254 of them, and recorded others only while there were
--- fewer than 16; one more may be of the watermark's round. Its ballots are rounds or none, and it accepted a set exactly where
+-- fewer than 16; one more may be of the retirement watermark's round. Its ballots are rounds or none, and it accepted a set exactly where
 -- it has a ballot in which it did.
 pub record IsSound (me : RoleId) (d : MatchmakerDurable) : Type 0 where
   pub who : me ≡ role Matchmaker me.index

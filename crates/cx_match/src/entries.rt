@@ -2,7 +2,7 @@
 
 ghost use Rattle.std.specs.Prelude.{◌≡◌, ◌<◌, ◌≤◌};
 ghost use Rattle.cx_role.specs.Prelude.{vec_len, vec_capacity, IfOk, IsTrue, list_all, list_any, is_before, Entry};
-ghost use Rattle.cx_model.specs.Matchmaker.{entries_before, entries_from, greatest, has_round, with_own};
+ghost use Rattle.cx_model.specs.Matchmaker.{entries_before, entries_since, greatest, has_round, with_own};
 ghost use Rattle.cx_field.specs.Fields as field;
 
 use cx_base::{Few, Grid, NoMemory, Round, copy_all};
@@ -35,7 +35,7 @@ pub fn last_round(entries: &[Entry]) -> Round
 }
 
 /// The entries of earlier rounds, as a datagram has them.
-pub fn earlier(alloc: Global, entries: &[Entry], round: Round) -> Result<Entries, NoMemory>
+pub fn earlier_entries(alloc: Global, entries: &[Entry], round: Round) -> Result<Entries, NoMemory>
     requires { IsTrue (field.entries.fits entries.now) }
     ensures earlier { IfOk result (λ list. list ≡ entries_before round entries.now) }
     ensures fit { IfOk result (λ list. IsTrue (field.entries.fits list)) }
@@ -49,7 +49,7 @@ pub fn earlier(alloc: Global, entries: &[Entry], round: Round) -> Result<Entries
 }
 
 /// All entries, as a datagram has them.
-pub fn told(alloc: Global, entries: &[Entry]) -> Result<Entries, NoMemory>
+pub fn all_entries(alloc: Global, entries: &[Entry]) -> Result<Entries, NoMemory>
     requires { IsTrue (field.entries.fits entries.now) }
     ensures { IfOk result (λ list. list ≡ entries.now) }
 {
@@ -57,7 +57,7 @@ pub fn told(alloc: Global, entries: &[Entry]) -> Result<Entries, NoMemory>
 }
 
 fn keep_from(entries: &mut Vec<Entry>, round: Round)
-    ensures items { entries.new.items ≡ entries_from round entries.old.items }
+    ensures items { entries.new.items ≡ entries_since round entries.old.items }
     ensures fewer { vec_len entries.new ≤ vec_len entries.old }
     ensures room { vec_capacity entries.new ≡ vec_capacity entries.old }
 {
@@ -68,7 +68,7 @@ fn keep_from(entries: &mut Vec<Entry>, round: Round)
 /// taken beforehand.
 pub fn retire(entries: &mut Vec<Entry>, round: Round, grid: Grid)
     requires { vec_len entries.old < vec_capacity entries.old }
-    ensures { entries.new.items ≡ with_own round grid (entries_from round entries.old.items) }
+    ensures { entries.new.items ≡ with_own round grid (entries_since round entries.old.items) }
 {
     keep_from(entries, round);
     if !has_entry(entries, round) {

@@ -34,7 +34,7 @@ pub struct Matchmaker {
 impl Model for Matchmaker {
     ghost use Rattle.cx_role.specs.Prelude.{Running};
     ghost use Rattle.cx_model.specs.Matchmaker.{MatchmakerDurable};
-    ghost use Rattle.cx_match.specs.Sound.{IsSound, durable_of};
+    ghost use Rattle.cx_match.specs.Sound.{IsSound, matchmaker_durable};
 
     ghost Value = { Running MatchmakerDurable (Unit {0}) };
 
@@ -42,11 +42,11 @@ impl Model for Matchmaker {
       cluster = m.cluster;
       me = m.me;
       live = m.live;
-      durable = durable_of m.watermark m.entries.items m.booted m.ballot m.accepted m.next;
+      durable = matchmaker_durable m.watermark m.entries.items m.booted m.ballot m.accepted m.next;
       volatile = tt;
     } };
 
-    ghost invariant = { λ m. IsSound m.me (durable_of m.watermark m.entries.items m.booted m.ballot m.accepted m.next) };
+    ghost invariant = { λ m. IsSound m.me (matchmaker_durable m.watermark m.entries.items m.booted m.ballot m.accepted m.next) };
 }
 
 impl Role for Matchmaker {

@@ -6,7 +6,7 @@ ghost use Rattle.cx_model.specs.Matchmaker.{boot_a_row, boot_in, in_set, matchma
 ghost use Rattle.cx_field.specs.Fields as field;
 
 use crate::Matchmaker;
-use crate::entries::told;
+use crate::entries::all_entries;
 use crate::records::keep_own;
 use cx_base::{Duplicate, RoleId, Round, Set, Why, copy_all};
 use cx_field::{Entries, set_fits};
@@ -35,7 +35,7 @@ impl Matchmaker {
             out.push(stop_nack(self.me.index, from.index, round, self.ballot));
             return Ok(Why::Nack);
         }
-        let entries = told(self.alloc, &self.entries)?;
+        let entries = all_entries(self.alloc, &self.entries)?;
         let (watermark, accepted, next) = (self.watermark, self.accepted, self.next);
         if round == self.ballot {
             out.push(stop_b(

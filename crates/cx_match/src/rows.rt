@@ -6,7 +6,7 @@ ghost use Rattle.cx_model.specs.Matchmaker.{at_work, garbage_a_row, matchmaker_r
 ghost use Rattle.cx_field.specs.Fields as field;
 
 use crate::Matchmaker;
-use crate::entries::{earlier, has_entry, has_later, last_round, retire, told};
+use crate::entries::{all_entries, earlier_entries, has_entry, has_later, last_round, retire};
 use crate::records::keep_own;
 use cx_base::{Grid, NoMemory, ROUNDS, RoleId, Round, Why};
 use cx_field::{Asking, Entry, NackReason};
@@ -15,7 +15,7 @@ use cx_msg::{Record, garbage_b, match_b, match_nack, match_read_ack};
 use cx_role::{Outbox, StepFault};
 
 impl Matchmaker {
-    // A round below the watermark, one below another that is recorded, and one where there are 16 or more are refused (JSys 2021;
+    // A round below the retirement watermark, one below another that is recorded, and one where there are 16 or more are refused (JSys 2021;
     // the limit is this project's own).
     fn record_round<K: Keeper>(
         &mut self,
@@ -51,7 +51,7 @@ impl Matchmaker {
             return Ok(Why::Later);
         }
         if has_entry(&self.entries, round) {
-            let entries = earlier(self.alloc, &self.entries, round)?;
+            let entries = earlier_entries(self.alloc, &self.entries, round)?;
             out.room(1)?;
             out.push(match_b(self.me.index, from.index, round, self.watermark, entries));
             return Ok(Why::Same);
@@ -62,7 +62,7 @@ impl Matchmaker {
             out.push(match_nack(self.me.index, from.index, round, NackReason::Full, last));
             return Ok(Why::Full);
         }
-        let entries = earlier(self.alloc, &self.entries, round)?;
+        let entries = earlier_entries(self.alloc, &self.entries, round)?;
         self.entries.reserve(1)?;
         out.room(1)?;
         keep_own(keeper, &mut self.live, Record::Match { round, grid })?;
@@ -162,13 +162,13 @@ impl Matchmaker {
         ensures { IsReply matchmaker_rules self.now
             (match_read_row self.now.me self.now.durable from asking) result self.now out.new.list }
     {
-        let entries = told(self.alloc, &self.entries)?;
+        let entries = all_entries(self.alloc, &self.entries)?;
         out.room(1)?;
         out.push(match_read_ack(self.me.index, from.index, asking, self.watermark, entries));
         Ok(Why::Asked)
     }
 
-    /// A reader asks for the watermark and all entries (this project's own).
+    /// A reader asks for the retirement watermark and all entries (this project's own).
     pub(crate) fn match_read(
         &self,
         from: RoleId,

@@ -19,7 +19,7 @@ use Rattle.cx_msg.specs.declared.message.Msg.TheVariants as msg
 use Rattle.cx_msg.specs.declared.kept.Record.{Record}
 use Rattle.cx_msg.specs.declared.kept.Record.TheVariants as kept
 use Rattle.cx_model.specs.Names.{names, names_round, names_value}
-use Rattle.cx_model.specs.Outcome.{Outcome, answered, replied}
+use Rattle.cx_model.specs.Outcome.{Outcome, only_word, replied}
 use Rattle.cx_model.specs.Rules.{Rules}
 
 -- the promised round, the chosen watermark, the last vote at each slot from there on by rising slot, and one more than the greatest slot that was
@@ -36,8 +36,8 @@ vote_at s [] = None
 vote_at s (v ∷ vs) = if v.slot == s then Some v else vote_at s vs
 
 -- the votes from a slot on
-abbrev pub votes_from : ℕ → List Vote → List Vote
-votes_from low vs = filter (λ (v : Vote). nat_le low v.slot) vs
+abbrev pub votes_from_slot : ℕ → List Vote → List Vote
+votes_from_slot low vs = filter (λ (v : Vote). nat_le low v.slot) vs
 
 -- the votes with one more, in the place of that of its slot or where its slot belongs
 abbrev pub with_vote : Vote → List Vote → List Vote
@@ -48,9 +48,9 @@ with_vote v (u ∷ us) =
     else u ∷ with_vote v us
 
 -- whether a vote is of this round
-abbrev pub is_of : Round → Option Vote → Bool
-is_of i None = false
-is_of i (Some v) = same_round v.round i
+abbrev pub is_of_round : Round → Option Vote → Bool
+is_of_round i None = false
+is_of_round i (Some v) = same_round v.round i
 
 abbrev pub acceptor_after : AcceptorDurable → Record → AcceptorDurable
 acceptor_after d (kept.Promise i) = record d { promise = i }
@@ -58,17 +58,17 @@ acceptor_after d (kept.Vote i s cw v) =
     record {
       promise = i;
       cw = max d.cw cw;
-      votes = with_vote (record { round = i; slot = s; value = v }) (votes_from (max d.cw cw) d.votes);
+      votes = with_vote (record { round = i; slot = s; value = v }) (votes_from_slot (max d.cw cw) d.votes);
       top = max d.top (s + 1);
     }
-acceptor_after d (kept.Water i cw) = record d { promise = i; cw = max d.cw cw; votes = votes_from (max d.cw cw) d.votes }
+acceptor_after d (kept.Water i cw) = record d { promise = i; cw = max d.cw cw; votes = votes_from_slot (max d.cw cw) d.votes }
 acceptor_after d other = d
 
 -- whether the acceptor could have appended this record
 abbrev pub acceptor_fits : Cluster → RoleId → AcceptorDurable → Record → Bool
 acceptor_fits c me d (kept.Promise i) = names_round c i && is_before d.promise i
 acceptor_fits c me d (kept.Vote i s cw v) =
-    names_round c i && names_value c v && not (is_before i d.promise) && nat_le d.cw s && in_window cw s && not (is_of i (vote_at s d.votes))
+    names_round c i && names_value c v && not (is_before i d.promise) && nat_le d.cw s && in_window cw s && not (is_of_round i (vote_at s d.votes))
 acceptor_fits c me d (kept.Water i cw) = names_round c i && not (is_before i d.promise) && (is_before d.promise i || nat_lt d.cw cw)
 acceptor_fits c me d other = false
 
@@ -93,8 +93,8 @@ phase1a_row me d from i =
 abbrev pub phase2a_row : RoleId → AcceptorDurable → RoleId → Round → ℕ → ℕ → Value → Outcome (Unit {0})
 phase2a_row me d from i s cw v =
     if is_before i d.promise then replied Nack tt (nack_to me i d.promise ∷ [])
-    else if nat_lt s d.cw then answered Past tt
-    else if is_of i (vote_at s d.votes) then replied Same tt (phase2b_to me from i s ∷ [])
+    else if nat_lt s d.cw then only_word Past tt
+    else if is_of_round i (vote_at s d.votes) then replied Same tt (phase2b_to me from i s ∷ [])
     else record { why = Voted; kept = Some (kept.Vote i s cw v); volatile = tt; sends = phase2b_to me from i s ∷ [] }
 
 abbrev pub informed_to : RoleId → RoleId → Round → ℕ → Letter
@@ -116,13 +116,13 @@ acceptor_takes me d from (msg.Phase1A i) = phase1a_row me d from i
 acceptor_takes me d from (msg.Phase2A i s cw v) = phase2a_row me d from i s cw v
 acceptor_takes me d from (msg.Inform i cw) = inform_row me d from i cw
 acceptor_takes me d from (msg.PreRead u w) = pre_read_row me d from u w
-acceptor_takes me d from other = answered Stranger tt
+acceptor_takes me d from other = only_word Stranger tt
 
 abbrev pub acceptor_row : Cluster → RoleId → AcceptorDurable → Unit {0} → Input → Outcome (Unit {0})
 acceptor_row c me d v (Take letter) =
-    if same_role letter.to me && names c letter then acceptor_takes me d letter.from letter.msg else answered Stranger tt
-acceptor_row c me d v Tick = answered Idle tt
-acceptor_row c me d v (Order order) = answered Stranger tt
+    if same_role letter.to me && names c letter then acceptor_takes me d letter.from letter.msg else only_word Stranger tt
+acceptor_row c me d v Tick = only_word Idle tt
+acceptor_row c me d v (Order order) = only_word Stranger tt
 
 -- all that an acceptor knows is durable
 abbrev pub acceptor_rules : Rules AcceptorDurable (Unit {0})

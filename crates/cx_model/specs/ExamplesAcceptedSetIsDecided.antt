@@ -10,7 +10,7 @@ use Rattle.cx_base.specs.Round.{no_round}
 use Rattle.cx_msg.specs.Letter.{letter}
 use Rattle.cx_msg.specs.declared.kept.Record.TheVariants as kept
 use Rattle.cx_msg.specs.declared.message.Msg.TheVariants as msg
-use Rattle.cx_model.specs.Examples.{Line, IsRun, one_of_each, matchmaker, replacer, round, first, replace, deliver, left, hold, ◌⇒◌, ◌keeping◌by◌, ◌sending◌}
+use Rattle.cx_model.specs.Examples.{Line, IsRun, one_of_each, matchmaker, replacer, make_round, first, replace, deliver, final_state, hold, ◌⇒◌, ◌keeping◌by◌, ◌sending◌}
 
 abbrev pub cluster : Cluster
 cluster =
@@ -29,20 +29,20 @@ cluster =
 
 -- the ballots after the first
 abbrev pub later : Round
-later = round 1 1 0
+later = make_round 1 1 0
 
 abbrev pub last : Round
-last = round 2 0 0
+last = make_round 2 0 0
 
-abbrev pub ordered : List ℕ
-ordered = 3 ∷ 4 ∷ 5 ∷ []
+abbrev pub ordered_set : List ℕ
+ordered_set = 3 ∷ 4 ∷ 5 ∷ []
 
 abbrev pub accepted : List ℕ
 accepted = 6 ∷ 7 ∷ 8 ∷ []
 
 abbrev pub story : List Line
 story =
-    replace 0 ordered ⇒ why.Started
+    replace 0 ordered_set ⇒ why.Started
     keeping kept.Ballot first by replacer 0
     sending letter (replacer 0) (matchmaker 0) (msg.StopA first)  -- 0
     sending letter (replacer 0) (matchmaker 1) (msg.StopA first)  -- 1
@@ -56,11 +56,11 @@ story =
     ∷ deliver 3 ⇒ why.Counted
     ∷ deliver 3 ⇒ why.Same
     ∷ deliver 4 ⇒ why.Asking
-    sending letter (replacer 0) (matchmaker 0) (msg.NextA first ordered)  -- 5
-    sending letter (replacer 0) (matchmaker 1) (msg.NextA first ordered)  -- 6
-    sending letter (replacer 0) (matchmaker 2) (msg.NextA first ordered)  -- 7
+    sending letter (replacer 0) (matchmaker 0) (msg.NextA first ordered_set)  -- 5
+    sending letter (replacer 0) (matchmaker 1) (msg.NextA first ordered_set)  -- 6
+    sending letter (replacer 0) (matchmaker 2) (msg.NextA first ordered_set)  -- 7
     ∷ deliver 5 ⇒ why.Accepted
-    keeping kept.Next first ordered by matchmaker 0
+    keeping kept.Next first ordered_set by matchmaker 0
     sending letter (matchmaker 0) (replacer 0) (msg.NextB first)  -- 8
     ∷ replace 1 accepted ⇒ why.Started
     keeping kept.Ballot later by replacer 1
@@ -92,14 +92,14 @@ story =
     ∷ deliver 6 ⇒ why.Nack
     sending letter (matchmaker 1) (replacer 0) (msg.StopNack first later)  -- 22
     ∷ deliver 22 ⇒ why.Nacked
-    ∷ replace 0 ordered ⇒ why.Started
+    ∷ replace 0 ordered_set ⇒ why.Started
     keeping kept.Ballot last by replacer 0
     sending letter (replacer 0) (matchmaker 0) (msg.StopA last)  -- 23
     sending letter (replacer 0) (matchmaker 1) (msg.StopA last)  -- 24
     sending letter (replacer 0) (matchmaker 2) (msg.StopA last)  -- 25
     ∷ deliver 23 ⇒ why.Halted
     keeping kept.Stop last by matchmaker 0
-    sending letter (matchmaker 0) (replacer 0) (msg.StopB last no_round [] first ordered)  -- 26
+    sending letter (matchmaker 0) (replacer 0) (msg.StopB last no_round [] first ordered_set)  -- 26
     ∷ deliver 24 ⇒ why.Halted
     keeping kept.Stop last by matchmaker 1
     sending letter (matchmaker 1) (replacer 0) (msg.StopB last no_round [] later accepted)  -- 27
@@ -125,4 +125,4 @@ story =
     ∷ []
 
 abbrev pub AcceptedSetIsDecided : Type 0
-AcceptedSetIsDecided = IsRun cluster story (left [] [] (hold 0 [] ∷ hold 0 [] ∷ []))
+AcceptedSetIsDecided = IsRun cluster story (final_state [] [] (hold 0 [] ∷ hold 0 [] ∷ []))

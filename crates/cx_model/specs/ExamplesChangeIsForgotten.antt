@@ -7,11 +7,11 @@ use Rattle.cx_base.specs.Round.{no_round}
 use Rattle.cx_msg.specs.Letter.{letter}
 use Rattle.cx_msg.specs.declared.kept.Record.TheVariants as kept
 use Rattle.cx_msg.specs.declared.message.Msg.TheVariants as msg
-use Rattle.cx_model.specs.Examples.{Line, IsRun, two_leaders, batcher, leader, matchmaker, round, first, single, lead, change, deliver, left, hold, ◌⇒◌, ◌keeping◌by◌, ◌sending◌}
+use Rattle.cx_model.specs.Examples.{Line, IsRun, two_leaders, batcher, leader, matchmaker, make_round, first, single, lead, change, deliver, final_state, hold, ◌⇒◌, ◌keeping◌by◌, ◌sending◌}
 use Rattle.cx_model.specs.Matchmaker.{entry}
 
 abbrev pub changed : Round
-changed = round 1 0 1
+changed = make_round 1 0 1
 
 abbrev pub story : List Line
 story =
@@ -35,4 +35,4 @@ story =
     ∷ []
 
 abbrev pub ChangeIsForgotten : Type 0
-ChangeIsForgotten = IsRun two_leaders story (left [] [] (hold 0 [] ∷ []))
+ChangeIsForgotten = IsRun two_leaders story (final_state [] [] (hold 0 [] ∷ []))

@@ -12,7 +12,7 @@ use Rattle.cx_base.specs.Round.{no_round}
 use Rattle.cx_msg.specs.Letter.{letter}
 use Rattle.cx_msg.specs.declared.kept.Record.TheVariants as kept
 use Rattle.cx_msg.specs.declared.message.Msg.TheVariants as msg
-use Rattle.cx_model.specs.Examples.{Line, IsRun, two_leaders, client, batcher, leader, proxy, acceptor, matchmaker, replica, unbatcher, round, first, single, put, put_a, only, answered, lead, change, deliver, left, hold, pair, ◌⇒◌, ◌keeping◌by◌, ◌sending◌}
+use Rattle.cx_model.specs.Examples.{Line, IsRun, two_leaders, client, batcher, leader, proxy, acceptor, matchmaker, replica, unbatcher, make_round, first, single, make_put, put_a, batch_of, answered, lead, change, deliver, final_state, hold, make_pair, ◌⇒◌, ◌keeping◌by◌, ◌sending◌}
 use Rattle.cx_model.specs.Matchmaker.{entry}
 
 abbrev pub cluster : Cluster
@@ -24,13 +24,13 @@ cluster =
     }
 
 abbrev pub changed : Round
-changed = round 1 0 1
+changed = make_round 1 0 1
 
 abbrev pub later : Round
-later = round 1 1 0
+later = make_round 1 1 0
 
 abbrev pub put_b : Command
-put_b = put 0 2 (codes "b") (codes "2")
+put_b = make_put 0 2 (codes "b") (codes "2")
 
 abbrev pub story : List Line
 story =
@@ -74,17 +74,17 @@ story =
     ∷ deliver 14 ⇒ why.Batched
     sending letter (batcher 0) (leader 1) (msg.Batch (put_a ∷ []))  -- 15
     ∷ deliver 15 ⇒ why.Proposed
-    sending letter (leader 1) (proxy 0) (msg.Propose later (single 1) 0 0 (only put_a))  -- 16
+    sending letter (leader 1) (proxy 0) (msg.Propose later (single 1) 0 0 (batch_of put_a))  -- 16
     ∷ deliver 16 ⇒ why.Asking
-    sending letter (proxy 0) (acceptor 1) (msg.Phase2A later 0 0 (only put_a))  -- 17
+    sending letter (proxy 0) (acceptor 1) (msg.Phase2A later 0 0 (batch_of put_a))  -- 17
     ∷ deliver 17 ⇒ why.Voted
-    keeping kept.Vote later 0 0 (only put_a) by acceptor 1
+    keeping kept.Vote later 0 0 (batch_of put_a) by acceptor 1
     sending letter (acceptor 1) (proxy 0) (msg.Phase2B later 0)  -- 18
     ∷ deliver 18 ⇒ why.Chosen
-    sending letter (proxy 0) (replica 0) (msg.Chosen 0 (only put_a))  -- 19
+    sending letter (proxy 0) (replica 0) (msg.Chosen 0 (batch_of put_a))  -- 19
     sending letter (proxy 0) (leader 1) (msg.ChosenIn later 0)  -- 20
     ∷ deliver 19 ⇒ why.Applied
-    keeping kept.Log (only put_a ∷ []) by replica 0
+    keeping kept.Log (batch_of put_a ∷ []) by replica 0
     sending letter (replica 0) (unbatcher 0) (msg.Results 0 (answered 0 1 1 Okay ∷ []))  -- 21
     ∷ event.Tick (replica 0) ⇒ why.Resent
     sending letter (replica 0) (leader 0) (msg.Held 1)  -- 22
@@ -99,12 +99,12 @@ story =
     ∷ deliver 26 ⇒ why.Batched
     sending letter (batcher 1) (leader 0) (msg.Batch (put_b ∷ []))  -- 27
     ∷ deliver 27 ⇒ why.Proposed
-    sending letter (leader 0) (proxy 0) (msg.Propose changed (single 1) 1 1 (only put_b))  -- 28
+    sending letter (leader 0) (proxy 0) (msg.Propose changed (single 1) 1 1 (batch_of put_b))  -- 28
     ∷ deliver 28 ⇒ why.Asking
-    sending letter (proxy 0) (acceptor 1) (msg.Phase2A changed 1 1 (only put_b))  -- 29
+    sending letter (proxy 0) (acceptor 1) (msg.Phase2A changed 1 1 (batch_of put_b))  -- 29
     ∷ deliver 29 ⇒ why.Nack
     sending letter (acceptor 1) (leader 0) (msg.Nack changed later)  -- 30
     ∷ []
 
 abbrev pub ChangeJumpsOverHeldSlots : Type 0
-ChangeJumpsOverHeldSlots = IsRun cluster story (left (only put_a ∷ []) (true ∷ []) (hold 1 (pair (codes "a") (codes "1") ∷ []) ∷ []))
+ChangeJumpsOverHeldSlots = IsRun cluster story (final_state (batch_of put_a ∷ []) (true ∷ []) (hold 1 (make_pair (codes "a") (codes "1") ∷ []) ∷ []))

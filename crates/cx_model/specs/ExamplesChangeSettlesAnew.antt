@@ -7,18 +7,18 @@ use Rattle.cx_base.specs.Round.{no_round}
 use Rattle.cx_msg.specs.Letter.{letter}
 use Rattle.cx_msg.specs.declared.kept.Record.TheVariants as kept
 use Rattle.cx_msg.specs.declared.message.Msg.TheVariants as msg
-use Rattle.cx_model.specs.Examples.{Line, IsRun, two_acceptors, batcher, leader, proxy, acceptor, matchmaker, replica, round, first, single, put_a, only, change, collect, deliver, left, hold, ◌⇒◌, ◌keeping◌by◌, ◌sending◌}
+use Rattle.cx_model.specs.Examples.{Line, IsRun, two_acceptors, batcher, leader, proxy, acceptor, matchmaker, replica, make_round, first, single, put_a, batch_of, change, collect, deliver, final_state, hold, ◌⇒◌, ◌keeping◌by◌, ◌sending◌}
 use Rattle.cx_model.specs.Matchmaker.{entry}
 use Rattle.cx_model.specs.ExamplesOnePut.{voted}
 
 abbrev pub changed : Round
-changed = round 1 0 1
+changed = make_round 1 0 1
 
 abbrev pub story : List Line
 story =
     voted ++
     deliver 7 ⇒ why.Chosen
-    sending letter (proxy 0) (replica 0) (msg.Chosen 0 (only put_a))  -- 8
+    sending letter (proxy 0) (replica 0) (msg.Chosen 0 (batch_of put_a))  -- 8
     sending letter (proxy 0) (leader 0) (msg.ChosenIn first 0)  -- 9
     ∷ deliver 9 ⇒ why.Chosen
     ∷ change 0 (single 1) ⇒ why.Started
@@ -28,17 +28,17 @@ story =
     keeping kept.Match changed (single 1) by matchmaker 0
     sending letter (matchmaker 0) (leader 0) (msg.MatchB changed no_round (entry first (single 0) ∷ []))  -- 11
     ∷ deliver 11 ⇒ why.Bypassed
-    sending letter (leader 0) (proxy 0) (msg.Propose changed (single 1) 0 0 (only put_a))  -- 12
+    sending letter (leader 0) (proxy 0) (msg.Propose changed (single 1) 0 0 (batch_of put_a))  -- 12
     sending letter (leader 0) (batcher 0) (msg.Leads changed)  -- 13
     ∷ collect 0 ⇒ why.Waiting
     ∷ deliver 9 ⇒ why.Old
     ∷ deliver 12 ⇒ why.Asking
-    sending letter (proxy 0) (acceptor 1) (msg.Phase2A changed 0 0 (only put_a))  -- 14
+    sending letter (proxy 0) (acceptor 1) (msg.Phase2A changed 0 0 (batch_of put_a))  -- 14
     ∷ deliver 14 ⇒ why.Voted
-    keeping kept.Vote changed 0 0 (only put_a) by acceptor 1
+    keeping kept.Vote changed 0 0 (batch_of put_a) by acceptor 1
     sending letter (acceptor 1) (proxy 0) (msg.Phase2B changed 0)  -- 15
     ∷ deliver 15 ⇒ why.Chosen
-    sending letter (proxy 0) (replica 0) (msg.Chosen 0 (only put_a))  -- 16
+    sending letter (proxy 0) (replica 0) (msg.Chosen 0 (batch_of put_a))  -- 16
     sending letter (proxy 0) (leader 0) (msg.ChosenIn changed 0)  -- 17
     ∷ collect 0 ⇒ why.Waiting
     ∷ deliver 17 ⇒ why.Chosen
@@ -47,4 +47,4 @@ story =
     ∷ []
 
 abbrev pub ChangeSettlesAnew : Type 0
-ChangeSettlesAnew = IsRun two_acceptors story (left (only put_a ∷ []) (true ∷ []) (hold 0 [] ∷ []))
+ChangeSettlesAnew = IsRun two_acceptors story (final_state (batch_of put_a ∷ []) (true ∷ []) (hold 0 [] ∷ []))

@@ -7,7 +7,7 @@ use Rattle.cx_base.specs.declared.why.Why.TheVariants as why
 use Rattle.cx_msg.specs.Letter.{letter}
 use Rattle.cx_msg.specs.declared.kept.Record.TheVariants as kept
 use Rattle.cx_msg.specs.declared.message.Msg.TheVariants as msg
-use Rattle.cx_model.specs.Examples.{Line, IsRun, one_of_each, client, matchmaker, reader, deliver, left, hold, ◌⇒◌, ◌keeping◌by◌, ◌sending◌}
+use Rattle.cx_model.specs.Examples.{Line, IsRun, one_of_each, client, matchmaker, reader, deliver, final_state, hold, ◌⇒◌, ◌keeping◌by◌, ◌sending◌}
 use Rattle.cx_model.specs.Reader.{asking}
 
 abbrev pub story : List Line
@@ -27,4 +27,4 @@ story =
     ∷ []
 
 abbrev pub CutTurn : Type 0
-CutTurn = IsRun one_of_each story (left [] [] (hold 0 [] ∷ []))
+CutTurn = IsRun one_of_each story (final_state [] [] (hold 0 [] ∷ []))

@@ -12,9 +12,9 @@ use Rattle.cx_base.specs.Round.{no_round}
 use Rattle.cx_msg.specs.Letter.{letter}
 use Rattle.cx_msg.specs.declared.kept.Record.TheVariants as kept
 use Rattle.cx_msg.specs.declared.message.Msg.TheVariants as msg
-use Rattle.cx_model.specs.Examples.{Line, IsRun, one_of_each, client, batcher, leader, proxy, acceptor, matchmaker, replica, unbatcher, reader, round, first, put_a, only, vote, answered, lead, deliver, left, hold, pair, ◌⇒◌, ◌keeping◌by◌, ◌sending◌}
+use Rattle.cx_model.specs.Examples.{Line, IsRun, one_of_each, client, batcher, leader, proxy, acceptor, matchmaker, replica, unbatcher, reader, make_round, first, put_a, batch_of, make_vote, answered, lead, deliver, final_state, hold, make_pair, ◌⇒◌, ◌keeping◌by◌, ◌sending◌}
 use Rattle.cx_model.specs.Matchmaker.{entry}
-use Rattle.cx_model.specs.Reader.{asking, token}
+use Rattle.cx_model.specs.Reader.{asking, make_token}
 
 abbrev pub cluster : Cluster
 cluster =
@@ -42,7 +42,7 @@ abbrev pub high_row : Shape
 high_row = make_grid 1 2 (2 ∷ 3 ∷ [])
 
 abbrev pub later : Round
-later = round 1 1 0
+later = make_round 1 1 0
 
 abbrev pub story : List Line
 story =
@@ -67,12 +67,12 @@ story =
     ∷ deliver 6 ⇒ why.Batched
     sending letter (batcher 0) (leader 0) (msg.Batch (put_a ∷ []))  -- 7
     ∷ deliver 7 ⇒ why.Proposed
-    sending letter (leader 0) (proxy 0) (msg.Propose first low_row 0 0 (only put_a))  -- 8
+    sending letter (leader 0) (proxy 0) (msg.Propose first low_row 0 0 (batch_of put_a))  -- 8
     ∷ deliver 8 ⇒ why.Asking
-    sending letter (proxy 0) (acceptor 0) (msg.Phase2A first 0 0 (only put_a))  -- 9
+    sending letter (proxy 0) (acceptor 0) (msg.Phase2A first 0 0 (batch_of put_a))  -- 9
     ∷ deliver 8 ⇒ why.Same
     ∷ deliver 9 ⇒ why.Voted
-    keeping kept.Vote first 0 0 (only put_a) by acceptor 0
+    keeping kept.Vote first 0 0 (batch_of put_a) by acceptor 0
     sending letter (acceptor 0) (proxy 0) (msg.Phase2B first 0)  -- 10
     ∷ lead 1 high_row ⇒ why.Started
     keeping kept.Round later high_row by leader 1
@@ -91,28 +91,28 @@ story =
     sending letter (leader 1) (acceptor 1) (msg.Phase1A later)  -- 17
     ∷ deliver 16 ⇒ why.Promised
     keeping kept.Promise later by acceptor 0
-    sending letter (acceptor 0) (leader 1) (msg.Phase1B later 0 (vote first 0 (only put_a) ∷ []))  -- 18
+    sending letter (acceptor 0) (leader 1) (msg.Phase1B later 0 (make_vote first 0 (batch_of put_a) ∷ []))  -- 18
     ∷ deliver 16 ⇒ why.Same
-    sending letter (acceptor 0) (leader 1) (msg.Phase1B later 0 (vote first 0 (only put_a) ∷ []))  -- 19
+    sending letter (acceptor 0) (leader 1) (msg.Phase1B later 0 (make_vote first 0 (batch_of put_a) ∷ []))  -- 19
     ∷ deliver 18 ⇒ why.Counted
     ∷ deliver 19 ⇒ why.Same
     ∷ deliver 17 ⇒ why.Promised
     keeping kept.Promise later by acceptor 1
     sending letter (acceptor 1) (leader 1) (msg.Phase1B later 0 [])  -- 20
     ∷ deliver 20 ⇒ why.Leads
-    sending letter (leader 1) (proxy 0) (msg.Propose later high_row 0 0 (only put_a))  -- 21
+    sending letter (leader 1) (proxy 0) (msg.Propose later high_row 0 0 (batch_of put_a))  -- 21
     sending letter (leader 1) (batcher 0) (msg.Leads later)  -- 22
     ∷ deliver 20 ⇒ why.Old
     ∷ deliver 21 ⇒ why.Asking
-    sending letter (proxy 0) (acceptor 2) (msg.Phase2A later 0 0 (only put_a))  -- 23
+    sending letter (proxy 0) (acceptor 2) (msg.Phase2A later 0 0 (batch_of put_a))  -- 23
     ∷ deliver 8 ⇒ why.Old
     ∷ deliver 10 ⇒ why.Unasked
     ∷ deliver 23 ⇒ why.Voted
-    keeping kept.Vote later 0 0 (only put_a) by acceptor 2
+    keeping kept.Vote later 0 0 (batch_of put_a) by acceptor 2
     sending letter (acceptor 2) (proxy 0) (msg.Phase2B later 0)  -- 24
     ∷ deliver 24 ⇒ why.Chosen
-    sending letter (proxy 0) (replica 0) (msg.Chosen 0 (only put_a))  -- 25
-    sending letter (proxy 0) (replica 1) (msg.Chosen 0 (only put_a))  -- 26
+    sending letter (proxy 0) (replica 0) (msg.Chosen 0 (batch_of put_a))  -- 25
+    sending letter (proxy 0) (replica 1) (msg.Chosen 0 (batch_of put_a))  -- 26
     sending letter (proxy 0) (leader 1) (msg.ChosenIn later 0)  -- 27
     ∷ deliver 27 ⇒ why.Chosen
     ∷ deliver 27 ⇒ why.Same
@@ -150,12 +150,12 @@ story =
     ∷ deliver 41 ⇒ why.Same
     ∷ deliver 38 ⇒ why.Counted
     ∷ deliver 39 ⇒ why.Sent
-    sending letter (reader 0) (replica 0) (msg.Read (token 0 2) 1 (codes "a"))  -- 42
+    sending letter (reader 0) (replica 0) (msg.Read (make_token 0 2) 1 (codes "a"))  -- 42
     ∷ deliver 39 ⇒ why.Unasked
     ∷ deliver 42 ⇒ why.Deferred
     ∷ deliver 42 ⇒ why.Same
     ∷ deliver 25 ⇒ why.Applied
-    keeping kept.Log (only put_a ∷ []) by replica 0
+    keeping kept.Log (batch_of put_a ∷ []) by replica 0
     sending letter (replica 0) (unbatcher 0) (msg.Results 0 (answered 0 1 1 Okay ∷ []))  -- 43
     sending letter (replica 0) (client 0) (msg.ReadAnswer 2 1 (Some (codes "1")))  -- 44
     ∷ deliver 25 ⇒ why.Past
@@ -164,5 +164,5 @@ story =
 abbrev pub EachAnswerCountsOnce : Type 0
 EachAnswerCountsOnce =
     IsRun cluster story
-    (left (only put_a ∷ []) (true ∷ [])
-    (hold 1 (pair (codes "a") (codes "1") ∷ []) ∷ hold 0 [] ∷ []))
+    (final_state (batch_of put_a ∷ []) (true ∷ [])
+    (hold 1 (make_pair (codes "a") (codes "1") ∷ []) ∷ hold 0 [] ∷ []))

@@ -6,8 +6,8 @@ use Rattle.cx_base.specs.Round.{no_round}
 use Rattle.cx_msg.specs.Letter.{letter}
 use Rattle.cx_msg.specs.declared.kept.Record.TheVariants as kept
 use Rattle.cx_msg.specs.declared.message.Msg.TheVariants as msg
-use Rattle.cx_model.specs.Examples.{Line, IsRun, matchmaker, replica, reader, deliver, left, hold, ◌⇒◌, ◌keeping◌by◌, ◌sending◌}
-use Rattle.cx_model.specs.Reader.{asking, token}
+use Rattle.cx_model.specs.Examples.{Line, IsRun, matchmaker, replica, reader, deliver, final_state, hold, ◌⇒◌, ◌keeping◌by◌, ◌sending◌}
+use Rattle.cx_model.specs.Reader.{asking, make_token}
 use Rattle.cx_model.specs.ExamplesLaterReadsWait.{cluster, begun}
 
 abbrev pub story : List Line
@@ -26,10 +26,10 @@ story =
     sending letter (matchmaker 0) (reader 0) (msg.MatchReadAck (asking 0 2) no_round [])  -- 6
     ∷ deliver 6 ⇒ why.Sent
     keeping kept.Turn 3 by reader 0
-    sending letter (reader 0) (replica 0) (msg.Read (token 0 1) 0 (codes "a"))  -- 7
-    sending letter (reader 0) (replica 0) (msg.Read (token 1 1) 0 (codes "a"))  -- 8
+    sending letter (reader 0) (replica 0) (msg.Read (make_token 0 1) 0 (codes "a"))  -- 7
+    sending letter (reader 0) (replica 0) (msg.Read (make_token 1 1) 0 (codes "a"))  -- 8
     sending letter (reader 0) (matchmaker 0) (msg.MatchRead (asking 0 3))  -- 9
     ∷ []
 
 abbrev pub FirstReadAgain : Type 0
-FirstReadAgain = IsRun cluster story (left [] [] (hold 0 [] ∷ []))
+FirstReadAgain = IsRun cluster story (final_state [] [] (hold 0 [] ∷ []))

@@ -8,8 +8,8 @@ use Rattle.cx_base.specs.Round.{no_round}
 use Rattle.cx_msg.specs.Letter.{letter}
 use Rattle.cx_msg.specs.declared.kept.Record.TheVariants as kept
 use Rattle.cx_msg.specs.declared.message.Msg.TheVariants as msg
-use Rattle.cx_model.specs.Examples.{Line, IsRun, one_of_each, client, matchmaker, replica, reader, deliver, left, hold, ◌⇒◌, ◌keeping◌by◌, ◌sending◌}
-use Rattle.cx_model.specs.Reader.{asking, token}
+use Rattle.cx_model.specs.Examples.{Line, IsRun, one_of_each, client, matchmaker, replica, reader, deliver, final_state, hold, ◌⇒◌, ◌keeping◌by◌, ◌sending◌}
+use Rattle.cx_model.specs.Reader.{asking, make_token}
 
 abbrev pub cluster : Cluster
 cluster =
@@ -42,16 +42,16 @@ story =
     sending letter (matchmaker 0) (reader 0) (msg.MatchReadAck (asking 0 1) no_round [])  -- 4
     ∷ deliver 4 ⇒ why.Sent
     keeping kept.Turn 2 by reader 0
-    sending letter (reader 0) (replica 0) (msg.Read (token 0 1) 0 (codes "a"))  -- 5
+    sending letter (reader 0) (replica 0) (msg.Read (make_token 0 1) 0 (codes "a"))  -- 5
     sending letter (reader 0) (matchmaker 0) (msg.MatchRead (asking 0 2))  -- 6
     ∷ deliver 6 ⇒ why.Asked
     sending letter (matchmaker 0) (reader 0) (msg.MatchReadAck (asking 0 2) no_round [])  -- 7
     ∷ deliver 7 ⇒ why.Sent
-    sending letter (reader 0) (replica 0) (msg.Read (token 1 1) 0 (codes "a"))  -- 8
-    sending letter (reader 0) (replica 0) (msg.Read (token 2 1) 0 (codes "a"))  -- 9
+    sending letter (reader 0) (replica 0) (msg.Read (make_token 1 1) 0 (codes "a"))  -- 8
+    sending letter (reader 0) (replica 0) (msg.Read (make_token 2 1) 0 (codes "a"))  -- 9
     ∷ deliver 5 ⇒ why.Answered
     sending letter (replica 0) (client 0) (msg.ReadAnswer 1 0 None)  -- 10
     ∷ []
 
 abbrev pub LaterReadsWait : Type 0
-LaterReadsWait = IsRun cluster story (left [] [] (hold 0 [] ∷ []))
+LaterReadsWait = IsRun cluster story (final_state [] [] (hold 0 [] ∷ []))

@@ -9,7 +9,7 @@ use Rattle.cx_base.specs.Round.{no_round}
 use Rattle.cx_msg.specs.Letter.{letter}
 use Rattle.cx_msg.specs.declared.kept.Record.TheVariants as kept
 use Rattle.cx_msg.specs.declared.message.Msg.TheVariants as msg
-use Rattle.cx_model.specs.Examples.{Line, IsRun, one_of_each, batcher, leader, acceptor, matchmaker, reader, replacer, round, first, single, lead, replace, deliver, left, hold, ◌⇒◌, ◌keeping◌by◌, ◌sending◌}
+use Rattle.cx_model.specs.Examples.{Line, IsRun, one_of_each, batcher, leader, acceptor, matchmaker, reader, replacer, make_round, first, single, lead, replace, deliver, final_state, hold, ◌⇒◌, ◌keeping◌by◌, ◌sending◌}
 use Rattle.cx_model.specs.Matchmaker.{entry}
 
 abbrev pub cluster : Cluster
@@ -23,11 +23,11 @@ cluster =
     }
 
 -- the second matchmaker
-abbrev pub second : List ℕ
-second = 1 ∷ []
+abbrev pub second_matchmaker : List ℕ
+second_matchmaker = 1 ∷ []
 
 abbrev pub again : Round
-again = round 2 0 0
+again = make_round 2 0 0
 
 abbrev pub story : List Line
 story =
@@ -39,25 +39,25 @@ story =
     sending letter (matchmaker 0) (leader 0) (msg.MatchB first no_round [])  -- 1
     ∷ deliver 1 ⇒ why.Leads
     sending letter (leader 0) (batcher 0) (msg.Leads first)  -- 2
-    ∷ replace 0 second ⇒ why.Started
+    ∷ replace 0 second_matchmaker ⇒ why.Started
     keeping kept.Ballot first by replacer 0
     sending letter (replacer 0) (matchmaker 0) (msg.StopA first)  -- 3
     ∷ deliver 3 ⇒ why.Halted
     keeping kept.Stop first by matchmaker 0
     sending letter (matchmaker 0) (replacer 0) (msg.StopB first no_round (entry first (single 0) ∷ []) no_round [])  -- 4
     ∷ deliver 4 ⇒ why.Asking
-    sending letter (replacer 0) (matchmaker 0) (msg.NextA first second)  -- 5
+    sending letter (replacer 0) (matchmaker 0) (msg.NextA first second_matchmaker)  -- 5
     ∷ deliver 5 ⇒ why.Accepted
-    keeping kept.Next first second by matchmaker 0
+    keeping kept.Next first second_matchmaker by matchmaker 0
     sending letter (matchmaker 0) (replacer 0) (msg.NextB first)  -- 6
     ∷ deliver 6 ⇒ why.Decided
-    sending letter (replacer 0) (matchmaker 1) (msg.BootA second no_round (entry first (single 0) ∷ []))  -- 7
+    sending letter (replacer 0) (matchmaker 1) (msg.BootA second_matchmaker no_round (entry first (single 0) ∷ []))  -- 7
     ∷ deliver 7 ⇒ why.Booted
-    keeping kept.Boot second no_round (entry first (single 0) ∷ []) by matchmaker 1
-    sending letter (matchmaker 1) (replacer 0) (msg.BootB second)  -- 8
+    keeping kept.Boot second_matchmaker no_round (entry first (single 0) ∷ []) by matchmaker 1
+    sending letter (matchmaker 1) (replacer 0) (msg.BootB second_matchmaker)  -- 8
     ∷ deliver 8 ⇒ why.Replaced
-    sending letter (replacer 0) (leader 0) (msg.Sets second)  -- 9
-    sending letter (replacer 0) (reader 0) (msg.Sets second)  -- 10
+    sending letter (replacer 0) (leader 0) (msg.Sets second_matchmaker)  -- 9
+    sending letter (replacer 0) (reader 0) (msg.Sets second_matchmaker)  -- 10
     ∷ deliver 0 ⇒ why.Stopped
     ∷ lead 0 (single 0) ⇒ why.Started
     keeping kept.Round again (single 0) by leader 0
@@ -73,4 +73,4 @@ story =
     ∷ []
 
 abbrev pub MatchmakersAreReplaced : Type 0
-MatchmakersAreReplaced = IsRun cluster story (left [] [] (hold 0 [] ∷ []))
+MatchmakersAreReplaced = IsRun cluster story (final_state [] [] (hold 0 [] ∷ []))

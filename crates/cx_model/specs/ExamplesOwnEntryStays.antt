@@ -12,9 +12,9 @@ use Rattle.cx_field.specs.declared.parts.NackReason.TheVariants as nack
 use Rattle.cx_msg.specs.Letter.{letter}
 use Rattle.cx_msg.specs.declared.kept.Record.TheVariants as kept
 use Rattle.cx_msg.specs.declared.message.Msg.TheVariants as msg
-use Rattle.cx_model.specs.Examples.{Line, IsRun, one_of_each, client, batcher, leader, acceptor, matchmaker, replica, reader, round, first, single, lead, collect, deliver, left, hold, ◌⇒◌, ◌keeping◌by◌, ◌sending◌}
+use Rattle.cx_model.specs.Examples.{Line, IsRun, one_of_each, client, batcher, leader, acceptor, matchmaker, replica, reader, make_round, first, single, lead, collect, deliver, final_state, hold, ◌⇒◌, ◌keeping◌by◌, ◌sending◌}
 use Rattle.cx_model.specs.Matchmaker.{entry}
-use Rattle.cx_model.specs.Reader.{asking, token}
+use Rattle.cx_model.specs.Reader.{asking, make_token}
 
 abbrev pub cluster : Cluster
 cluster =
@@ -33,7 +33,7 @@ cluster =
     }
 
 abbrev pub next : Round
-next = round 2 0 0
+next = make_round 2 0 0
 
 abbrev pub column : Shape
 column = make_grid 2 1 (1 ∷ 2 ∷ [])
@@ -119,11 +119,11 @@ story =
     ∷ deliver 31 ⇒ why.Asked
     sending letter (acceptor 1) (reader 0) (msg.PreReadAck (asking 0 1) next 0)  -- 33
     ∷ deliver 33 ⇒ why.Sent
-    sending letter (reader 0) (replica 0) (msg.Read (token 0 1) 0 (codes "a"))  -- 34
+    sending letter (reader 0) (replica 0) (msg.Read (make_token 0 1) 0 (codes "a"))  -- 34
     ∷ deliver 34 ⇒ why.Answered
     sending letter (replica 0) (client 0) (msg.ReadAnswer 1 0 None)  -- 35
     ∷ deliver 35 ⇒ why.Heard
     ∷ []
 
 abbrev pub OwnEntryStays : Type 0
-OwnEntryStays = IsRun cluster story (left [] [] (hold 0 [] ∷ hold 0 [] ∷ []))
+OwnEntryStays = IsRun cluster story (final_state [] [] (hold 0 [] ∷ hold 0 [] ∷ []))

@@ -9,8 +9,8 @@ use Rattle.cx_base.specs.Round.{no_round}
 use Rattle.cx_msg.specs.Letter.{letter}
 use Rattle.cx_msg.specs.declared.kept.Record.TheVariants as kept
 use Rattle.cx_msg.specs.declared.message.Msg.TheVariants as msg
-use Rattle.cx_model.specs.Examples.{Line, IsRun, one_of_each, client, leader, matchmaker, replica, reader, replacer, first, replace, deliver, left, hold, ◌⇒◌, ◌keeping◌by◌, ◌sending◌}
-use Rattle.cx_model.specs.Reader.{asking, token}
+use Rattle.cx_model.specs.Examples.{Line, IsRun, one_of_each, client, leader, matchmaker, replica, reader, replacer, first, replace, deliver, final_state, hold, ◌⇒◌, ◌keeping◌by◌, ◌sending◌}
+use Rattle.cx_model.specs.Reader.{asking, make_token}
 
 abbrev pub cluster : Cluster
 cluster =
@@ -99,8 +99,8 @@ story =
     ∷ deliver 27 ⇒ why.Counted
     ∷ deliver 27 ⇒ why.Same
     ∷ deliver 28 ⇒ why.Sent
-    sending letter (reader 0) (replica 0) (msg.Read (token 0 1) 0 (codes "a"))  -- 29
+    sending letter (reader 0) (replica 0) (msg.Read (make_token 0 1) 0 (codes "a"))  -- 29
     ∷ []
 
 abbrev pub ReadAsksTheNextSet : Type 0
-ReadAsksTheNextSet = IsRun cluster story (left [] [] (hold 0 [] ∷ hold 0 [] ∷ []))
+ReadAsksTheNextSet = IsRun cluster story (final_state [] [] (hold 0 [] ∷ hold 0 [] ∷ []))

@@ -8,18 +8,18 @@ use Rattle.cx_field.specs.declared.parts.NackReason.TheVariants as nack
 use Rattle.cx_msg.specs.Letter.{letter}
 use Rattle.cx_msg.specs.declared.kept.Record.TheVariants as kept
 use Rattle.cx_msg.specs.declared.message.Msg.TheVariants as msg
-use Rattle.cx_model.specs.Examples.{Line, IsRun, two_leaders, batcher, leader, proxy, acceptor, matchmaker, round, first, single, put_a, only, vote, lead, change, deliver, left, hold, ◌⇒◌, ◌keeping◌by◌, ◌sending◌}
+use Rattle.cx_model.specs.Examples.{Line, IsRun, two_leaders, batcher, leader, proxy, acceptor, matchmaker, make_round, first, single, put_a, batch_of, make_vote, lead, change, deliver, final_state, hold, ◌⇒◌, ◌keeping◌by◌, ◌sending◌}
 use Rattle.cx_model.specs.Matchmaker.{entry}
 use Rattle.cx_model.specs.ExamplesOnePut.{voted}
 
 abbrev pub changed : Round
-changed = round 1 0 1
+changed = make_round 1 0 1
 
 abbrev pub later : Round
-later = round 1 1 0
+later = make_round 1 1 0
 
 abbrev pub anew : Round
-anew = round 2 0 0
+anew = make_round 2 0 0
 
 abbrev pub story : List Line
 story =
@@ -48,15 +48,15 @@ story =
     sending letter (leader 0) (acceptor 1) (msg.Phase1A anew)  -- 15
     ∷ deliver 14 ⇒ why.Promised
     keeping kept.Promise anew by acceptor 0
-    sending letter (acceptor 0) (leader 0) (msg.Phase1B anew 0 (vote first 0 (only put_a) ∷ []))  -- 16
+    sending letter (acceptor 0) (leader 0) (msg.Phase1B anew 0 (make_vote first 0 (batch_of put_a) ∷ []))  -- 16
     ∷ deliver 15 ⇒ why.Promised
     keeping kept.Promise anew by acceptor 1
     sending letter (acceptor 1) (leader 0) (msg.Phase1B anew 0 [])  -- 17
     ∷ deliver 16 ⇒ why.Counted
     ∷ deliver 17 ⇒ why.Leads
-    sending letter (leader 0) (proxy 0) (msg.Propose anew (single 0) 0 0 (only put_a))  -- 18
+    sending letter (leader 0) (proxy 0) (msg.Propose anew (single 0) 0 0 (batch_of put_a))  -- 18
     sending letter (leader 0) (batcher 0) (msg.Leads anew)  -- 19
     ∷ []
 
 abbrev pub RefusedChange : Type 0
-RefusedChange = IsRun two_leaders story (left (only put_a ∷ []) (true ∷ []) (hold 0 [] ∷ []))
+RefusedChange = IsRun two_leaders story (final_state (batch_of put_a ∷ []) (true ∷ []) (hold 0 [] ∷ []))

@@ -13,7 +13,7 @@ use Rattle.cx_base.specs.Round.{no_round}
 use Rattle.cx_msg.specs.Letter.{letter}
 use Rattle.cx_msg.specs.declared.kept.Record.TheVariants as kept
 use Rattle.cx_msg.specs.declared.message.Msg.TheVariants as msg
-use Rattle.cx_model.specs.Examples.{Line, IsRun, one_of_each, client, batcher, leader, proxy, acceptor, matchmaker, replica, unbatcher, first, single, put, app, telling, put_a, answered, lead, deliver, left, hold, pair, ◌⇒◌, ◌keeping◌by◌, ◌sending◌}
+use Rattle.cx_model.specs.Examples.{Line, IsRun, one_of_each, client, batcher, leader, proxy, acceptor, matchmaker, replica, unbatcher, first, single, make_put, app, command_with_floor, put_a, answered, lead, deliver, final_state, hold, make_pair, ◌⇒◌, ◌keeping◌by◌, ◌sending◌}
 
 abbrev pub cluster : Cluster
 cluster =
@@ -34,20 +34,20 @@ abbrev pub app_b : Command
 app_b = app 1 2 (codes "b") (codes "2")
 
 abbrev pub put_b : Command
-put_b = put 1 1 (codes "b") (codes "1")
+put_b = make_put 1 1 (codes "b") (codes "1")
 
 -- client 0 isn't done with its first number when it sends its second one first, and client 1 when it sends it again
 abbrev pub once : List Command
-once = telling 0 app_a ∷ app_b ∷ []
+once = command_with_floor 0 app_a ∷ app_b ∷ []
 
 abbrev pub again : List Command
-again = app_a ∷ telling 0 app_b ∷ []
+again = app_a ∷ command_with_floor 0 app_b ∷ []
 
-abbrev pub lesser : List Command
-lesser = put_a ∷ put_b ∷ []
+abbrev pub lower_numbers : List Command
+lower_numbers = put_a ∷ put_b ∷ []
 
-abbrev pub results : List Answered
-results = answered 0 2 1 (Len 1) ∷ answered 1 2 1 (Len 1) ∷ []
+abbrev pub batch_results : List Answered
+batch_results = answered 0 2 1 (Len 1) ∷ answered 1 2 1 (Len 1) ∷ []
 
 abbrev pub story : List Line
 story =
@@ -61,16 +61,16 @@ story =
     sending letter (leader 0) (batcher 0) (msg.Leads first)  -- 2
     ∷ event.Write put_a 0 ⇒ why.Sent
     sending letter (client 0) (batcher 0) (msg.Submit put_a)  -- 3
-    ∷ event.Write (telling 0 app_a) 0 ⇒ why.Sent
-    sending letter (client 0) (batcher 0) (msg.Submit (telling 0 app_a))  -- 4
+    ∷ event.Write (command_with_floor 0 app_a) 0 ⇒ why.Sent
+    sending letter (client 0) (batcher 0) (msg.Submit (command_with_floor 0 app_a))  -- 4
     ∷ event.Write app_a 0 ⇒ why.Sent
     sending letter (client 0) (batcher 0) (msg.Submit app_a)  -- 5
     ∷ event.Write put_b 0 ⇒ why.Sent
     sending letter (client 1) (batcher 0) (msg.Submit put_b)  -- 6
     ∷ event.Write app_b 0 ⇒ why.Sent
     sending letter (client 1) (batcher 0) (msg.Submit app_b)  -- 7
-    ∷ event.Write (telling 0 app_b) 0 ⇒ why.Sent
-    sending letter (client 1) (batcher 0) (msg.Submit (telling 0 app_b))  -- 8
+    ∷ event.Write (command_with_floor 0 app_b) 0 ⇒ why.Sent
+    sending letter (client 1) (batcher 0) (msg.Submit (command_with_floor 0 app_b))  -- 8
     ∷ deliver 4 ⇒ why.Held
     ∷ deliver 7 ⇒ why.Batched
     sending letter (batcher 0) (leader 0) (msg.Batch once)  -- 9
@@ -79,19 +79,19 @@ story =
     sending letter (batcher 0) (leader 0) (msg.Batch again)  -- 10
     ∷ deliver 3 ⇒ why.Held
     ∷ deliver 6 ⇒ why.Batched
-    sending letter (batcher 0) (leader 0) (msg.Batch lesser)  -- 11
+    sending letter (batcher 0) (leader 0) (msg.Batch lower_numbers)  -- 11
     ∷ deliver 9 ⇒ why.Proposed
     sending letter (leader 0) (proxy 0) (msg.Propose first (single 0) 0 0 (Batch once))  -- 12
     ∷ deliver 10 ⇒ why.Proposed
     sending letter (leader 0) (proxy 0) (msg.Propose first (single 0) 1 0 (Batch again))  -- 13
     ∷ deliver 11 ⇒ why.Proposed
-    sending letter (leader 0) (proxy 0) (msg.Propose first (single 0) 2 0 (Batch lesser))  -- 14
+    sending letter (leader 0) (proxy 0) (msg.Propose first (single 0) 2 0 (Batch lower_numbers))  -- 14
     ∷ deliver 12 ⇒ why.Asking
     sending letter (proxy 0) (acceptor 0) (msg.Phase2A first 0 0 (Batch once))  -- 15
     ∷ deliver 13 ⇒ why.Asking
     sending letter (proxy 0) (acceptor 0) (msg.Phase2A first 1 0 (Batch again))  -- 16
     ∷ deliver 14 ⇒ why.Asking
-    sending letter (proxy 0) (acceptor 0) (msg.Phase2A first 2 0 (Batch lesser))  -- 17
+    sending letter (proxy 0) (acceptor 0) (msg.Phase2A first 2 0 (Batch lower_numbers))  -- 17
     ∷ deliver 15 ⇒ why.Voted
     keeping kept.Vote first 0 0 (Batch once) by acceptor 0
     sending letter (acceptor 0) (proxy 0) (msg.Phase2B first 0)  -- 18
@@ -99,7 +99,7 @@ story =
     keeping kept.Vote first 1 0 (Batch again) by acceptor 0
     sending letter (acceptor 0) (proxy 0) (msg.Phase2B first 1)  -- 19
     ∷ deliver 17 ⇒ why.Voted
-    keeping kept.Vote first 2 0 (Batch lesser) by acceptor 0
+    keeping kept.Vote first 2 0 (Batch lower_numbers) by acceptor 0
     sending letter (acceptor 0) (proxy 0) (msg.Phase2B first 2)  -- 20
     ∷ deliver 18 ⇒ why.Chosen
     sending letter (proxy 0) (replica 0) (msg.Chosen 0 (Batch once))  -- 21
@@ -108,16 +108,16 @@ story =
     sending letter (proxy 0) (replica 0) (msg.Chosen 1 (Batch again))  -- 23
     sending letter (proxy 0) (leader 0) (msg.ChosenIn first 1)  -- 24
     ∷ deliver 20 ⇒ why.Chosen
-    sending letter (proxy 0) (replica 0) (msg.Chosen 2 (Batch lesser))  -- 25
+    sending letter (proxy 0) (replica 0) (msg.Chosen 2 (Batch lower_numbers))  -- 25
     sending letter (proxy 0) (leader 0) (msg.ChosenIn first 2)  -- 26
     ∷ deliver 21 ⇒ why.Applied
     keeping kept.Log (Batch once ∷ []) by replica 0
-    sending letter (replica 0) (unbatcher 0) (msg.Results 0 results)  -- 27
+    sending letter (replica 0) (unbatcher 0) (msg.Results 0 batch_results)  -- 27
     ∷ deliver 23 ⇒ why.Applied
     keeping kept.Log (Batch again ∷ []) by replica 0
-    sending letter (replica 0) (unbatcher 0) (msg.Results 1 results)  -- 28
+    sending letter (replica 0) (unbatcher 0) (msg.Results 1 batch_results)  -- 28
     ∷ deliver 25 ⇒ why.Applied
-    keeping kept.Log (Batch lesser ∷ []) by replica 0
+    keeping kept.Log (Batch lower_numbers ∷ []) by replica 0
     ∷ deliver 27 ⇒ why.Unbatched
     sending letter (unbatcher 0) (client 0) (msg.Answer 2 1 (Len 1))  -- 29
     sending letter (unbatcher 0) (client 1) (msg.Answer 2 1 (Len 1))  -- 30
@@ -129,5 +129,5 @@ story =
 abbrev pub RepeatTellsItsFloor : Type 0
 RepeatTellsItsFloor =
     IsRun cluster story
-    (left (Batch once ∷ Batch again ∷ Batch lesser ∷ []) (true ∷ true ∷ false ∷ false ∷ false ∷ false ∷ [])
-    (hold 3 (pair (codes "a") (codes "2") ∷ pair (codes "b") (codes "2") ∷ []) ∷ []))
+    (final_state (Batch once ∷ Batch again ∷ Batch lower_numbers ∷ []) (true ∷ true ∷ false ∷ false ∷ false ∷ false ∷ [])
+    (hold 3 (make_pair (codes "a") (codes "2") ∷ make_pair (codes "b") (codes "2") ∷ []) ∷ []))

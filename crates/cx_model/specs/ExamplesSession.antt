@@ -7,7 +7,7 @@ use Rattle.cx_base.specs.declared.why.Why.TheVariants as why
 use Rattle.cx_msg.specs.Letter.{letter}
 use Rattle.cx_msg.specs.declared.kept.Record.TheVariants as kept
 use Rattle.cx_msg.specs.declared.message.Msg.TheVariants as msg
-use Rattle.cx_model.specs.Examples.{Line, IsRun, client, replica, unbatcher, put_a, only, deliver, left, hold, ◌⇒◌, ◌keeping◌by◌, ◌sending◌}
+use Rattle.cx_model.specs.Examples.{Line, IsRun, client, replica, unbatcher, put_a, batch_of, deliver, final_state, hold, ◌⇒◌, ◌keeping◌by◌, ◌sending◌}
 use Rattle.cx_model.specs.ExamplesDeferredRead.{cluster, applied, each}
 
 -- the answer is sent; nothing is heard, so a replica that holds nothing answers at once
@@ -30,7 +30,7 @@ story =
     sending letter (client 0) (replica 1) (msg.SessRead 3 1 (codes "a"))  -- 15
     ∷ deliver 15 ⇒ why.Deferred
     ∷ deliver 9 ⇒ why.Applied
-    keeping kept.Log (only put_a ∷ []) by replica 1
+    keeping kept.Log (batch_of put_a ∷ []) by replica 1
     sending letter (replica 1) (client 0) (msg.ReadAnswer 3 1 (Some (codes "1")))  -- 16
     ∷ event.Session 0 3 2 1 (codes "b") ⇒ why.Stale
     ∷ event.Read 0 3 2 0 1 (codes "a") ⇒ why.Stale
@@ -44,5 +44,5 @@ too_early =
     ∷ heard_nothing
 
 pub record Session : Type 0 where
-  pub waits : IsRun cluster story (left (only put_a ∷ []) (true ∷ []) (each ∷ each ∷ []))
-  pub not_heard : IsRun cluster too_early (left (only put_a ∷ []) (true ∷ []) (each ∷ hold 0 [] ∷ []))
+  pub waits : IsRun cluster story (final_state (batch_of put_a ∷ []) (true ∷ []) (each ∷ each ∷ []))
+  pub not_heard : IsRun cluster too_early (final_state (batch_of put_a ∷ []) (true ∷ []) (each ∷ hold 0 [] ∷ []))

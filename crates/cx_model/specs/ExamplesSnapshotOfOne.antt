@@ -12,13 +12,13 @@ use Rattle.cx_msg.specs.Letter.{letter}
 use Rattle.cx_msg.specs.declared.kept.Record.{Record}
 use Rattle.cx_msg.specs.declared.kept.Record.TheVariants as kept
 use Rattle.cx_msg.specs.declared.message.Msg.TheVariants as msg
-use Rattle.cx_model.specs.Examples.{Line, IsRun, run_of, one_of_each, client, batcher, leader, proxy, acceptor, replica, unbatcher, first, single, app, put_a, only, answered, deliver, left, hold, pair, ◌⇒◌, ◌keeping◌by◌, ◌snapping◌by◌, ◌sending◌}
+use Rattle.cx_model.specs.Examples.{Line, IsRun, run_of_lines, one_of_each, client, batcher, leader, proxy, acceptor, replica, unbatcher, first, single, app, put_a, batch_of, answered, deliver, final_state, hold, make_pair, ◌⇒◌, ◌keeping◌by◌, ◌snapping◌by◌, ◌sending◌}
 use Rattle.cx_model.specs.ExamplesOnePut.{story as put_story}
 use Rattle.cx_model.specs.Replica.{replica_rules}
 use Rattle.cx_model.specs.World.{list_of}
 
-abbrev pub snapped : List Line
-snapped =
+abbrev pub snap_lines : List Line
+snap_lines =
     put_story ++
     event.Snap 0 Whole ⇒ why.Snapped
     snapping 1 by replica 0
@@ -35,23 +35,23 @@ app_a = app 0 2 (codes "a") (codes "x")
 
 abbrev pub story : List Line
 story =
-    snapped ++
+    snap_lines ++
     event.Write app_a 0 ⇒ why.Sent
     sending letter (client 0) (batcher 0) (msg.Submit app_a)  -- 12
     ∷ deliver 12 ⇒ why.Batched
     sending letter (batcher 0) (leader 0) (msg.Batch (app_a ∷ []))  -- 13
     ∷ deliver 13 ⇒ why.Proposed
-    sending letter (leader 0) (proxy 0) (msg.Propose first (single 0) 1 0 (only app_a))  -- 14
+    sending letter (leader 0) (proxy 0) (msg.Propose first (single 0) 1 0 (batch_of app_a))  -- 14
     ∷ deliver 14 ⇒ why.Asking
-    sending letter (proxy 0) (acceptor 0) (msg.Phase2A first 1 0 (only app_a))  -- 15
+    sending letter (proxy 0) (acceptor 0) (msg.Phase2A first 1 0 (batch_of app_a))  -- 15
     ∷ deliver 15 ⇒ why.Voted
-    keeping kept.Vote first 1 0 (only app_a) by acceptor 0
+    keeping kept.Vote first 1 0 (batch_of app_a) by acceptor 0
     sending letter (acceptor 0) (proxy 0) (msg.Phase2B first 1)  -- 16
     ∷ deliver 16 ⇒ why.Chosen
-    sending letter (proxy 0) (replica 0) (msg.Chosen 1 (only app_a))  -- 17
+    sending letter (proxy 0) (replica 0) (msg.Chosen 1 (batch_of app_a))  -- 17
     sending letter (proxy 0) (leader 0) (msg.ChosenIn first 1)  -- 18
     ∷ deliver 17 ⇒ why.Applied
-    keeping kept.Log (only app_a ∷ []) by replica 0
+    keeping kept.Log (batch_of app_a ∷ []) by replica 0
     sending letter (replica 0) (unbatcher 0) (msg.Results 1 (answered 0 2 2 (Len 2) ∷ []))  -- 19
     ∷ []
 
@@ -63,7 +63,7 @@ noted = record { seq = 1; at = 1; reply = Okay }
 abbrev pub renewed : List Record
 renewed =
     kept.Base 1 1 1 1
-    ∷ kept.Pairs (pair (codes "a") (codes "1") ∷ [])
+    ∷ kept.Pairs (make_pair (codes "a") (codes "1") ∷ [])
     ∷ kept.Notes 0 0 (noted ∷ [])
     ∷ []
 
@@ -80,7 +80,7 @@ cut =
     ∷ []
 
 pub record SnapshotOfOne : Type 0 where
-  pub whole : IsRun one_of_each story (left (only put_a ∷ only app_a ∷ []) (true ∷ true ∷ []) (hold 2 (pair (codes "a") (codes "1x") ∷ []) ∷ []))
-  pub list : list_of replica_rules (replica 0) (run_of one_of_each story).kept ≡ renewed ++ kept.Log (only app_a ∷ []) ∷ []
-  pub when_cut : IsRun one_of_each cut (left (only put_a ∷ []) (true ∷ []) (hold 1 (pair (codes "a") (codes "1") ∷ []) ∷ []))
-  pub list_when_cut : list_of replica_rules (replica 0) (run_of one_of_each cut).kept ≡ renewed
+  pub whole : IsRun one_of_each story (final_state (batch_of put_a ∷ batch_of app_a ∷ []) (true ∷ true ∷ []) (hold 2 (make_pair (codes "a") (codes "1x") ∷ []) ∷ []))
+  pub list : list_of replica_rules (replica 0) (run_of_lines one_of_each story).kept ≡ renewed ++ kept.Log (batch_of app_a ∷ []) ∷ []
+  pub when_cut : IsRun one_of_each cut (final_state (batch_of put_a ∷ []) (true ∷ []) (hold 1 (make_pair (codes "a") (codes "1") ∷ []) ∷ []))
+  pub list_when_cut : list_of replica_rules (replica 0) (run_of_lines one_of_each cut).kept ≡ renewed

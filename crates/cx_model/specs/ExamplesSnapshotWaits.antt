@@ -8,7 +8,7 @@ use Rattle.cx_base.specs.declared.why.Why.TheVariants as why
 use Rattle.cx_msg.specs.Letter.{letter}
 use Rattle.cx_msg.specs.declared.kept.Record.TheVariants as kept
 use Rattle.cx_msg.specs.declared.message.Msg.TheVariants as msg
-use Rattle.cx_model.specs.Examples.{Line, IsRun, leader, proxy, replica, unbatcher, first, put_a, only, answered, deliver, left, hold, pair, Holding, ◌⇒◌, ◌keeping◌by◌, ◌snapping◌by◌, ◌sending◌}
+use Rattle.cx_model.specs.Examples.{Line, IsRun, leader, proxy, replica, unbatcher, first, put_a, batch_of, answered, deliver, final_state, hold, make_pair, Holding, ◌⇒◌, ◌keeping◌by◌, ◌snapping◌by◌, ◌sending◌}
 use Rattle.cx_model.specs.ExamplesDeferredRead.{cluster}
 use Rattle.cx_model.specs.ExamplesOnePut.{voted}
 
@@ -16,18 +16,18 @@ abbrev pub story : List Line
 story =
     voted ++
     deliver 7 ⇒ why.Chosen
-    sending letter (proxy 0) (replica 0) (msg.Chosen 0 (only put_a))  -- 8
-    sending letter (proxy 0) (replica 1) (msg.Chosen 0 (only put_a))  -- 9
+    sending letter (proxy 0) (replica 0) (msg.Chosen 0 (batch_of put_a))  -- 8
+    sending letter (proxy 0) (replica 1) (msg.Chosen 0 (batch_of put_a))  -- 9
     sending letter (proxy 0) (leader 0) (msg.ChosenIn first 0)  -- 10
     ∷ deliver 8 ⇒ why.Applied
-    keeping kept.Log (only put_a ∷ []) by replica 0
+    keeping kept.Log (batch_of put_a ∷ []) by replica 0
     sending letter (replica 0) (unbatcher 0) (msg.Results 0 (answered 0 1 1 Okay ∷ []))  -- 11
     ∷ event.Tick (replica 1) ⇒ why.Resent
     sending letter (replica 1) (leader 0) (msg.Held 0)  -- 12
     sending letter (replica 1) (replica 0) (msg.Fetch 0)  -- 13
     ∷ event.Snap 0 Whole ⇒ why.Idle
     ∷ deliver 9 ⇒ why.Applied
-    keeping kept.Log (only put_a ∷ []) by replica 1
+    keeping kept.Log (batch_of put_a ∷ []) by replica 1
     ∷ event.Tick (replica 1) ⇒ why.Resent
     sending letter (replica 1) (leader 0) (msg.Held 1)  -- 14
     sending letter (replica 1) (replica 0) (msg.Fetch 1)  -- 15
@@ -40,7 +40,7 @@ story =
 
 -- what each replica holds at the end
 abbrev pub each : Holding
-each = hold 1 (pair (codes "a") (codes "1") ∷ [])
+each = hold 1 (make_pair (codes "a") (codes "1") ∷ [])
 
 abbrev pub SnapshotWaits : Type 0
-SnapshotWaits = IsRun cluster story (left (only put_a ∷ []) (true ∷ []) (each ∷ each ∷ []))
+SnapshotWaits = IsRun cluster story (final_state (batch_of put_a ∷ []) (true ∷ []) (each ∷ each ∷ []))

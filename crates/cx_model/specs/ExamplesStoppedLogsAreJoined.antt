@@ -1,6 +1,6 @@
 -- Three rounds: the second retires the earlier one at one matchmaker, the third is recorded at another one. Then these two stop, and the next set
--- begins with the greatest watermark and all entries from there on. Both leaders learn of it, ask it and count its answers alone. The member
--- that hasn't begun answers nothing.
+-- begins with the greatest retirement watermark and all entries from there on. Both leaders learn of it, ask it and count its answers alone. The
+-- member that hasn't begun answers nothing.
 use Rattle.std.specs.Prelude.{ℕ, List, [], ◌∷◌}
 use Rattle.std.proofs.Common.{lit≤}
 use Rattle.cx_base.specs.declared.cluster.Cluster.{Cluster}
@@ -10,7 +10,7 @@ use Rattle.cx_base.specs.Round.{no_round}
 use Rattle.cx_msg.specs.Letter.{letter}
 use Rattle.cx_msg.specs.declared.kept.Record.TheVariants as kept
 use Rattle.cx_msg.specs.declared.message.Msg.TheVariants as msg
-use Rattle.cx_model.specs.Examples.{Line, IsRun, one_of_each, batcher, leader, acceptor, matchmaker, reader, replacer, round, first, single, lead, collect, replace, deliver, left, hold, ◌⇒◌, ◌keeping◌by◌, ◌sending◌}
+use Rattle.cx_model.specs.Examples.{Line, IsRun, one_of_each, batcher, leader, acceptor, matchmaker, reader, replacer, make_round, first, single, lead, collect, replace, deliver, final_state, hold, ◌⇒◌, ◌keeping◌by◌, ◌sending◌}
 use Rattle.cx_model.specs.Matchmaker.{entry}
 
 abbrev pub cluster : Cluster
@@ -32,10 +32,10 @@ cluster =
     }
 
 abbrev pub second : Round
-second = round 1 1 0
+second = make_round 1 1 0
 
 abbrev pub third : Round
-third = round 1 2 0
+third = make_round 1 2 0
 
 -- the set after the first
 abbrev pub next : List ℕ
@@ -159,4 +159,4 @@ story =
     ∷ []
 
 abbrev pub StoppedLogsAreJoined : Type 0
-StoppedLogsAreJoined = IsRun cluster story (left [] [] (hold 0 [] ∷ hold 0 [] ∷ []))
+StoppedLogsAreJoined = IsRun cluster story (final_state [] [] (hold 0 [] ∷ hold 0 [] ∷ []))

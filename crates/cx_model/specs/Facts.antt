@@ -152,7 +152,7 @@ IsRetiring sent i = (from : RoleId) × (to : RoleId) × (g : Shape) × Member (l
 abbrev pub IsInformed : List Letter → RoleId → Round → ℕ → Type 0
 IsInformed sent who i cw = (to : RoleId) × (n : ℕ) × (cw ≤ n) × Member (letter who to (msg.Informed i n)) sent
 
--- a round was finished with this watermark and end
+-- a round was finished with this chosen watermark and end
 abbrev pub IsFinished : Cluster → List Event → Round → ℕ → ℕ → Type 0
 IsFinished c es i cw end = (n : ℕ) × Member {X = Finish} (record { event = n; round = i; cw = cw; end = end }) (finished c es)
 
@@ -240,11 +240,11 @@ pub record MatchingFacts (c : Cluster) (es : List Event) : Type 0 where
   -- an answer from a matchmaker that doesn't have the round comes after the round was finished and began to retire others
   pub answered : (from to : RoleId) (i w : Round) (entries : List Entry) → Member (letter from to (msg.MatchB i w entries)) (run c es).sent
       → ((g : Shape) × HasRound (run c es).kept from i g) ⊎ (IsRetiring (run c es).sent i × ((cw : ℕ) × (end : ℕ) × IsFinished c es i cw end))
-  -- an answer has each earlier round that its sender has, or its watermark is above it
+  -- an answer has each earlier round that its sender has, or its retirement watermark is above it
   pub tells : (from to : RoleId) (i w : Round) (entries : List Entry) → Member (letter from to (msg.MatchB i w entries)) (run c es).sent
       → (j : Round) (g : Shape) → is_before j i ≡ true → HasRound (run c es).kept from j g
       → Member {X = Entry} (record { round = j; grid = g }) entries ⊎ (is_before j w ≡ true)
-  -- a real watermark has its entry, unless it is the answer's own round
+  -- a real retirement watermark has its entry, unless it is the answer's own round
   pub has_watermark : (from to : RoleId) (i w : Round) (entries : List Entry) → Member (letter from to (msg.MatchB i w entries)) (run c es).sent
       → (w ≡ no_round) ⊎ ((w ≡ i) ⊎ ((g : Shape) × Member {X = Entry} (record { round = w; grid = g }) entries))
   -- what an answer to a reader says, when it is sent
@@ -254,12 +254,12 @@ pub record MatchingFacts (c : Cluster) (es : List Event) : Type 0 where
       → Member {X = Entry} (record { round = j; grid = g }) entries ⊎ (is_before j w ≡ true)
   pub readers_watermark : (from to : RoleId) (u : Asking) (w : Round) (entries : List Entry) → Member (letter from to (msg.MatchReadAck u w entries)) (run c es).sent
       → (w ≡ no_round) ⊎ ((g : Shape) × Member {X = Entry} (record { round = w; grid = g }) entries)
-  -- Promising: an acceptor that promised stays at or above the round and the watermark, and reports only votes of its own;
+  -- Promising: an acceptor that promised stays at or above the round and the chosen watermark, and reports only votes of its own;
   pub promised : (a : ℕ) (to : RoleId) (i : Round) (cw : ℕ) (votes : List Vote) → Member (letter (role kind.Acceptor a) to (msg.Phase1B i cw votes)) (run c es).sent
       → (is_before (acceptor_of (run c es).kept a).promise i ≡ false) × (cw ≤ (acceptor_of (run c es).kept a).cw)
   pub tells_own : (a : ℕ) (to : RoleId) (i : Round) (cw : ℕ) (votes : List Vote) → Member (letter (role kind.Acceptor a) to (msg.Phase1B i cw votes)) (run c es).sent
       → (u : Vote) → Member u votes → HasVoted (run c es).kept (role kind.Acceptor a) u.round u.slot u.value × (cw ≤ u.slot)
-  -- and for each of its votes of an earlier round from the watermark on, it reports a vote of that round or a later one
+  -- and for each of its votes of an earlier round from the chosen watermark on, it reports a vote of that round or a later one
   pub tells_last : (a : ℕ) (to : RoleId) (i : Round) (cw : ℕ) (votes : List Vote) → Member (letter (role kind.Acceptor a) to (msg.Phase1B i cw votes)) (run c es).sent
       → (j : Round) (s : ℕ) (v : Value) → is_before j i ≡ true → cw ≤ s → HasVoted (run c es).kept (role kind.Acceptor a) j s v
       → (u : Vote) × Member u votes × (u.slot ≡ s) × (is_before u.round j ≡ false)
@@ -293,7 +293,7 @@ pub record CollectionFacts (c : Cluster) (es : List Event) : Type 0 where
 abbrev pub IsHeld : Cluster → List KeptRecord → ℕ → Type 0
 IsHeld c history n = c.f + 1 ≤ holders c history n
 
--- the watermark that a datagram carries
+-- the chosen watermark that a datagram carries
 abbrev pub watermark_of : Msg → Option ℕ
 watermark_of (msg.Phase1B i cw votes) = Some cw
 watermark_of (msg.Propose i g s cw v) = Some cw
@@ -315,7 +315,7 @@ pub record WatermarkFacts (c : Cluster) (w : World) : Type 0 where
   pub noted : (l : ℕ) (v : LeaderVolatile) (p n : ℕ) → slice_get w.roles.leaders l ≡ Some (Some v) → slice_get v.held p ≡ Some n → n ≤ length (log_of p w.kept)
   pub kept_is_chosen : (p s : ℕ) (v : Value) → slice_get (log_of p w.kept) s ≡ Some v → is_chosen w.kept s v ≡ true
 
--- Open rounds: what can still be chosen in an earlier round is what a finished round proposes, from its watermark on.
+-- Open rounds: what can still be chosen in an earlier round is what a finished round proposes, from its chosen watermark on.
 pub record OpenRoundFacts (c : Cluster) (es : List Event) : Type 0 where
   pub proposed : (i : Round) (cw end : ℕ) → IsFinished c es i cw end
       → (j : Round) (s : ℕ) (v : Value) → is_before j i ≡ true → cw ≤ s → CanBeChosen c (run c es).kept (run c es).sent j s v
@@ -333,7 +333,7 @@ pub record ReadFacts (c : Cluster) (es : List Event) : Type 0 where
   pub asked_before : (more : List Event) (reader turn : ℕ) (t : Token)
       → was_asked t (run c es).events ≡ false → IsUnder (run c (es ++ more)) reader turn t
       → HasTurn (run c es).kept (asking reader turn) → ⊥
-  -- with a real watermark, rounds were forgotten for that one before
+  -- with a real retirement watermark, rounds were forgotten for that one before
   pub after_garbage : (from to : RoleId) (u : Asking) (w : Round) (n : ℕ) → Member (letter from to (msg.PreReadAck u w n)) (run c es).sent
       → (w ≡ no_round) ⊎ ((who : RoleId) × (g : Shape) × HasKept (run c es).kept who (kept.Garbage w g))
   pub above_votes : (e : Event) (a : ℕ) (to : RoleId) (u : Asking) (w : Round) (n : ℕ)
@@ -346,7 +346,7 @@ pub record ReadFacts (c : Cluster) (es : List Event) : Type 0 where
       → (s : ℕ) (v : Value) → is_chosen (run c es).kept s v ≡ true → s < n
 
 -- all of them, at the end of each event
-pub record Facts (c : Cluster) (es : List Event) : Type 0 where
+pub record RunFacts (c : Cluster) (es : List Event) : Type 0 where
   pub rounds : RoundFacts (run c es)
   pub matching : MatchingFacts c es
   pub collection : CollectionFacts c es

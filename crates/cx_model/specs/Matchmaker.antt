@@ -24,7 +24,7 @@ use Rattle.cx_msg.specs.declared.message.Msg.TheVariants as msg
 use Rattle.cx_msg.specs.declared.kept.Record.{Record}
 use Rattle.cx_msg.specs.declared.kept.Record.TheVariants as kept
 use Rattle.cx_model.specs.Names.{names, names_round, names_grid, names_entry, names_ballot, names_set}
-use Rattle.cx_model.specs.Outcome.{Outcome, answered, replied}
+use Rattle.cx_model.specs.Outcome.{Outcome, only_word, replied}
 use Rattle.cx_model.specs.Rules.{Rules}
 
 -- The round below which rounds are retired, and the rounds that were recorded, rising, with their grids; the set with which it began, if it
@@ -63,8 +63,8 @@ abbrev pub entries_before : Round → List Entry → List Entry
 entries_before i es = filter (λ (e : Entry). is_before e.round i) es
 
 -- the entries of this round and later ones
-abbrev pub entries_from : Round → List Entry → List Entry
-entries_from i es = filter (λ (e : Entry). not (is_before e.round i)) es
+abbrev pub entries_since : Round → List Entry → List Entry
+entries_since i es = filter (λ (e : Entry). not (is_before e.round i)) es
 
 abbrev pub has_round : Round → List Entry → Bool
 has_round i es = list_any (λ (e : Entry). same_round e.round i) es
@@ -79,7 +79,7 @@ with_own i g es = if has_round i es then es else entry i g ∷ es
 
 abbrev pub matchmaker_after : MatchmakerDurable → Record → MatchmakerDurable
 matchmaker_after d (kept.Match i g) = record d { entries = d.entries ++ entry i g ∷ [] }
-matchmaker_after d (kept.Garbage i g) = record d { watermark = i; entries = with_own i g (entries_from i d.entries) }
+matchmaker_after d (kept.Garbage i g) = record d { watermark = i; entries = with_own i g (entries_since i d.entries) }
 matchmaker_after d (kept.Stop b) = record d { ballot = b }
 matchmaker_after d (kept.Next b s) = record d { ballot = b; accepted = b; next = s }
 matchmaker_after d (kept.Boot s w es) = record d { booted = Some s; watermark = w; entries = es }
@@ -124,7 +124,7 @@ garbage_a_row me d from i g =
     then record { why = Raised; kept = Some (kept.Garbage i g); volatile = tt; sends = garbage_b_to me from i ∷ [] }
     else replied Same tt (garbage_b_to me from i ∷ [])
 
--- a reader asks for the watermark and all entries (this project's own)
+-- a reader asks for the retirement watermark and all entries (this project's own)
 abbrev pub match_read_row : RoleId → MatchmakerDurable → RoleId → Asking → Outcome (Unit {0})
 match_read_row me d from u = replied Asked tt (letter me from (msg.MatchReadAck u d.watermark d.entries) ∷ [])
 
@@ -157,19 +157,19 @@ abbrev pub boot_b_to : RoleId → RoleId → List ℕ → Letter
 boot_b_to me replacer s = letter me replacer (msg.BootB s)
 
 abbrev pub boot_in : RoleId → RoleId → List ℕ → Round → List Entry → Option (List ℕ) → Outcome (Unit {0})
-boot_in me from s w es (Some t) = if bytes_eq s t then replied Same tt (boot_b_to me from s ∷ []) else answered Old tt
+boot_in me from s w es (Some t) = if bytes_eq s t then replied Same tt (boot_b_to me from s ∷ []) else only_word Old tt
 boot_in me from s w es None = record { why = Booted; kept = Some (kept.Boot s w es); volatile = tt; sends = boot_b_to me from s ∷ [] }
 
 -- a replacer asks it to begin in a set that was decided
 abbrev pub boot_a_row : Cluster → RoleId → MatchmakerDurable → RoleId → List ℕ → Round → List Entry → Outcome (Unit {0})
-boot_a_row c me d from s w es = if is_in me.index s then boot_in me from s w es (set_of c me d.booted) else answered Unasked tt
+boot_a_row c me d from s w es = if is_in me.index s then boot_in me from s w es (set_of c me d.booted) else only_word Unasked tt
 
 -- what only a member of a set does, and what only one that hasn't stopped does
 abbrev pub in_set : Cluster → RoleId → MatchmakerDurable → Outcome (Unit {0}) → Outcome (Unit {0})
-in_set c me d o = if is_booted c me d then o else answered New tt
+in_set c me d o = if is_booted c me d then o else only_word New tt
 
 abbrev pub at_work : Cluster → RoleId → MatchmakerDurable → Outcome (Unit {0}) → Outcome (Unit {0})
-at_work c me d o = in_set c me d (if is_stopped d then answered Stopped tt else o)
+at_work c me d o = in_set c me d (if is_stopped d then only_word Stopped tt else o)
 
 abbrev pub matchmaker_takes : Cluster → RoleId → MatchmakerDurable → RoleId → Msg → Outcome (Unit {0})
 matchmaker_takes c me d from (msg.MatchA i g) = at_work c me d (match_a_row me d from i g)
@@ -178,13 +178,13 @@ matchmaker_takes c me d from (msg.MatchRead u) = at_work c me d (match_read_row 
 matchmaker_takes c me d from (msg.StopA b) = in_set c me d (stop_a_row me d from b)
 matchmaker_takes c me d from (msg.NextA b s) = in_set c me d (next_a_row me d from b s)
 matchmaker_takes c me d from (msg.BootA s w es) = boot_a_row c me d from s w es
-matchmaker_takes c me d from other = answered Stranger tt
+matchmaker_takes c me d from other = only_word Stranger tt
 
 abbrev pub matchmaker_row : Cluster → RoleId → MatchmakerDurable → Unit {0} → Input → Outcome (Unit {0})
 matchmaker_row c me d v (Take letter) =
-    if same_role letter.to me && names c letter then matchmaker_takes c me d letter.from letter.msg else answered Stranger tt
-matchmaker_row c me d v Tick = answered Idle tt
-matchmaker_row c me d v (Order order) = answered Stranger tt
+    if same_role letter.to me && names c letter then matchmaker_takes c me d letter.from letter.msg else only_word Stranger tt
+matchmaker_row c me d v Tick = only_word Idle tt
+matchmaker_row c me d v (Order order) = only_word Stranger tt
 
 -- all that a matchmaker knows is durable
 abbrev pub matchmaker_rules : Rules MatchmakerDurable (Unit {0})

@@ -10,14 +10,14 @@ use Rattle.cx_base.specs.declared.command.Floor.{Floor}
 use Rattle.cx_base.specs.declared.command.Value.{Value}
 use Rattle.cx_base.specs.Fold.{commands_of}
 use Rattle.cx_base.specs.Lists.{rises}
-use Rattle.cx_base.specs.Noted.{Table, are_rising, comes_before, floor_of, is_answer_of, is_done, is_settled, noted_for, still_noted, with_answer, with_floor, with_note, with_told}
+use Rattle.cx_base.specs.Noted.{Table, are_rising, comes_before, floor_of, is_answer_of, is_done, is_answer_done, noted_for, still_noted, with_answer, with_floor, with_note, with_told}
 use Rattle.cx_base.proofs.Used.{none_placed, same_client, still_rising, turned_test}
-use Rattle.cx_model.specs.Renewed.{IsOrdered, is_above, is_over, rises_left}
+use Rattle.cx_model.specs.Renewed.{IsOrdered, is_above_client_floor, is_over, rises_left}
 use Rattle.cx_model.specs.Replica.{Machine, execute, execute_noted, execute_all, execute_value, machine_from, machine_of, new_machine}
 
 -- whether each note is above its client's floor
 abbrev are_above : List Floor → List Answered → Bool
-are_above floors notes = list_all (λ (a : Answered). is_above floors a) notes
+are_above floors notes = list_all (λ (a : Answered). is_above_client_floor floors a) notes
 
 -- NOTES THAT RISE
 
@@ -60,7 +60,7 @@ rises_with a (b ∷ notes) new rising =
         → noted_for a.client a.seq (b ∷ notes) ≡ None
         → (noted_for a.client a.seq notes ≡ None → rises comes_before notes ≡ true → rises comes_before (with_note a notes) ≡ true)
         → rises comes_before (with_note a (b ∷ notes)) ≡ true
-    go (inl s) h p none rest = (let held : Some b ≡ None = rw s at none in cc)
+    go (inl s) h p none rest = (let never : Some b ≡ None = rw s at none in cc)
     go (inr s) (inl h) p none rest =
         rw h (and_from (list_all (λ x. comes_before a x) (b ∷ notes)) (rises comes_before (b ∷ notes)) (and_from (comes_before a b) (list_all (λ x. comes_before a x) notes) h (before_all a b notes h p.0)) rising)
     go (inr s) (inr h) p none rest =
@@ -101,9 +101,9 @@ floor_told client floor n (f ∷ floors) r k =
 
 -- whether a note may stand once its client has told a floor: the client isn't done with it before
 abbrev may_stand : ℕ → List Floor → Answered → Bool
-may_stand client floors a = if client == a.client then not (is_done a.seq (floor_of a.client floors)) else is_above floors a
+may_stand client floors a = if client == a.client then not (is_done a.seq (floor_of a.client floors)) else is_above_client_floor floors a
 
-stood : (client : ℕ) (floors : List Floor) (a : Answered) → is_above floors a ≡ true → may_stand client floors a ≡ true
+stood : (client : ℕ) (floors : List Floor) (a : Answered) → is_above_client_floor floors a ≡ true → may_stand client floors a ≡ true
 stood client floors a h = go (cases_Bool (client == a.client)) (floor_of a.client floors) h
   where
     free : (o : Option ℕ) → is_over a.seq o ≡ true → not (is_done a.seq o) ≡ true
@@ -118,7 +118,7 @@ stood client floors a h = go (cases_Bool (client == a.client)) (floor_of a.clien
 all_stood : (client : ℕ) (floors : List Floor) (notes : List Answered) → are_above floors notes ≡ true → list_all (may_stand client floors) notes ≡ true
 all_stood client floors [] all = refl
 all_stood client floors (a ∷ notes) all =
-    let parts = and_parts (is_above floors a) (are_above floors notes) all in
+    let parts = and_parts (is_above_client_floor floors a) (are_above floors notes) all in
     and_from (may_stand client floors a) (list_all (may_stand client floors) notes) (stood client floors a parts.0) (all_stood client floors notes parts.1)
 
 -- those that stay lie above their clients' floors
@@ -144,12 +144,12 @@ above_told client floor floors (a ∷ notes) rising all =
         let turned : (a.client == client) ≡ true = turned_test a.client client ∙ t in
         let floor_is : floor_of a.client (with_floor client floor floors) ≡ Some (raised (floor_of a.client floors) floor) = rw t at is in
         let free : not (is_done a.seq (floor_of a.client floors)) ≡ true = rw t at one in
-        rw (turned, v) (and_from (is_above (with_floor client floor floors) a) _ (rw floor_is (higher (floor_of a.client floors) free v)) rest)
+        rw (turned, v) (and_from (is_above_client_floor (with_floor client floor floors) a) _ (rw floor_is (higher (floor_of a.client floors) free v)) rest)
     go (inr t) v is one rest =
         let turned : (a.client == client) ≡ false = turned_test a.client client ∙ t in
         let floor_is : floor_of a.client (with_floor client floor floors) ≡ floor_of a.client floors = rw t at is in
-        let above : is_above floors a ≡ true = rw t at one in
-        rw turned (and_from (is_above (with_floor client floor floors) a) _ (rw floor_is above) rest)
+        let above : is_above_client_floor floors a ≡ true = rw t at one in
+        rw turned (and_from (is_above_client_floor (with_floor client floor floors) a) _ (rw floor_is above) rest)
 
 -- THE TABLE OF VALUES
 
@@ -159,7 +159,7 @@ from_zero n = grind (arith, nat_tests)
 pub told_ordered : (client floor : ℕ) (t : Table) → IsOrdered t → IsOrdered (with_told client floor t)
 told_ordered client floor t h = record {
   floors_rise = still_rising client floor 0 t.floors h.floors_rise (from_zero client);
-  notes_rise = rises_left comes_before (λ (a : Answered). not (is_settled client floor a)) t.notes h.notes_rise;
+  notes_rise = rises_left comes_before (λ (a : Answered). not (is_answer_done client floor a)) t.notes h.notes_rise;
   above = above_told client floor t.floors t.notes h.floors_rise (all_stood client t.floors t.notes h.above);
 }
 
@@ -168,7 +168,7 @@ pub answer_ordered : (a : Answered) (floor : ℕ) (t : Table) → is_done a.seq 
     → IsOrdered t → IsOrdered (with_answer a floor t)
 answer_ordered a floor t new none h = record {
   floors_rise = still_rising a.client floor 0 t.floors h.floors_rise (from_zero a.client);
-  notes_rise = rises_left comes_before (λ (x : Answered). not (is_settled a.client floor x)) (with_note a t.notes) (rises_with a t.notes none h.notes_rise);
+  notes_rise = rises_left comes_before (λ (x : Answered). not (is_answer_done a.client floor x)) (with_note a t.notes) (rises_with a t.notes none h.notes_rise);
   above =
       let own : (a.client == a.client) ≡ true = grind (arith, nat_tests) in
       let stands : may_stand a.client t.floors a ≡ true = rw (own, new) refl in

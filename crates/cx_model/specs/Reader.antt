@@ -26,7 +26,7 @@ use Rattle.cx_model.specs.declared.states.Acked.{Acked}
 use Rattle.cx_model.specs.declared.states.MatchAnswer.{MatchAnswer}
 use Rattle.cx_model.specs.Matched.{enough, first_set, is_counted, greatest_watermark, live_entries, is_member_of, members_of, rows_whole}
 use Rattle.cx_model.specs.Names.{names}
-use Rattle.cx_model.specs.Outcome.{Outcome, answered, replied}
+use Rattle.cx_model.specs.Outcome.{Outcome, only_word, replied}
 use Rattle.cx_model.specs.Request.{same_read}
 use Rattle.cx_model.specs.Rules.{Rules}
 use Rattle.cx_msg.specs.declared.kept.Record.{Record}
@@ -58,8 +58,8 @@ pub record ReaderVolatile : Type 0 where
   pub running : Option Batch
   pub set : List ℕ
 
-abbrev pub token : ℕ → ℕ → Token
-token client seq = record { client = client; seq = seq }
+abbrev pub make_token : ℕ → ℕ → Token
+make_token client seq = record { client = client; seq = seq }
 
 abbrev pub asked_for : Token → ℕ → List ℕ → Asked
 asked_for t replica key = record { read = t; replica = replica; key = key }
@@ -144,21 +144,21 @@ begin me d v w first reads =
 
 -- where there is no turn any more, nothing changes
 abbrev pub begin_if : RoleId → ReaderDurable → ReaderVolatile → Why → List Asked → Outcome ReaderVolatile
-begin_if me d v w reads = if d.turn == last_turn then answered End v else begin me d v w [] reads
+begin_if me d v w reads = if d.turn == last_turn then only_word End v else begin me d v w [] reads
 
 abbrev pub request_over : RoleId → ReaderDurable → ReaderVolatile → Asked → Option Batch → Outcome ReaderVolatile
 request_over me d v one None =
-    if nat_le 64 (length v.waiting) then answered Full v else begin_if me d v Started (v.waiting ++ one ∷ [])
+    if nat_le 64 (length v.waiting) then only_word Full v else begin_if me d v Started (v.waiting ++ one ∷ [])
 request_over me d v one (Some b) =
     if is_first one.read b.reads then begin_if me d v Again (with_asked one b.reads ++ v.waiting)
-    else if is_among one.read b.reads then answered Same v
-    else if nat_le 64 (length v.waiting + length b.reads) then answered Full v
-    else answered Queued (record v { waiting = v.waiting ++ one ∷ [] })
+    else if is_among one.read b.reads then only_word Same v
+    else if nat_le 64 (length v.waiting + length b.reads) then only_word Full v
+    else only_word Queued (record v { waiting = v.waiting ++ one ∷ [] })
 
 -- A client asks for a key. A read that waits waits on, with what it asks now; the first of the running batch begins that anew, with all that wait.
 abbrev pub request_row : RoleId → ReaderDurable → ReaderVolatile → Asked → Outcome ReaderVolatile
 request_row me d v one =
-    if is_among one.read v.waiting then answered Again (record v { waiting = with_asked one v.waiting })
+    if is_among one.read v.waiting then only_word Again (record v { waiting = with_asked one v.waiting })
     else request_over me d v one v.running
 
 -- The replicas are asked, and the batch has ended; where reads wait, the next one begins, at the last turn none.
@@ -178,7 +178,7 @@ matched c me d v b (e ∷ es) = replied why.Asking (with_batch v b) (map (pre_re
 
 abbrev pub match_ack_counted : Cluster → RoleId → ReaderDurable → ReaderVolatile → Batch → Outcome ReaderVolatile
 match_ack_counted c me d v b =
-    if is_matched c b then matched c me d v b (live_entries b.told) else answered Counted (with_batch v b)
+    if is_matched c b then matched c me d v b (live_entries b.told) else only_word Counted (with_batch v b)
 
 -- whether a datagram is of the running batch
 abbrev pub is_of_batch : RoleId → Batch → Asking → Bool
@@ -186,54 +186,54 @@ is_of_batch me b u = same_asking u (asking_of me b.turn)
 
 -- a matchmaker answers
 abbrev pub match_ack_row : Cluster → RoleId → ReaderDurable → ReaderVolatile → RoleId → Asking → Round → List Entry → Option Batch → Outcome ReaderVolatile
-match_ack_row c me d v from u w es None = answered Unasked v
+match_ack_row c me d v from u w es None = only_word Unasked v
 match_ack_row c me d v from u w es (Some b) =
-    if not (is_of_batch me b u && not (is_matched c b) && is_in from.index v.set) then answered Unasked v
-    else if is_counted from.index b.told then answered Same v
+    if not (is_of_batch me b u && not (is_matched c b) && is_in from.index v.set) then only_word Unasked v
+    else if is_counted from.index b.told then only_word Same v
     else match_ack_counted c me d v (record b { told = b.told ++ record { matchmaker = from.index; watermark = w; entries = es } ∷ [] })
 
 abbrev pub pre_read_counted : Cluster → RoleId → ReaderDurable → ReaderVolatile → Batch → Outcome ReaderVolatile
 pre_read_counted c me d v b =
     if rows_whole (live_entries b.told) (acked_by b.acks) then finish me d v b (greatest_mark b.acks)
-    else answered Counted (with_batch v b)
+    else only_word Counted (with_batch v b)
 
--- an acceptor of a live grid answers, with the watermark that it was asked with
+-- an acceptor of a live grid answers, with the retirement watermark that it was asked with
 abbrev pub pre_read_ack_row : Cluster → RoleId → ReaderDurable → ReaderVolatile → RoleId → Asking → Round → ℕ → Option Batch → Outcome ReaderVolatile
-pre_read_ack_row c me d v from u w n None = answered Unasked v
+pre_read_ack_row c me d v from u w n None = only_word Unasked v
 pre_read_ack_row c me d v from u w n (Some b) =
-    if not (is_of_batch me b u && is_matched c b && is_member_of (live_entries b.told) from.index) then answered Unasked v
-    else if not (same_round w (greatest_watermark b.told)) then answered Old v
-    else if has_acked from.index b.acks then answered Same v
+    if not (is_of_batch me b u && is_matched c b && is_member_of (live_entries b.told) from.index) then only_word Unasked v
+    else if not (same_round w (greatest_watermark b.told)) then only_word Old v
+    else if has_acked from.index b.acks then only_word Same v
     else pre_read_counted c me d v (record b { acks = b.acks ++ record { acceptor = from.index; mark = n } ∷ [] })
 
 -- a tick asks again: the matchmakers in the first stage, the acceptors in the second
 abbrev pub reader_tick : Cluster → RoleId → ReaderVolatile → Option Batch → Outcome ReaderVolatile
-reader_tick c me v None = answered Idle v
+reader_tick c me v None = only_word Idle v
 reader_tick c me v (Some b) = replied Resent v (if is_matched c b then ask_acceptors c me b else ask_matchmakers me v.set b.turn)
 
 -- the matchmakers of the known set are asked anew, where they haven't all answered; what was counted of them goes
 abbrev pub asked_anew : Cluster → RoleId → ReaderVolatile → Option Batch → Outcome ReaderVolatile
-asked_anew c me v None = answered Learnt v
+asked_anew c me v None = only_word Learnt v
 asked_anew c me v (Some b) =
-    if is_matched c b then answered Learnt v
+    if is_matched c b then only_word Learnt v
     else replied Learnt (with_batch v (record b { told = [] })) (ask_matchmakers me v.set b.turn)
 
 -- a replacer sends a set that took over; reads wait on
 abbrev pub sets_row : Cluster → RoleId → ReaderVolatile → List ℕ → Outcome ReaderVolatile
-sets_row c me v s = if is_above s v.set then asked_anew c me (record v { set = s }) v.running else answered Old v
+sets_row c me v s = if is_above s v.set then asked_anew c me (record v { set = s }) v.running else only_word Old v
 
 abbrev pub reader_takes : Cluster → RoleId → ReaderDurable → ReaderVolatile → RoleId → Msg → Outcome ReaderVolatile
-reader_takes c me d v from (msg.ReadReq seq replica key) = request_row me d v (asked_for (token from.index seq) replica key)
+reader_takes c me d v from (msg.ReadReq seq replica key) = request_row me d v (asked_for (make_token from.index seq) replica key)
 reader_takes c me d v from (msg.MatchReadAck u w es) = match_ack_row c me d v from u w es v.running
 reader_takes c me d v from (msg.PreReadAck u w n) = pre_read_ack_row c me d v from u w n v.running
 reader_takes c me d v from (msg.Sets s) = sets_row c me v s
-reader_takes c me d v from other = answered Stranger v
+reader_takes c me d v from other = only_word Stranger v
 
 abbrev pub reader_row : Cluster → RoleId → ReaderDurable → ReaderVolatile → Input → Outcome ReaderVolatile
 reader_row c me d v (Take letter) =
-    if same_role letter.to me && names c letter then reader_takes c me d v letter.from letter.msg else answered Stranger v
+    if same_role letter.to me && names c letter then reader_takes c me d v letter.from letter.msg else only_word Stranger v
 reader_row c me d v Tick = reader_tick c me v v.running
-reader_row c me d v (Order order) = answered Stranger v
+reader_row c me d v (Order order) = only_word Stranger v
 
 -- the durable part after a record: the greatest turn kept, which is the last one, since each is the last plus 1
 abbrev pub reader_after : ReaderDurable → Record → ReaderDurable

@@ -29,7 +29,7 @@ use Rattle.cx_model.specs.declared.states.Replacing.{Replacing}
 use Rattle.cx_model.specs.declared.states.Replacing.TheVariants.{Idle, Stopping, Deciding, Booting}
 use Rattle.cx_model.specs.Matched.{enough, first_set, later_round, greatest_watermark, live_entries}
 use Rattle.cx_model.specs.Names.{names, names_ballot, names_set}
-use Rattle.cx_model.specs.Outcome.{Outcome, answered, replied}
+use Rattle.cx_model.specs.Outcome.{Outcome, only_word, replied}
 use Rattle.cx_model.specs.Rules.{Rules}
 
 -- the greatest ballot that it began, or none
@@ -92,9 +92,9 @@ abbrev pub sorted_into : List Entry → List Entry → List Entry
 sorted_into sorted [] = sorted
 sorted_into sorted (e ∷ es) = sorted_into (with_entry e sorted) es
 
--- what several stopped matchmakers recorded, from their greatest watermark on, by rising round
-abbrev pub joined : List Halt → List Entry
-joined halts = sorted_into [] (live_entries (answers_of halts))
+-- what several stopped matchmakers recorded, from their greatest retirement watermark on, by rising round
+abbrev pub joined_entries : List Halt → List Entry
+joined_entries halts = sorted_into [] (live_entries (answers_of halts))
 
 -- of two answers the one that accepted in the greater ballot; of one ballot the first
 abbrev pub later_halt : Halt → Option Halt → Halt
@@ -131,15 +131,15 @@ abbrev pub others : Cluster → RoleId → List ℕ
 others c me = filter (λ x. not (x == me.index)) (below c.replacers)
 
 -- all leaders, readers and other replacers are told the set
-abbrev pub tells : Cluster → RoleId → List ℕ → List Letter
-tells c me s =
+abbrev pub sets_to_all : Cluster → RoleId → List ℕ → List Letter
+sets_to_all c me s =
     map (λ l. sets_to me s (role Leader l)) (below c.leaders)
     ++ map (λ r. sets_to me s (role Reader r)) (below c.readers)
     ++ map (λ x. sets_to me s (role Replacer x)) (others c me)
 
 -- it begins a ballot, if there is one
 abbrev pub begin_in : RoleId → ReplacerVolatile → List ℕ → Option Round → Outcome ReplacerVolatile
-begin_in me v s None = answered why.End v
+begin_in me v s None = only_word why.End v
 begin_in me v s (Some b) =
     record {
       why = why.Started;
@@ -151,53 +151,53 @@ begin_in me v s (Some b) =
 -- the order to replace the known set by another one, which lies above it
 abbrev pub replace_row : Cluster → RoleId → ReplacerDurable → ReplacerVolatile → List ℕ → Outcome ReplacerVolatile
 replace_row c me d v s =
-    if not (names_set c s) then answered why.Stranger v
-    else if not (is_above s v.set) then answered why.Old v
+    if not (names_set c s) then only_word why.Stranger v
+    else if not (is_above s v.set) then only_word why.Old v
     else begin_in me v s (lead_after d.own v.seen me.index)
 
 -- enough matchmakers have stopped: what they recorded is joined, and the next set is asked for
 abbrev pub decide : RoleId → ReplacerDurable → ReplacerVolatile → List Entry → List ℕ → Outcome ReplacerVolatile
 decide me d v es s =
-    if nat_lt 254 (length es) then answered why.Full (record v { mode = Idle })
+    if nat_lt 254 (length es) then only_word why.Full (record v { mode = Idle })
     else replied why.Asking
     (record v { mode = Deciding; next = s; counted = []; watermark = greatest_watermark (answers_of v.halts); entries = es })
     (map (next_a_to me d.own s) v.set)
 
 abbrev pub halt_counted : Cluster → RoleId → ReplacerDurable → ReplacerVolatile → Outcome ReplacerVolatile
 halt_counted c me d v =
-    if nat_lt (length v.halts) (enough c) then answered why.Counted v
-    else decide me d v (joined v.halts) (to_decide v.next v.halts)
+    if nat_lt (length v.halts) (enough c) then only_word why.Counted v
+    else decide me d v (joined_entries v.halts) (to_decide v.next v.halts)
 
 -- a matchmaker has stopped
 abbrev pub stop_b_row : Cluster → RoleId → ReplacerDurable → ReplacerVolatile → RoleId → Round → Round → List Entry → Round → List ℕ → Outcome ReplacerVolatile
 stop_b_row c me d v from b w es a s =
-    if not (is_stopping v.mode && same_round b d.own && is_in from.index v.set) then answered why.Old v
-    else if has_halted from.index v.halts then answered why.Same v
+    if not (is_stopping v.mode && same_round b d.own && is_in from.index v.set) then only_word why.Old v
+    else if has_halted from.index v.halts then only_word why.Same v
     else halt_counted c me d
     (record v { halts = v.halts ++ record { answer = record { matchmaker = from.index; watermark = w; entries = es }; accepted = a; next = s } ∷ [] })
 
 abbrev pub next_counted : Cluster → RoleId → ReplacerVolatile → List ℕ → Outcome ReplacerVolatile
 next_counted c me v counted =
-    if nat_lt (length counted) (enough c) then answered why.Counted (record v { counted = counted })
+    if nat_lt (length counted) (enough c) then only_word why.Counted (record v { counted = counted })
     else replied why.Decided (record v { mode = Booting; counted = [] }) (map (boot_a_to me v.next v.watermark v.entries) v.next)
 
 -- a matchmaker has accepted the next set; enough of them decide it
 abbrev pub next_b_row : Cluster → RoleId → ReplacerDurable → ReplacerVolatile → RoleId → Round → Outcome ReplacerVolatile
 next_b_row c me d v from b =
-    if not (is_deciding v.mode && same_round b d.own) then answered why.Old v
-    else if is_in from.index v.counted then answered why.Same v
+    if not (is_deciding v.mode && same_round b d.own) then only_word why.Old v
+    else if is_in from.index v.counted then only_word why.Same v
     else next_counted c me v (with_mark from.index v.counted)
 
 abbrev pub boot_counted : Cluster → RoleId → ReplacerVolatile → List ℕ → Outcome ReplacerVolatile
 boot_counted c me v counted =
-    if nat_lt (length counted) (enough c) then answered why.Counted (record v { counted = counted })
-    else replied why.Replaced (record v { mode = Idle; set = v.next }) (tells c me v.next)
+    if nat_lt (length counted) (enough c) then only_word why.Counted (record v { counted = counted })
+    else replied why.Replaced (record v { mode = Idle; set = v.next }) (sets_to_all c me v.next)
 
 -- a member of the next set has begun; enough of them make it the known set
 abbrev pub boot_b_row : Cluster → RoleId → ReplacerVolatile → RoleId → List ℕ → Outcome ReplacerVolatile
 boot_b_row c me v from s =
-    if not (is_booting v.mode && bytes_eq s v.next) then answered why.Old v
-    else if is_in from.index v.counted then answered why.Same v
+    if not (is_booting v.mode && bytes_eq s v.next) then only_word why.Old v
+    else if is_in from.index v.counted then only_word why.Same v
     else boot_counted c me v (with_mark from.index v.counted)
 
 abbrev pub with_seen : Round → ReplacerVolatile → ReplacerVolatile
@@ -206,12 +206,12 @@ with_seen i v = record v { seen = later_round v.seen i }
 -- a matchmaker has promised a greater ballot, which is noted whatever the answer
 abbrev pub stop_nack_row : ReplacerDurable → ReplacerVolatile → Round → Round → Outcome ReplacerVolatile
 stop_nack_row d v b other =
-    if not (same_round b d.own) || is_resting v.mode || is_booting v.mode then answered why.Old (with_seen other v)
-    else answered why.Nacked (record (with_seen other v) { mode = Idle })
+    if not (same_round b d.own) || is_resting v.mode || is_booting v.mode then only_word why.Old (with_seen other v)
+    else only_word why.Nacked (record (with_seen other v) { mode = Idle })
 
 -- another replacer tells a set
 abbrev pub sets_row : ReplacerVolatile → List ℕ → Outcome ReplacerVolatile
-sets_row v s = if is_above s v.set then answered why.Learnt (record v { mode = Idle; set = s }) else answered why.Old v
+sets_row v s = if is_above s v.set then only_word why.Learnt (record v { mode = Idle; set = s }) else only_word why.Old v
 
 abbrev pub replacer_takes : Cluster → RoleId → ReplacerDurable → ReplacerVolatile → RoleId → Msg → Outcome ReplacerVolatile
 replacer_takes c me d v from (msg.StopB b w es a s) = stop_b_row c me d v from b w es a s
@@ -219,22 +219,22 @@ replacer_takes c me d v from (msg.NextB b) = next_b_row c me d v from b
 replacer_takes c me d v from (msg.BootB s) = boot_b_row c me v from s
 replacer_takes c me d v from (msg.StopNack b other) = stop_nack_row d v b other
 replacer_takes c me d v from (msg.Sets s) = sets_row v s
-replacer_takes c me d v from other = answered why.Stranger v
+replacer_takes c me d v from other = only_word why.Stranger v
 
 -- what is waited for is asked again; a later set than the first is told again
 abbrev pub tick_in : Cluster → RoleId → ReplacerDurable → ReplacerVolatile → Replacing → Outcome ReplacerVolatile
-tick_in c me d v Idle = if is_above v.set (first_set c) then replied why.Resent v (tells c me v.set) else answered why.Idle v
+tick_in c me d v Idle = if is_above v.set (first_set c) then replied why.Resent v (sets_to_all c me v.set) else only_word why.Idle v
 tick_in c me d v Stopping = replied why.Resent v (map (stop_a_to me d.own) v.set)
 tick_in c me d v Deciding = replied why.Resent v (map (next_a_to me d.own v.next) v.set)
 tick_in c me d v Booting = replied why.Resent v (map (boot_a_to me v.next v.watermark v.entries) v.next)
 
 abbrev pub replacer_orders : Cluster → RoleId → ReplacerDurable → ReplacerVolatile → OrderOf → Outcome ReplacerVolatile
 replacer_orders c me d v (Replace s) = replace_row c me d v s
-replacer_orders c me d v other = answered why.Stranger v
+replacer_orders c me d v other = only_word why.Stranger v
 
 abbrev pub replacer_row : Cluster → RoleId → ReplacerDurable → ReplacerVolatile → Input → Outcome ReplacerVolatile
 replacer_row c me d v (Take letter) =
-    if same_role letter.to me && names c letter then replacer_takes c me d v letter.from letter.msg else answered why.Stranger v
+    if same_role letter.to me && names c letter then replacer_takes c me d v letter.from letter.msg else only_word why.Stranger v
 replacer_row c me d v Tick = tick_in c me d v v.mode
 replacer_row c me d v (Order order) = replacer_orders c me d v order
 

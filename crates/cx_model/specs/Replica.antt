@@ -28,7 +28,7 @@ use Rattle.cx_msg.specs.declared.kept.Record.{Record}
 use Rattle.cx_msg.specs.declared.kept.Record.TheVariants as kept
 use Rattle.cx_model.specs.declared.states.Deferred.{Deferred}
 use Rattle.cx_model.specs.Names.{names, names_value}
-use Rattle.cx_model.specs.Outcome.{Outcome, answered, replied}
+use Rattle.cx_model.specs.Outcome.{Outcome, only_word, replied}
 use Rattle.cx_model.specs.Request.{same_read}
 use Rattle.cx_model.specs.Rules.{Rules}
 
@@ -53,8 +53,8 @@ abbrev pub held : ReplicaDurable → ℕ
 held d = d.first + length d.log
 
 -- whether a renewed list has all that it began to say
-abbrev pub is_whole : ReplicaDurable → Bool
-is_whole d = d.pairs == 0 && d.clients == 0 && d.values == 0
+abbrev pub is_renewal_whole : ReplicaDurable → Bool
+is_renewal_whole d = d.pairs == 0 && d.clients == 0 && d.values == 0
 
 -- The values that came before their turn, and the reads that wait for values, in the order in which they came; and the greatest
 -- slot that the replica before this one asked for.
@@ -158,21 +158,21 @@ apply c me d v values =
 -- a proxy leader, or another replica, sends a chosen value
 abbrev pub chosen_row : Cluster → RoleId → ReplicaDurable → ReplicaVolatile → ℕ → Value → Outcome ReplicaVolatile
 chosen_row c me d v s value =
-    if nat_lt s (held d) then answered Past v
-    else if nat_le (held d + 32) s then answered Window v
-    else if nat_lt (held d) s then answered Early (record v { early = with_early s value v.early (value_for s v.early) })
+    if nat_lt s (held d) then only_word Past v
+    else if nat_le (held d + 32) s then only_word Window v
+    else if nat_lt (held d) s then only_word Early (record v { early = with_early s value v.early (value_for s v.early) })
     else apply c me d v (ready_values (held d) v.early value)
 
 -- a reader, or a client in a session, asks for a key's text, once this many slots are held; at most 64 of them wait
 abbrev pub read_row : RoleId → ReplicaDurable → ReplicaVolatile → Deferred → Outcome ReplicaVolatile
 read_row me d v r =
     if nat_le r.mark (held d) then replied AnsweredWord v (read_answer_to me (held d) d.machine r ∷ [])
-    else if list_any (λ (other : Deferred). same_read r.token other.token) v.deferred then answered Same v
-    else if nat_le 64 (length v.deferred) then answered Full v
-    else answered DeferredWord (record v { deferred = v.deferred ++ r ∷ [] })
+    else if list_any (λ (other : Deferred). same_read r.token other.token) v.deferred then only_word Same v
+    else if nat_le 64 (length v.deferred) then only_word Full v
+    else only_word DeferredWord (record v { deferred = v.deferred ++ r ∷ [] })
 
 abbrev pub fetch_found : RoleId → ReplicaVolatile → RoleId → ℕ → Option Value → Outcome ReplicaVolatile
-fetch_found me v from s None = answered Idle v
+fetch_found me v from s None = only_word Idle v
 fetch_found me v from s (Some value) = replied Fetched v (letter me from (msg.Chosen s value) ∷ [])
 
 -- the replica that asks this one for values
@@ -186,7 +186,7 @@ fetched_by c me v from s = if from.index == before c me then record v { fetched 
 -- another replica asks for the value of a slot, which may be forgotten (this project's own)
 abbrev pub fetch_row : Cluster → RoleId → ReplicaDurable → ReplicaVolatile → RoleId → ℕ → Outcome ReplicaVolatile
 fetch_row c me d v from s =
-    if nat_lt s d.first then answered Past (fetched_by c me v from s)
+    if nat_lt s d.first then only_word Past (fetched_by c me v from s)
     else fetch_found me (fetched_by c me v from s) from s (slice_get d.log (s - d.first))
 
 abbrev pub replica_takes : Cluster → RoleId → ReplicaDurable → ReplicaVolatile → RoleId → Msg → Outcome ReplicaVolatile
@@ -195,7 +195,7 @@ replica_takes c me d v from (msg.Read t n key) = read_row me d v (record { token
 replica_takes c me d v from (msg.SessRead seq n key) =
     read_row me d v (record { token = record { client = from.index; seq = seq }; mark = n; key = key })
 replica_takes c me d v from (msg.Fetch s) = fetch_row c me d v from s
-replica_takes c me d v from other = answered Stranger v
+replica_takes c me d v from other = only_word Stranger v
 
 abbrev pub held_to : RoleId → ℕ → ℕ → Letter
 held_to me held leader = letter me (role Leader leader) (msg.Held held)
@@ -209,14 +209,15 @@ replica_tick c me d v = replied Resent v (map (held_to me (held d)) (below c.lea
 
 abbrev pub replica_row : Cluster → RoleId → ReplicaDurable → ReplicaVolatile → Input → Outcome ReplicaVolatile
 replica_row c me d v (Take letter) =
-    if same_role letter.to me && names c letter then replica_takes c me d v letter.from letter.msg else answered Stranger v
+    if same_role letter.to me && names c letter then replica_takes c me d v letter.from letter.msg else only_word Stranger v
 replica_row c me d v Tick = replica_tick c me d v
-replica_row c me d v (Order order) = answered Stranger v
+replica_row c me d v (Order order) = only_word Stranger v
 
--- the table with a client more, behind the others, its floor, and the answers to its numbers
+-- the answer that is noted of a client
 abbrev pub answer_of : ℕ → Note → Answered
 answer_of client n = record { client = client; seq = n.seq; at = n.at; reply = n.reply }
 
+-- the table with a client more, behind the others, its floor, and the answers to its numbers
 abbrev pub with_client : ℕ → ℕ → List Note → Table → Table
 with_client client floor notes t =
     record {
@@ -241,8 +242,8 @@ abbrev pub key_before : Pair → Pair → Bool
 key_before p q = is_less p.key q.key
 
 -- whether notes are those of a client with this floor: their numbers rise, and it may tell the floor with each
-abbrev pub are_notes_above : ℕ → List Note → Bool
-are_notes_above floor notes =
+abbrev pub are_client_notes : ℕ → List Note → Bool
+are_client_notes floor notes =
     rises (λ (n : Note) (later : Note). nat_lt n.seq later.seq) notes && list_all (λ (n : Note). floor_fits n.seq floor) notes
 
 -- Whether the replica could have appended this record, or a renewal have it in this place: slots end at 2^40; a renewed list
@@ -250,12 +251,12 @@ are_notes_above floor notes =
 -- filled in order. Values are appended to a whole list alone.
 abbrev pub replica_fits : Cluster → RoleId → ReplicaDurable → Record → Bool
 replica_fits c me d (kept.Log vs) =
-    is_whole d && list_all (λ (v : Value). names_value c v) vs && nat_le (held d + length vs) 1099511627776
+    is_renewal_whole d && list_all (λ (v : Value). names_value c v) vs && nat_le (held d + length vs) 1099511627776
 replica_fits c me d (kept.Base first n pairs clients) = not d.begun && nat_le first n
 replica_fits c me d (kept.Pairs ps) = length ps == min 255 d.pairs && rises key_before (d.machine.map ++ ps)
 replica_fits c me d (kept.Notes client floor notes) =
     d.pairs == 0 && nat_lt 0 d.clients && nat_lt client c.clients
-    && are_rising 0 (with_client client floor notes d.machine.table).floors && are_notes_above floor notes
+    && are_rising 0 (with_client client floor notes d.machine.table).floors && are_client_notes floor notes
 replica_fits c me d (kept.Tail vs) =
     d.pairs == 0 && d.clients == 0 && list_all (λ (v : Value). names_value c v) vs && length vs == min 32 d.values
 replica_fits c me d other = false
@@ -285,13 +286,13 @@ replica_renewed d first =
     ++ map (λ vs. kept.Tail vs) (pieces 32 (drop (first - d.first) d.log))
 
 -- no other replica asks for values below this slot: the only one holds all, else the one before this has asked for it
-abbrev pub snap_mark : Cluster → ReplicaDurable → ReplicaVolatile → ℕ
-snap_mark c d v = if c.replicas == 1 then held d else min (held d) v.fetched
+abbrev pub snap_limit : Cluster → ReplicaDurable → ReplicaVolatile → ℕ
+snap_limit c d v = if c.replicas == 1 then held d else min (held d) v.fetched
 
 -- below which slot the replica may forget values, if it may: a map of 2^32 keys isn't written anew
 abbrev pub replica_snap : Cluster → RoleId → ReplicaDurable → ReplicaVolatile → Option ℕ
 replica_snap c me d v =
-    if nat_le (snap_mark c d v) d.first || nat_le 4294967296 (length d.machine.map) then None else Some (snap_mark c d v)
+    if nat_le (snap_limit c d v) d.first || nat_le 4294967296 (length d.machine.map) then None else Some (snap_limit c d v)
 
 abbrev pub replica_rules : Rules ReplicaDurable ReplicaVolatile
 replica_rules = record {
@@ -299,7 +300,7 @@ replica_rules = record {
   empty = record { first = 0; log = []; machine = new_machine; begun = false; pairs = 0; clients = 0; values = 0 };
   after = replica_after;
   fits = replica_fits;
-  whole = is_whole;
+  whole = is_renewal_whole;
   fresh = λ c. record { early = []; deferred = []; fetched = 0 };
   row = replica_row;
   snap = replica_snap;
@@ -312,4 +313,4 @@ pub record IsTied (d : ReplicaDurable) (values : List Value) : Type 0 where
   pub within : d.first ≤ length values
   pub log : d.log ≡ drop d.first values
   pub machine : d.machine ≡ machine_of values
-  pub whole : is_whole d ≡ true
+  pub whole : is_renewal_whole d ≡ true

@@ -217,7 +217,7 @@ pub fn each_answer_counts_once()
     ensures { EachAnswerCountsOnce }
 {}
 
-/// An acceptor that has promised a later round refuses what an earlier one asks, and a matchmaker's watermark does not
+/// An acceptor that has promised a later round refuses what an earlier one asks, and a matchmaker's retirement watermark does not
 /// fall. A leader that gave up its round takes no batch.
 pub fn late_requests_are_refused()
     ensures { LateRequestsAreRefused }

@@ -11,7 +11,7 @@ use Rattle.cx_wire.specs.Format.{Miss, u8, u16, ◌▷◌, by_tag}
 use Rattle.cx_wire.proofs.Laws.{IsBytes, IsExact, u8-exact, u16-exact, ▷-exact, shaped-exact, by_tag-takes, both, ok_is, tag_fits}
 use Rattle.cx_msg.specs.Messages.{body_shape, body_with, cases_with, tells_floors, version_of}
 use Rattle.cx_msg.specs.Letter.{Letter, is_kind, senders, receivers, is_listed, magic, header, header_of, fits, spelling}
-use Rattle.cx_msg.specs.Decoding.{finished, after_header, with_header, decoded}
+use Rattle.cx_msg.specs.Decoding.{letter_at_end, after_header, with_header, decoded}
 use Rattle.cx_msg.specs.Decodes.{Decodes}
 use Rattle.cx_msg.specs.declared.message.Msg.{Msg}
 use Rattle.cx_msg.specs.declared.message.Msg.TheVariants.{Leads, MatchA, MatchNack, Phase1A, Nack, Phase2B, Chosen, ChosenIn, Held, Fetch, Inform, Informed, GarbageA, GarbageB, ReadReq, MatchRead, MatchReadAck, PreRead, PreReadAck, Read, Phase2A, Submit, Batch, MatchB, Phase1B, Propose, Results, Answer, ReadAnswer, SessRead, StopA, StopB, StopNack, NextA, NextB, BootA, BootB, Sets}
@@ -124,8 +124,8 @@ version_test : (b : Bool) (e : WireFault) (x d : Letter) → (if b then Ok x els
 version_test true e x d h = (refl, cc)
 version_test false e x d h = absurd cc
 
-finished_case : (all : ℕ) (h : Header) (r : Result (Msg × List ℕ) Miss) (d : Letter) → finished all h r ≡ Ok d → (m : Msg) × (r ≡ Ok (m, [])) × (h.version ≡ version_of m) × (datagram_of h m ≡ d)
-unfolding finished
+finished_case : (all : ℕ) (h : Header) (r : Result (Msg × List ℕ) Miss) (d : Letter) → letter_at_end all h r ≡ Ok d → (m : Msg) × (r ≡ Ok (m, [])) × (h.version ≡ version_of m) × (datagram_of h m ≡ d)
+unfolding letter_at_end
 finished_case all h (Err miss) d e = absurd cc
 finished_case all h (Ok (m, [])) d e = let t = version_test (eqb h.version (version_of m)) (faults.Version h.version) (datagram_of h m) d e in (m, refl, eqb-true _ _ t.0, t.1)
 finished_case all h (Ok (m, b ∷ bytes)) d e = absurd cc
@@ -135,7 +135,7 @@ record Passed (all : ℕ) (h : Header) (body : List ℕ) (d : Letter) : Type 0 w
   pub said : h.said ≡ length body
   pub from : is_listed senders h.kind h.from ≡ true
   pub to : is_listed receivers h.kind h.to ≡ true
-  pub msg : finished all h (by_tag (cases_with (eqb h.version 2)) h.kind (length body) body) ≡ Ok d
+  pub msg : letter_at_end all h (by_tag (cases_with (eqb h.version 2)) h.kind (length body) body) ≡ Ok d
 
 all_passed : (all : ℕ) (h : Header) (body : List ℕ) (d : Letter) → after_header all h body ≡ Ok d → Passed all h body d
 unfolding after_header
@@ -305,7 +305,7 @@ version_same true = refl
 version_same false = refl
 
 pub decoded-again : (d : Letter) → fits d ≡ true → decoded (spelling d) ≡ Ok d
-unfolding with_header after_header finished
+unfolding with_header after_header letter_at_end
 decoded-again d h =
     let s = body_shape d.msg in
     let f = fitting d h in

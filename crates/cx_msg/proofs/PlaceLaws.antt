@@ -7,9 +7,9 @@ use Rattle.cx_wire.specs.Format.{Miss, u8, u16, by_tag}
 use Rattle.cx_wire.proofs.Laws.{IsBytes, u8-exact, by_tag-takes, by_tag-within, Takes-less}
 use Rattle.cx_msg.specs.Messages.{body_with, cases_with, version_of}
 use Rattle.cx_msg.specs.Letter.{Letter, is_kind, senders, receivers, is_listed, magic, header}
-use Rattle.cx_msg.specs.Decoding.{finished, after_header, with_header, decoded}
-use Rattle.cx_msg.specs.Decodes.{Faults}
-use Rattle.cx_msg.specs.Records.{record_shape, record_cases, is_tag, ended, with_tag, recorded}
+use Rattle.cx_msg.specs.Decoding.{letter_at_end, after_header, with_header, decoded}
+use Rattle.cx_msg.specs.Decodes.{IsDecodeFault}
+use Rattle.cx_msg.specs.Records.{record_shape, record_cases, is_tag, record_at_end, with_tag, record_of_bytes}
 use Rattle.cx_msg.specs.Decodes.{Decodes}
 use Rattle.cx_msg.specs.Places.{LiesIn}
 use Rattle.cx_msg.specs.declared.kept.Record.{Record}
@@ -36,8 +36,8 @@ version_lies : (bytes : List ℕ) (b : Bool) (n : ℕ) (d : Letter) (e : WireFau
 version_lies bytes true n d e given = absurd cc
 version_lies bytes false n d e given = subst (λ (x : WireFault). LiesIn 4 bytes x) (fault_is {A = Letter} (faults.Version n) e _ refl given) tt
 
-finished_lies : (bytes : List ℕ) (h : Header) (body : List ℕ) (r : Result (Msg × List ℕ) Miss) (e : WireFault) → IsBytes body → length bytes ≡ 12 + length body → by_tag (cases_with (eqb h.version 2)) h.kind (length body) body ≡ r → finished (length bytes) h r ≡ Err e → LiesIn 4 bytes e
-unfolding finished
+finished_lies : (bytes : List ℕ) (h : Header) (body : List ℕ) (r : Result (Msg × List ℕ) Miss) (e : WireFault) → IsBytes body → length bytes ≡ 12 + length body → by_tag (cases_with (eqb h.version 2)) h.kind (length body) body ≡ r → letter_at_end (length bytes) h r ≡ Err e → LiesIn 4 bytes e
+unfolding letter_at_end
 finished_lies bytes h body (Err miss) e is_bytes len same given =
     let le : miss.left ≤ length body = by_tag-within (body_with (eqb h.version 2)) (cases_with (eqb h.version 2)) (bodies-sound (eqb h.version 2)) h.kind (length body) body miss is_bytes (omega arith) same in
     subst (λ (x : WireFault). LiesIn 4 bytes x) (fault_is {A = Letter} (faults.Field h.kind (length bytes - miss.left)) e _ refl given) (omega arith, omega arith)
@@ -92,7 +92,7 @@ decoded_lies : (bytes : List ℕ) (e : WireFault) → IsBytes bytes → decoded 
 decoded_lies bytes e is_bytes given = header_lies bytes (header.read bytes) e is_bytes refl given
 
 -- a fault of a datagram lies after its version and kind, in the bytes
-pub faults_lie : (bytes : List ℕ) (e : WireFault) → IsBytes bytes → Faults e (decoded bytes) → LiesIn 4 bytes e
+pub faults_lie : (bytes : List ℕ) (e : WireFault) → IsBytes bytes → IsDecodeFault e (decoded bytes) → LiesIn 4 bytes e
 faults_lie bytes faults.NoMemory is_bytes given = tt
 faults_lie bytes (faults.Short need have) is_bytes given = tt
 faults_lie bytes faults.Magic is_bytes given = tt
@@ -104,8 +104,8 @@ faults_lie bytes (faults.Field kind at) is_bytes given = decoded_lies bytes (fau
 
 -- ---- records
 
-ended_lies : (bytes : List ℕ) (tag : ℕ) (body : List ℕ) (r : Result (Record × List ℕ) Miss) (e : WireFault) → IsBytes body → length bytes ≡ 1 + length body → by_tag record_cases tag (length body) body ≡ r → ended (length bytes) tag r ≡ Err e → LiesIn 1 bytes e
-unfolding ended
+ended_lies : (bytes : List ℕ) (tag : ℕ) (body : List ℕ) (r : Result (Record × List ℕ) Miss) (e : WireFault) → IsBytes body → length bytes ≡ 1 + length body → by_tag record_cases tag (length body) body ≡ r → record_at_end (length bytes) tag r ≡ Err e → LiesIn 1 bytes e
+unfolding record_at_end
 ended_lies bytes tag body (Err miss) e is_bytes len same given =
     let le : miss.left ≤ length body = by_tag-within record_shape record_cases records-sound tag (length body) body miss is_bytes (omega arith) same in
     subst (λ (x : WireFault). LiesIn 1 bytes x) (fault_is {A = Record} (faults.Field tag (length bytes - miss.left)) e _ refl given) (omega arith, omega arith)
@@ -130,11 +130,11 @@ tag_lies bytes (Ok (tag, body)) e is_bytes same given =
       | inr rest ↦ ended_lies bytes tag body (by_tag record_cases tag (length body) body) e t.0.rest_fits len refl rest
     ]
 
-recorded_lies : (bytes : List ℕ) (e : WireFault) → IsBytes bytes → recorded bytes ≡ Err e → LiesIn 1 bytes e
+recorded_lies : (bytes : List ℕ) (e : WireFault) → IsBytes bytes → record_of_bytes bytes ≡ Err e → LiesIn 1 bytes e
 recorded_lies bytes e is_bytes given = tag_lies bytes (u8.read bytes) e is_bytes refl given
 
 -- a fault of a record lies after its tag, in the bytes
-pub record_faults_lie : (bytes : List ℕ) (r : Result Record WireFault) → IsBytes bytes → Decodes r (recorded bytes) → IfErr r (LiesIn 1 bytes)
+pub record_faults_lie : (bytes : List ℕ) (r : Result Record WireFault) → IsBytes bytes → Decodes r (record_of_bytes bytes) → IfErr r (LiesIn 1 bytes)
 record_faults_lie bytes (Ok kept) is_bytes given = tt
 record_faults_lie bytes (Err faults.NoMemory) is_bytes given = tt
 record_faults_lie bytes (Err (faults.Short need have)) is_bytes given = tt

@@ -5,7 +5,7 @@ use Rattle.std.proofs.lemmas.List.{append-nil}
 use Rattle.cx_wire.specs.Format.{Miss, u8, u16, u32, u64, ◌▷◌, by_tag}
 use Rattle.cx_wire.proofs.Laws.{IsBytes, IsExact, Takes-then, u8-exact, u16-exact, u32-exact, u64-exact, ▷-exact, case-sound, case-again, AllSound, ReadsAgain, by_tag-takes, tag_fits}
 use Rattle.cx_field.specs.Fields.{slot, mark, seq, round, round0, grid, value, values, pairs, notes, joined, set}
-use Rattle.cx_msg.specs.Records.{vote, round_mark, round_grid, base, client_notes, round_set, boot, record_shape, record_cases, kept_record, fits, spelling, is_tag, ended, with_tag, recorded}
+use Rattle.cx_msg.specs.Records.{vote, round_mark, round_grid, base, client_notes, round_set, boot, record_shape, record_cases, kept_record, fits, spelling, is_tag, record_at_end, with_tag, record_of_bytes}
 use Rattle.cx_msg.specs.Decodes.{Decodes}
 use Rattle.cx_msg.specs.declared.kept.Record.{Record}
 use Rattle.cx_msg.specs.declared.kept.Record.TheVariants as kept
@@ -125,18 +125,18 @@ past : (b : Bool) (e : WireFault) (r : Result Record WireFault) (x : Record) →
 past true e r x h = h
 past false e r x h = absurd cc
 
-tag_case : (all : ℕ) (r : Result (ℕ × List ℕ) Miss) (x : Record) → with_tag all r ≡ Ok x → (t : ℕ × List ℕ) × (r ≡ Ok t) × (ended all t.0 (by_tag record_cases t.0 (length t.1) t.1) ≡ Ok x)
+tag_case : (all : ℕ) (r : Result (ℕ × List ℕ) Miss) (x : Record) → with_tag all r ≡ Ok x → (t : ℕ × List ℕ) × (r ≡ Ok t) × (record_at_end all t.0 (by_tag record_cases t.0 (length t.1) t.1) ≡ Ok x)
 unfolding with_tag
 tag_case all (Err miss) x e = absurd cc
 tag_case all (Ok t) x e = (t, refl, past (is_tag t.0) (faults.Kind t.0) _ x e)
 
-ended_case : (all tag : ℕ) (r : Result (Record × List ℕ) Miss) (x : Record) → ended all tag r ≡ Ok x → r ≡ Ok (x, [])
-unfolding ended
+ended_case : (all tag : ℕ) (r : Result (Record × List ℕ) Miss) (x : Record) → record_at_end all tag r ≡ Ok x → r ≡ Ok (x, [])
+unfolding record_at_end
 ended_case all tag (Err miss) x e = absurd cc
 ended_case all tag (Ok (y, [])) x e = cc
 ended_case all tag (Ok (y, b ∷ bytes)) x e = absurd cc
 
-pub recorded-takes : (bytes : List ℕ) (x : Record) → IsBytes bytes → recorded bytes ≡ Ok x → (bytes ≡ spelling x) × (fits x ≡ true)
+pub recorded-takes : (bytes : List ℕ) (x : Record) → IsBytes bytes → record_of_bytes bytes ≡ Ok x → (bytes ≡ spelling x) × (fits x ≡ true)
 unfolding kept_record
 recorded-takes bytes x is_bytes e =
     let a = tag_case (length bytes) (u8.read bytes) x e in
@@ -146,8 +146,8 @@ recorded-takes bytes x is_bytes e =
     let whole = (Takes-then bytes (u8.spell a.0.0) a.0.1 (record_shape x).bytes [] s.0 t.0).parts in
     (rw t.2 (whole ∙ append-nil (u8.spell a.0.0 ++ (record_shape x).bytes)), t.1)
 
-pub recorded-again : (x : Record) → fits x ≡ true → recorded (spelling x) ≡ Ok x
-unfolding kept_record with_tag ended
+pub recorded-again : (x : Record) → fits x ≡ true → record_of_bytes (spelling x) ≡ Ok x
+unfolding kept_record with_tag record_at_end
 recorded-again x h =
     let s = record_shape x in
     let k = has_tag x in
@@ -155,6 +155,6 @@ recorded-again x h =
     let second : by_tag record_cases s.tag (length s.bytes) s.bytes ≡ Ok (x, []) = ap (by_tag record_cases s.tag (length s.bytes)) (sym (append-nil s.bytes)) ∙ record-again x (length s.bytes) [] h in
     rw (first, k.0, second) refl
 
-pub is_found : (bytes : List ℕ) (r : Result Record WireFault) → IsBytes bytes → Decodes r (recorded bytes) → IfOk r (λ x. (bytes ≡ spelling x) × IsTrue (fits x))
+pub is_found : (bytes : List ℕ) (r : Result Record WireFault) → IsBytes bytes → Decodes r (record_of_bytes bytes) → IfOk r (λ x. (bytes ≡ spelling x) × IsTrue (fits x))
 is_found bytes (Ok x) is_bytes given = recorded-takes bytes x is_bytes given
 is_found bytes (Err e) is_bytes given = tt

@@ -9,7 +9,7 @@ use Rattle.cx_base.specs.Role.{code_of, kind_of, role}
 use Rattle.cx_base.specs.declared.role.Kind.{Kind}
 use Rattle.cx_base.specs.declared.role.Kind.TheVariants.{Client, Batcher, Leader, Proxy, Acceptor, Matchmaker, Replica, Unbatcher, Reader, Replacer}
 use Rattle.cx_base.specs.declared.role.RoleId.{RoleId}
-use Rattle.cx_wire.specs.Format.{Miss, bad, by_tag, cut, u8, u16}
+use Rattle.cx_wire.specs.Format.{Miss, bad, by_tag, short_field, u8, u16}
 use Rattle.cx_field.specs.Reading.{Fails}
 use Rattle.cx_field.specs.declared.fault.ReadFault.{ReadFault}
 use Rattle.cx_field.specs.declared.fault.ReadFault.TheVariants as faults
@@ -38,7 +38,7 @@ fails_for_memory d kind bytes left (faults.Bad at) is same fails =
     absurd cc
 fails_for_memory d kind bytes left (faults.Cut at need) is same fails =
     let read = body_reads d kind bytes is in
-    let fault : by_tag (cases_with true) kind (length bytes) bytes ≡ Err (cut at need) = rw (← same) fails in
+    let fault : by_tag (cases_with true) kind (length bytes) bytes ≡ Err (short_field at need) = rw (← same) fails in
     absurd cc
 
 same_letter : (d : Letter) → fits d ≡ true → letter_with (body_shape d.msg).tag d.from d.to (body d) ≡ d

@@ -4,7 +4,7 @@ use Rattle.std.specs.List.{list_any}
 use Rattle.cx_base.specs.Grid.{Shape as GridShape}
 use Rattle.cx_base.specs.declared.round.Round.{Round}
 use Rattle.cx_base.specs.declared.command.Value.{Value}
-use Rattle.cx_wire.specs.Format.{Format, only, then_by, ◌▷◌, Shape}
+use Rattle.cx_wire.specs.Format.{Format, only, then_by, ◌▷◌, TaggedBytes}
 use Rattle.cx_wire.proofs.Laws.{both}
 use Rattle.cx_wire.proofs.Parts.{IsPart, IsShapePart, then_by-part, ▷-part, shape-part}
 use Rattle.cx_field.proofs.Floors.{command-part, commands-part, value-part, votes-part}
@@ -45,7 +45,7 @@ and_yes : (a : Bool) → a ≡ (a && true)
 and_yes true = refl
 and_yes false = refl
 
-plain : (s : Shape) → IsShapePart false s s
+plain : (s : TaggedBytes) → IsShapePart false s s
 plain s = record { tag = refl; fits = and_yes s.fits; bytes = refl }
 
 pub body-part : (m : Msg) → IsShapePart (tells_floors m) (body_with false m) (body_with true m)

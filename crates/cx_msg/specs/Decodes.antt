@@ -4,11 +4,11 @@ use Rattle.cx_msg.specs.declared.fault.WireFault.{WireFault}
 use Rattle.cx_msg.specs.declared.fault.WireFault.TheVariants as faults
 
 -- what was answered is this fault, unless memory ran out
-abbrev pub Faults : {X : Type 0} → WireFault → Result X WireFault → Type 0
-Faults faults.NoMemory is = Unit {0}
-Faults e is = is ≡ Err e
+abbrev pub IsDecodeFault : {X : Type 0} → WireFault → Result X WireFault → Type 0
+IsDecodeFault faults.NoMemory is = Unit {0}
+IsDecodeFault e is = is ≡ Err e
 
 -- what was answered is this, unless memory ran out
 abbrev pub Decodes : {X : Type 0} → Result X WireFault → Result X WireFault → Type 0
 Decodes (Ok x) is = is ≡ Ok x
-Decodes (Err e) is = Faults e is
+Decodes (Err e) is = IsDecodeFault e is

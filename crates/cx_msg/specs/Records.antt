@@ -4,7 +4,7 @@ use Rattle.cx_base.specs.Grid.{Shape as GridShape}
 use Rattle.cx_base.specs.declared.round.Round.{Round}
 use Rattle.cx_base.specs.declared.command.Value.{Value}
 use Rattle.cx_base.specs.declared.command.Note.{Note}
-use Rattle.cx_wire.specs.Format.{Format, Miss, u8, u16, u32, u64, ◌▷◌, by_tag, Shape, shape, Case, case, tagged}
+use Rattle.cx_wire.specs.Format.{Format, Miss, u8, u16, u32, u64, ◌▷◌, by_tag, TaggedBytes, shape, Case, case, tagged}
 use Rattle.cx_field.specs.Fields.{slot, mark, seq, round, round0, grid, value, values, pairs, notes, joined, set}
 use Rattle.cx_field.specs.declared.parts.Entry.{Entry}
 use Rattle.cx_msg.specs.declared.kept.Record.{Record}
@@ -41,7 +41,7 @@ abbrev pub boot : Format (List ℕ × (Round × List Entry))
 boot = set ▷ round0 ▷ joined
 
 -- a record's tag and its fields
-abbrev pub record_shape : Record → Shape
+abbrev pub record_shape : Record → TaggedBytes
 record_shape (kept.Promise r) = shape 1 round r
 record_shape (kept.Vote r s cw v) = shape 2 vote (r, (s, (cw, v)))
 record_shape (kept.Water r n) = shape 3 round_mark (r, n)
@@ -96,20 +96,20 @@ abbrev pub is_tag : ℕ → Bool
 is_tag tag = nat_le 1 tag && nat_le tag 16
 
 -- the record, once its fields are read, of this many bytes in all
-unfoldable pub ended : ℕ → ℕ → Result (Record × List ℕ) Miss → Result Record WireFault
-ended all tag (Err miss) = Err (faults.Field tag (all - miss.left))
-ended all tag (Ok (r, [])) = Ok r
-ended all tag (Ok (r, b ∷ bytes)) = Err (faults.Trailing (all - length (b ∷ bytes)))
+unfoldable pub record_at_end : ℕ → ℕ → Result (Record × List ℕ) Miss → Result Record WireFault
+record_at_end all tag (Err miss) = Err (faults.Field tag (all - miss.left))
+record_at_end all tag (Ok (r, [])) = Ok r
+record_at_end all tag (Ok (r, b ∷ bytes)) = Err (faults.Trailing (all - length (b ∷ bytes)))
 
 -- the test of the tag, and the fields after it
 unfoldable pub with_tag : ℕ → Result (ℕ × List ℕ) Miss → Result Record WireFault
 with_tag all (Err miss) = Err (faults.Short 1 0)
 with_tag all (Ok (tag, body)) =
-    if not (is_tag tag) then Err (faults.Kind tag) else ended all tag (by_tag record_cases tag (length body) body)
+    if not (is_tag tag) then Err (faults.Kind tag) else record_at_end all tag (by_tag record_cases tag (length body) body)
 
 -- the record that bytes spell, or the first test that they fail
-abbrev pub recorded : List ℕ → Result Record WireFault
-recorded bytes = with_tag (length bytes) (u8.read bytes)
+abbrev pub record_of_bytes : List ℕ → Result Record WireFault
+record_of_bytes bytes = with_tag (length bytes) (u8.read bytes)
 
 -- Where the first bytes of a record break at a bad field, of `said` bytes of which `have` are there: a field that is only cut, and
 -- would end within what is said, breaks where the bytes end; any other at its first byte.

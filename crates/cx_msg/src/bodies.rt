@@ -9,11 +9,18 @@ ghost use Rattle.cx_msg.specs.Records as records;
 ghost use Rattle.cx_field.specs.Reading.{Gives, Reads};
 
 use crate::message::Msg;
+use crate::read_bodies::{
+    match_read_ack_from, match_read_from, pre_read_ack_from, pre_read_from, read_answer_from,
+    read_from, read_req_from, sess_read_from,
+};
+use crate::set_bodies::{
+    boot_a_from, boot_b_from, next_a_from, next_b_from, sets_from, stop_a_from, stop_b_from,
+    stop_nack_from,
+};
 use cx_base::WINDOW;
 use cx_field::{
-    ReadFault, Reader, accepted_set_from, answers_from, asking_from, at_from, command_from,
-    commands_from, entries_from, found_from, grid_from, joined_from, mark_from, name_from,
-    reason_from, reply_from, round_from, round0_from, seq_from, set_from, slot_from, token_from,
+    ByteReader, ReadFault, answers_from, at_from, command_from, commands_from, entries_from,
+    grid_from, mark_from, reason_from, reply_from, round_from, round0_from, seq_from, slot_from,
     value_from, votes_from,
 };
 use std::alloc::Global;
@@ -24,7 +31,7 @@ pub fn body_from(
     kind: u8,
     alloc: Global,
     floors: bool,
-    reader: &mut Reader<'_>,
+    reader: &mut ByteReader<'_>,
 ) -> Result<Msg, ReadFault>
     ensures { Gives (λ m. m) result
         (wire.by_tag (message.cases_with floors) kind (length reader.old) reader.old) reader.new }
@@ -74,7 +81,7 @@ pub fn body_from(
     }
 }
 
-fn submit_from(floors: bool, reader: &mut Reader<'_>) -> Result<Msg, ReadFault>
+fn submit_from(floors: bool, reader: &mut ByteReader<'_>) -> Result<Msg, ReadFault>
     ensures { Gives (λ m. m) result
         ((wire.case 1 (field.command_with floors) (λ x. Msg.Submit x)).read reader.old) reader.new }
 {
@@ -82,7 +89,7 @@ fn submit_from(floors: bool, reader: &mut Reader<'_>) -> Result<Msg, ReadFault>
     Ok(Msg::Submit { command })
 }
 
-fn batch_from(alloc: Global, floors: bool, reader: &mut Reader<'_>) -> Result<Msg, ReadFault>
+fn batch_from(alloc: Global, floors: bool, reader: &mut ByteReader<'_>) -> Result<Msg, ReadFault>
     ensures { Gives (λ m. m) result
         ((wire.case 2 (field.commands_with floors) (λ x. Msg.Batch x)).read reader.old) reader.new }
 {
@@ -90,14 +97,14 @@ fn batch_from(alloc: Global, floors: bool, reader: &mut Reader<'_>) -> Result<Ms
     Ok(Msg::Batch { commands })
 }
 
-fn leads_from(reader: &mut Reader<'_>) -> Result<Msg, ReadFault>
+fn leads_from(reader: &mut ByteReader<'_>) -> Result<Msg, ReadFault>
     ensures { Gives (λ m. m) result ((wire.case 3 field.round (λ x. Msg.Leads x)).read reader.old) reader.new }
 {
     let round = round_from(reader)?;
     Ok(Msg::Leads { round })
 }
 
-fn match_a_from(alloc: Global, reader: &mut Reader<'_>) -> Result<Msg, ReadFault>
+fn match_a_from(alloc: Global, reader: &mut ByteReader<'_>) -> Result<Msg, ReadFault>
     ensures { Gives (λ m. m) result
         ((wire.case 4 records.round_grid (λ x. Msg.MatchA x.0 x.1)).read reader.old) reader.new }
 {
@@ -107,7 +114,7 @@ fn match_a_from(alloc: Global, reader: &mut Reader<'_>) -> Result<Msg, ReadFault
 }
 
 #[tactic(auto, unfolding(crate::specs::Messages::match_b))]
-fn match_b_from(alloc: Global, reader: &mut Reader<'_>) -> Result<Msg, ReadFault>
+fn match_b_from(alloc: Global, reader: &mut ByteReader<'_>) -> Result<Msg, ReadFault>
     ensures { Gives (λ m. m) result
         ((wire.case 5 message.match_b (λ x. Msg.MatchB x.0 x.1.0 x.1.1)).read reader.old) reader.new }
 {
@@ -122,7 +129,7 @@ fn match_b_from(alloc: Global, reader: &mut Reader<'_>) -> Result<Msg, ReadFault
 }
 
 #[tactic(auto, unfolding(crate::specs::Messages::match_nack))]
-fn match_nack_from(reader: &mut Reader<'_>) -> Result<Msg, ReadFault>
+fn match_nack_from(reader: &mut ByteReader<'_>) -> Result<Msg, ReadFault>
     ensures { Gives (λ m. m) result
         ((wire.case 6 message.match_nack (λ x. Msg.MatchNack x.0 x.1.0 x.1.1)).read reader.old)
         reader.new }
@@ -137,7 +144,7 @@ fn match_nack_from(reader: &mut Reader<'_>) -> Result<Msg, ReadFault>
     })
 }
 
-fn phase1a_from(reader: &mut Reader<'_>) -> Result<Msg, ReadFault>
+fn phase1a_from(reader: &mut ByteReader<'_>) -> Result<Msg, ReadFault>
     ensures { Gives (λ m. m) result ((wire.case 7 field.round (λ x. Msg.Phase1A x)).read reader.old) reader.new }
 {
     let round = round_from(reader)?;
@@ -145,7 +152,7 @@ fn phase1a_from(reader: &mut Reader<'_>) -> Result<Msg, ReadFault>
 }
 
 #[tactic(auto, unfolding(crate::specs::Messages::phase1b))]
-fn phase1b_from(alloc: Global, floors: bool, reader: &mut Reader<'_>) -> Result<Msg, ReadFault>
+fn phase1b_from(alloc: Global, floors: bool, reader: &mut ByteReader<'_>) -> Result<Msg, ReadFault>
     ensures { Gives (λ m. m) result
         ((wire.case 8 (message.phase1b floors) (λ x. Msg.Phase1B x.0 x.1.0 x.1.1)).read reader.old)
         reader.new }
@@ -157,7 +164,7 @@ fn phase1b_from(alloc: Global, floors: bool, reader: &mut Reader<'_>) -> Result<
 }
 
 #[tactic(auto, unfolding(crate::specs::Messages::nack))]
-fn nack_from(reader: &mut Reader<'_>) -> Result<Msg, ReadFault>
+fn nack_from(reader: &mut ByteReader<'_>) -> Result<Msg, ReadFault>
     ensures { Gives (λ m. m) result ((wire.case 9 message.nack (λ x. Msg.Nack x.0 x.1)).read reader.old) reader.new }
 {
     let round = round_from(reader)?;
@@ -166,7 +173,7 @@ fn nack_from(reader: &mut Reader<'_>) -> Result<Msg, ReadFault>
 }
 
 // A watermark whose window has the slot.
-fn window_from(slot: u64, reader: &mut Reader<'_>) -> Result<u64, ReadFault>
+fn window_from(slot: u64, reader: &mut ByteReader<'_>) -> Result<u64, ReadFault>
     ensures { Reads (wire.only (λ cw. in_window cw slot) field.mark) reader.old result reader.new }
 {
     let left = reader.left();
@@ -178,7 +185,7 @@ fn window_from(slot: u64, reader: &mut Reader<'_>) -> Result<u64, ReadFault>
 }
 
 #[tactic(auto, unfolding(crate::specs::Messages::propose))]
-fn propose_from(alloc: Global, floors: bool, reader: &mut Reader<'_>) -> Result<Msg, ReadFault>
+fn propose_from(alloc: Global, floors: bool, reader: &mut ByteReader<'_>) -> Result<Msg, ReadFault>
     ensures { Gives (λ m. m) result
         ((wire.case 10 (message.propose floors)
         (λ x. Msg.Propose x.0 x.1.0 x.1.1.0 x.1.1.1.0 x.1.1.1.1)).read reader.old) reader.new }
@@ -198,7 +205,7 @@ fn propose_from(alloc: Global, floors: bool, reader: &mut Reader<'_>) -> Result<
 }
 
 #[tactic(auto, unfolding(crate::specs::Messages::phase2a))]
-fn phase2a_from(alloc: Global, floors: bool, reader: &mut Reader<'_>) -> Result<Msg, ReadFault>
+fn phase2a_from(alloc: Global, floors: bool, reader: &mut ByteReader<'_>) -> Result<Msg, ReadFault>
     ensures { Gives (λ m. m) result
         ((wire.case 11 (message.phase2a floors) (λ x. Msg.Phase2A x.0 x.1.0 x.1.1.0 x.1.1.1)).read
         reader.old) reader.new }
@@ -216,7 +223,7 @@ fn phase2a_from(alloc: Global, floors: bool, reader: &mut Reader<'_>) -> Result<
 }
 
 #[tactic(auto, unfolding(crate::specs::Messages::round_slot))]
-fn phase2b_from(reader: &mut Reader<'_>) -> Result<Msg, ReadFault>
+fn phase2b_from(reader: &mut ByteReader<'_>) -> Result<Msg, ReadFault>
     ensures { Gives (λ m. m) result
         ((wire.case 12 message.round_slot (λ x. Msg.Phase2B x.0 x.1)).read reader.old) reader.new }
 {
@@ -226,7 +233,7 @@ fn phase2b_from(reader: &mut Reader<'_>) -> Result<Msg, ReadFault>
 }
 
 #[tactic(auto, unfolding(crate::specs::Messages::slot_value))]
-fn chosen_from(alloc: Global, floors: bool, reader: &mut Reader<'_>) -> Result<Msg, ReadFault>
+fn chosen_from(alloc: Global, floors: bool, reader: &mut ByteReader<'_>) -> Result<Msg, ReadFault>
     ensures { Gives (λ m. m) result
         ((wire.case 13 (message.slot_value floors) (λ x. Msg.Chosen x.0 x.1)).read reader.old)
         reader.new }
@@ -237,7 +244,7 @@ fn chosen_from(alloc: Global, floors: bool, reader: &mut Reader<'_>) -> Result<M
 }
 
 #[tactic(auto, unfolding(crate::specs::Messages::round_slot))]
-fn chosen_in_from(reader: &mut Reader<'_>) -> Result<Msg, ReadFault>
+fn chosen_in_from(reader: &mut ByteReader<'_>) -> Result<Msg, ReadFault>
     ensures { Gives (λ m. m) result
         ((wire.case 14 message.round_slot (λ x. Msg.ChosenIn x.0 x.1)).read reader.old) reader.new }
 {
@@ -247,7 +254,7 @@ fn chosen_in_from(reader: &mut Reader<'_>) -> Result<Msg, ReadFault>
 }
 
 #[tactic(auto, unfolding(crate::specs::Messages::results))]
-fn results_from(alloc: Global, reader: &mut Reader<'_>) -> Result<Msg, ReadFault>
+fn results_from(alloc: Global, reader: &mut ByteReader<'_>) -> Result<Msg, ReadFault>
     ensures { Gives (λ m. m) result
         ((wire.case 15 message.results (λ x. Msg.Results x.0 x.1)).read reader.old) reader.new }
 {
@@ -257,7 +264,7 @@ fn results_from(alloc: Global, reader: &mut Reader<'_>) -> Result<Msg, ReadFault
 }
 
 #[tactic(auto, unfolding(crate::specs::Messages::answer))]
-fn answer_from(reader: &mut Reader<'_>) -> Result<Msg, ReadFault>
+fn answer_from(reader: &mut ByteReader<'_>) -> Result<Msg, ReadFault>
     ensures { Gives (λ m. m) result
         ((wire.case 16 message.answer (λ x. Msg.Answer x.0 x.1.0 x.1.1)).read reader.old) reader.new }
 {
@@ -267,21 +274,21 @@ fn answer_from(reader: &mut Reader<'_>) -> Result<Msg, ReadFault>
     Ok(Msg::Answer { seq, at, reply })
 }
 
-fn held_from(reader: &mut Reader<'_>) -> Result<Msg, ReadFault>
+fn held_from(reader: &mut ByteReader<'_>) -> Result<Msg, ReadFault>
     ensures { Gives (λ m. m) result ((wire.case 17 field.mark (λ x. Msg.Held x)).read reader.old) reader.new }
 {
     let mark = mark_from(reader)?;
     Ok(Msg::Held { mark })
 }
 
-fn fetch_from(reader: &mut Reader<'_>) -> Result<Msg, ReadFault>
+fn fetch_from(reader: &mut ByteReader<'_>) -> Result<Msg, ReadFault>
     ensures { Gives (λ m. m) result ((wire.case 18 field.mark (λ x. Msg.Fetch x)).read reader.old) reader.new }
 {
     let mark = mark_from(reader)?;
     Ok(Msg::Fetch { mark })
 }
 
-fn inform_from(reader: &mut Reader<'_>) -> Result<Msg, ReadFault>
+fn inform_from(reader: &mut ByteReader<'_>) -> Result<Msg, ReadFault>
     ensures { Gives (λ m. m) result
         ((wire.case 19 records.round_mark (λ x. Msg.Inform x.0 x.1)).read reader.old) reader.new }
 {
@@ -290,7 +297,7 @@ fn inform_from(reader: &mut Reader<'_>) -> Result<Msg, ReadFault>
     Ok(Msg::Inform { round, mark })
 }
 
-fn informed_from(reader: &mut Reader<'_>) -> Result<Msg, ReadFault>
+fn informed_from(reader: &mut ByteReader<'_>) -> Result<Msg, ReadFault>
     ensures { Gives (λ m. m) result
         ((wire.case 20 records.round_mark (λ x. Msg.Informed x.0 x.1)).read reader.old) reader.new }
 {
@@ -299,7 +306,7 @@ fn informed_from(reader: &mut Reader<'_>) -> Result<Msg, ReadFault>
     Ok(Msg::Informed { round, mark })
 }
 
-fn garbage_a_from(alloc: Global, reader: &mut Reader<'_>) -> Result<Msg, ReadFault>
+fn garbage_a_from(alloc: Global, reader: &mut ByteReader<'_>) -> Result<Msg, ReadFault>
     ensures { Gives (λ m. m) result
         ((wire.case 21 records.round_grid (λ x. Msg.GarbageA x.0 x.1)).read reader.old) reader.new }
 {
@@ -308,185 +315,9 @@ fn garbage_a_from(alloc: Global, reader: &mut Reader<'_>) -> Result<Msg, ReadFau
     Ok(Msg::GarbageA { round, grid })
 }
 
-fn garbage_b_from(reader: &mut Reader<'_>) -> Result<Msg, ReadFault>
+fn garbage_b_from(reader: &mut ByteReader<'_>) -> Result<Msg, ReadFault>
     ensures { Gives (λ m. m) result ((wire.case 22 field.round (λ x. Msg.GarbageB x)).read reader.old) reader.new }
 {
     let round = round_from(reader)?;
     Ok(Msg::GarbageB { round })
-}
-
-#[tactic(auto, unfolding(crate::specs::Messages::read_req))]
-fn read_req_from(reader: &mut Reader<'_>) -> Result<Msg, ReadFault>
-    ensures { Gives (λ m. m) result
-        ((wire.case 23 message.read_req (λ x. Msg.ReadReq x.0 x.1.0 x.1.1)).read reader.old)
-        reader.new }
-{
-    let seq = seq_from(reader)?;
-    let replica = reader.u16()?;
-    let key = name_from(reader)?;
-    Ok(Msg::ReadReq { seq, replica, key })
-}
-
-fn match_read_from(reader: &mut Reader<'_>) -> Result<Msg, ReadFault>
-    ensures { Gives (λ m. m) result ((wire.case 24 field.asking (λ x. Msg.MatchRead x)).read reader.old) reader.new }
-{
-    let asking = asking_from(reader)?;
-    Ok(Msg::MatchRead { asking })
-}
-
-#[tactic(auto, unfolding(crate::specs::Messages::match_read_ack))]
-fn match_read_ack_from(alloc: Global, reader: &mut Reader<'_>) -> Result<Msg, ReadFault>
-    ensures { Gives (λ m. m) result
-        ((wire.case 25 message.match_read_ack (λ x. Msg.MatchReadAck x.0 x.1.0 x.1.1)).read reader.old)
-        reader.new }
-{
-    let asking = asking_from(reader)?;
-    let watermark = round0_from(reader)?;
-    let entries = entries_from(alloc, reader)?;
-    Ok(Msg::MatchReadAck {
-        asking,
-        watermark,
-        entries,
-    })
-}
-
-#[tactic(auto, unfolding(crate::specs::Messages::pre_read))]
-fn pre_read_from(reader: &mut Reader<'_>) -> Result<Msg, ReadFault>
-    ensures { Gives (λ m. m) result
-        ((wire.case 26 message.pre_read (λ x. Msg.PreRead x.0 x.1)).read reader.old) reader.new }
-{
-    let asking = asking_from(reader)?;
-    let watermark = round0_from(reader)?;
-    Ok(Msg::PreRead { asking, watermark })
-}
-
-#[tactic(auto, unfolding(crate::specs::Messages::pre_read_ack))]
-fn pre_read_ack_from(reader: &mut Reader<'_>) -> Result<Msg, ReadFault>
-    ensures { Gives (λ m. m) result
-        ((wire.case 27 message.pre_read_ack (λ x. Msg.PreReadAck x.0 x.1.0 x.1.1)).read reader.old)
-        reader.new }
-{
-    let asking = asking_from(reader)?;
-    let watermark = round0_from(reader)?;
-    let mark = mark_from(reader)?;
-    Ok(Msg::PreReadAck {
-        asking,
-        watermark,
-        mark,
-    })
-}
-
-#[tactic(auto, unfolding(crate::specs::Messages::read_key))]
-fn read_from(reader: &mut Reader<'_>) -> Result<Msg, ReadFault>
-    ensures { Gives (λ m. m) result
-        ((wire.case 28 message.read_key (λ x. Msg.Read x.0 x.1.0 x.1.1)).read reader.old) reader.new }
-{
-    let token = token_from(reader)?;
-    let mark = mark_from(reader)?;
-    let key = name_from(reader)?;
-    Ok(Msg::Read { token, mark, key })
-}
-
-#[tactic(auto, unfolding(crate::specs::Messages::read_answer))]
-fn read_answer_from(reader: &mut Reader<'_>) -> Result<Msg, ReadFault>
-    ensures { Gives (λ m. m) result
-        ((wire.case 29 message.read_answer (λ x. Msg.ReadAnswer x.0 x.1.0 x.1.1)).read reader.old)
-        reader.new }
-{
-    let seq = seq_from(reader)?;
-    let mark = mark_from(reader)?;
-    let found = found_from(reader)?;
-    Ok(Msg::ReadAnswer { seq, mark, found })
-}
-
-fn stop_a_from(reader: &mut Reader<'_>) -> Result<Msg, ReadFault>
-    ensures { Gives (λ m. m) result ((wire.case 30 field.round (λ x. Msg.StopA x)).read reader.old) reader.new }
-{
-    let round = round_from(reader)?;
-    Ok(Msg::StopA { round })
-}
-
-#[tactic(auto, unfolding(crate::specs::Messages::stop_b))]
-fn stop_b_from(alloc: Global, reader: &mut Reader<'_>) -> Result<Msg, ReadFault>
-    ensures { Gives (λ m. m) result
-        ((wire.case 31 message.stop_b
-        (λ x. Msg.StopB x.0 x.1.0 x.1.1.0 x.1.1.1.0 x.1.1.1.1)).read reader.old) reader.new }
-{
-    let round = round_from(reader)?;
-    let watermark = round0_from(reader)?;
-    let entries = entries_from(alloc, reader)?;
-    let accepted = round0_from(reader)?;
-    let set = accepted_set_from(alloc, &accepted, reader)?;
-    Ok(Msg::StopB {
-        round,
-        watermark,
-        entries,
-        accepted,
-        set,
-    })
-}
-
-#[tactic(auto, unfolding(crate::specs::Messages::nack))]
-fn stop_nack_from(reader: &mut Reader<'_>) -> Result<Msg, ReadFault>
-    ensures { Gives (λ m. m) result
-        ((wire.case 32 message.nack (λ x. Msg.StopNack x.0 x.1)).read reader.old) reader.new }
-{
-    let round = round_from(reader)?;
-    let other = round_from(reader)?;
-    Ok(Msg::StopNack { round, other })
-}
-
-fn next_a_from(alloc: Global, reader: &mut Reader<'_>) -> Result<Msg, ReadFault>
-    ensures { Gives (λ m. m) result
-        ((wire.case 33 records.round_set (λ x. Msg.NextA x.0 x.1)).read reader.old) reader.new }
-{
-    let round = round_from(reader)?;
-    let set = set_from(alloc, reader)?;
-    Ok(Msg::NextA { round, set })
-}
-
-fn next_b_from(reader: &mut Reader<'_>) -> Result<Msg, ReadFault>
-    ensures { Gives (λ m. m) result ((wire.case 34 field.round (λ x. Msg.NextB x)).read reader.old) reader.new }
-{
-    let round = round_from(reader)?;
-    Ok(Msg::NextB { round })
-}
-
-fn boot_a_from(alloc: Global, reader: &mut Reader<'_>) -> Result<Msg, ReadFault>
-    ensures { Gives (λ m. m) result
-        ((wire.case 35 records.boot (λ x. Msg.BootA x.0 x.1.0 x.1.1)).read reader.old) reader.new }
-{
-    let set = set_from(alloc, reader)?;
-    let watermark = round0_from(reader)?;
-    let entries = joined_from(alloc, reader)?;
-    Ok(Msg::BootA {
-        set,
-        watermark,
-        entries,
-    })
-}
-
-fn boot_b_from(alloc: Global, reader: &mut Reader<'_>) -> Result<Msg, ReadFault>
-    ensures { Gives (λ m. m) result ((wire.case 36 field.set (λ x. Msg.BootB x)).read reader.old) reader.new }
-{
-    let set = set_from(alloc, reader)?;
-    Ok(Msg::BootB { set })
-}
-
-fn sets_from(alloc: Global, reader: &mut Reader<'_>) -> Result<Msg, ReadFault>
-    ensures { Gives (λ m. m) result ((wire.case 37 field.set (λ x. Msg.Sets x)).read reader.old) reader.new }
-{
-    let set = set_from(alloc, reader)?;
-    Ok(Msg::Sets { set })
-}
-
-#[tactic(auto, unfolding(crate::specs::Messages::sess_read))]
-fn sess_read_from(reader: &mut Reader<'_>) -> Result<Msg, ReadFault>
-    ensures { Gives (λ m. m) result
-        ((wire.case 38 message.sess_read (λ x. Msg.SessRead x.0 x.1.0 x.1.1)).read reader.old) reader.new }
-{
-    let seq = seq_from(reader)?;
-    let mark = mark_from(reader)?;
-    let key = name_from(reader)?;
-    Ok(Msg::SessRead { seq, mark, key })
 }

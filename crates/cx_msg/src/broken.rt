@@ -1,18 +1,18 @@
 //! Where a record breaks off whose bytes are not all there.
 
 ghost use Rattle.std.specs.Prelude.{◌≡◌, ◌≤◌, IfOk, length};
-ghost use Rattle.cx_wire.specs.Format.{cut};
+ghost use Rattle.cx_wire.specs.Format.{short_field};
 ghost use Rattle.cx_msg.specs.Records.{break_place, break_of_part};
 
 use crate::records::{fields_from, is_tag};
 use cx_base::NoMemory;
-use cx_field::{ReadFault, Reader};
+use cx_field::{ByteReader, ReadFault};
 use std::alloc::Global;
 
 // Where bytes break at a field that takes more of them than are left.
 #[tactic(auto, unfolding(crate::specs::Records::break_place))]
 fn cut_place(said: usize, have: usize, left: usize, need: usize) -> usize
-    ensures place { result ≡ break_place said have (cut left need) }
+    ensures place { result ≡ break_place said have (short_field left need) }
     ensures within { result ≤ have }
 {
     let at = have.saturating_sub(left);
@@ -32,7 +32,7 @@ pub fn break_of_part(alloc: Global, bytes: &[u8], said: usize) -> Result<usize, 
     ensures within { IfOk result (λ at. at ≤ length bytes.now) }
 {
     let have = bytes.len();
-    let mut reader = Reader::new(bytes);
+    let mut reader = ByteReader::new(bytes);
     let tag = match reader.u8() {
         Ok(tag) => tag,
         Err(ReadFault::Bad { .. } | ReadFault::Cut { .. }) => return Ok(have),

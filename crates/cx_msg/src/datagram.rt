@@ -29,7 +29,7 @@ impl Model for Datagram {
 }
 
 impl Datagram {
-    /// The datagram with these parts. It takes no memory.
+    /// The datagram with these parts.
     pub fn new(from: RoleId, to: RoleId, msg: Msg) -> Self
         requires { IsTrue (letter_fits (letter from to msg)) }
         ensures { result ≡ letter from to msg }

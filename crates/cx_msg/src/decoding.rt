@@ -3,7 +3,7 @@
 ghost use Rattle.std.specs.Prelude.{◌≡◌, ◌==◌, ◌≤◌, ◌++◌, ℕ, List, [], IfOk, IfErr, IsTrue, length};
 ghost use Rattle.cx_msg.specs.Letter.{Letter, spelling, fits};
 ghost use Rattle.cx_msg.specs.Parts.{DecodesParts};
-ghost use Rattle.cx_msg.specs.Decoding.{decoded, finished, after_header};
+ghost use Rattle.cx_msg.specs.Decoding.{decoded, letter_at_end, after_header};
 ghost use Rattle.cx_msg.specs.Decodes.{Decodes};
 ghost use Rattle.cx_msg.specs.Messages.{cases_with};
 ghost use Rattle.cx_msg.specs.Places.{LiesIn};
@@ -17,7 +17,7 @@ use crate::header::{Header, MAGIC, header_from};
 use crate::message::Msg;
 use crate::roles::{is_kind, may_receive, may_send};
 use cx_base::{Kind, RoleId};
-use cx_field::{ReadFault, Reader};
+use cx_field::{ByteReader, ReadFault};
 use std::alloc::Global;
 
 /// The parts of a datagram.
@@ -28,17 +28,17 @@ pub struct Parts {
 }
 
 // The datagram, once its header is read.
-#[tactic(auto, unfolding(crate::specs::Decoding::finished))]
+#[tactic(auto, unfolding(crate::specs::Decoding::letter_at_end))]
 fn finish(
     alloc: Global,
     all: usize,
     header: &Header,
-    reader: &mut Reader<'_>,
+    reader: &mut ByteReader<'_>,
 ) -> Result<Parts, WireFault>
     requires from { header.now.from ≤ 10 }
     requires to { header.now.to ≤ 10 }
     ensures { DecodesParts result
-        (finished all header.now
+        (letter_at_end all header.now
         (by_tag (cases_with (header.now.version == 2)) header.now.kind (length reader.old)
         reader.old)) }
 {
@@ -78,7 +78,7 @@ fn body_of(
     alloc: Global,
     all: usize,
     header: &Header,
-    reader: &mut Reader<'_>,
+    reader: &mut ByteReader<'_>,
 ) -> Result<Parts, WireFault>
     ensures { DecodesParts result (after_header all header.now reader.old) }
 {
@@ -118,7 +118,7 @@ fn body_of(
 fn read(alloc: Global, bytes: &[u8]) -> Result<Parts, WireFault>
     ensures { DecodesParts result (decoded bytes.now) }
 {
-    let mut reader = Reader::new(bytes);
+    let mut reader = ByteReader::new(bytes);
     match header_from(&mut reader) {
         Ok(header) => body_of(alloc, bytes.len(), &header, &mut reader),
         Err(ReadFault::Bad { .. } | ReadFault::Cut { .. }) => Err(WireFault::Short {

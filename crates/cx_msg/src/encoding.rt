@@ -6,7 +6,7 @@ ghost use Rattle.cx_msg.specs.Letter.{body, spelling};
 use crate::datagram::Datagram;
 use crate::floors::version_of;
 use crate::header::{Header, MAGIC, put_header};
-use crate::put_bodies::{kind_of, put_body};
+use crate::put_bodies::{message_kind, put_body};
 use cx_base::NoMemory;
 use std::alloc::Global;
 
@@ -32,7 +32,7 @@ pub fn encode_into(alloc: Global, datagram: &Datagram, out: &mut Vec<u8>) -> Res
     let header = Header {
         magic: MAGIC,
         version: version_of(datagram.msg()),
-        kind: kind_of(datagram.msg()),
+        kind: message_kind(datagram.msg()),
         from: datagram.from().kind.code(),
         from_index: datagram.from().index,
         to: datagram.to().kind.code(),

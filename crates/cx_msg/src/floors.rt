@@ -41,8 +41,7 @@ fn votes_tell(votes: &[Vote]) -> bool
     votes.iter().any(|vote| value_tells(&vote.value))
 }
 
-/// Whether a message has a command that tells its floor, as each does whose floor isn't the number just below its own. It takes
-/// no memory.
+/// Whether a message has a command that tells its floor, as each does whose floor isn't the number just below its own.
 pub fn tells_floors(msg: &Msg) -> bool
     ensures { result ≡ tells_floors msg.now }
 {

@@ -7,7 +7,7 @@ ghost use Rattle.cx_wire.specs.Format as wire;
 ghost use Rattle.cx_wire.specs.Format.{◌▷◌, Appends};
 
 use cx_base::NoMemory;
-use cx_field::{ReadFault, Reader};
+use cx_field::{ByteReader, ReadFault};
 use cx_wire::{put_u8, put_u16};
 
 /// The letters CX.
@@ -27,7 +27,7 @@ pub struct Header {
 }
 
 #[tactic(auto, unfolding(crate::specs::Letter::header))]
-pub fn header_from(reader: &mut Reader<'_>) -> Result<Header, ReadFault>
+pub fn header_from(reader: &mut ByteReader<'_>) -> Result<Header, ReadFault>
     ensures { Reads header_format reader.old result reader.new }
 {
     let magic = reader.u16()?;

@@ -20,9 +20,13 @@ mod letters;
 mod message;
 mod names;
 mod put_bodies;
+mod put_read_bodies;
+mod put_set_bodies;
+mod read_bodies;
 mod read_letters;
 mod records;
 mod roles;
+mod set_bodies;
 mod set_letters;
 mod spelled;
 
@@ -41,7 +45,8 @@ pub use letters::{
 };
 pub use message::Msg;
 pub use read_letters::{
-    match_read, match_read_ack, pre_read, pre_read_ack, read, read_answer, read_req, sess_read,
+    match_read, match_read_ack, pre_read, pre_read_ack, read_answer, read_req, replica_read,
+    sess_read,
 };
 pub use records::{record_from, record_into};
 pub use set_letters::{

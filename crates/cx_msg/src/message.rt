@@ -4,7 +4,7 @@ ghost use Rattle.std.specs.Prelude.{◌≡◌};
 ghost use Rattle.cx_msg.specs.Names.{name_of_message};
 
 use crate::names::name_of_kind;
-use crate::put_bodies::kind_of;
+use crate::put_bodies::message_kind;
 use cx_base::{Command, Commands, Grid, Key, Reply, Round, Set, Text, Value};
 use cx_field::{Answers, Asking, Entries, NackReason, Token, Votes};
 
@@ -212,10 +212,10 @@ pub enum Msg {
 }
 
 impl Msg {
-    /// Its name in texts, which is that of its kind. It takes no memory.
+    /// Its name in texts, which is that of its kind.
     pub fn name(&self) -> &'static str
         ensures { result.now ≡ name_of_message self.now }
     {
-        name_of_kind(kind_of(self))
+        name_of_kind(message_kind(self))
     }
 }

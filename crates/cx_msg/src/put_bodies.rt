@@ -1,22 +1,25 @@
 //! The bodies of messages, appended to bytes.
 
 ghost use Rattle.std.specs.Prelude.{◌≡◌, ◌≤◌, ◌+◌, ◌++◌, true, length, OnOk};
-ghost use Rattle.cx_field.specs.Fields as field;
 ghost use Rattle.cx_msg.specs.Messages as message;
 ghost use Rattle.cx_msg.specs.Records as records;
-ghost use Rattle.cx_wire.specs.Format.{Appends, then_by};
+ghost use Rattle.cx_wire.specs.Format.{Appends};
 
 use crate::message::Msg;
-use cx_base::{Grid, Key, NoMemory, Reply, Round, Set, Text, Value};
-use cx_field::{
-    Answers, Asking, Entries, NackReason, Token, Votes, put_answers, put_asking, put_at,
-    put_command, put_commands, put_entries, put_found, put_grid, put_mark, put_name, put_reason,
-    put_reply, put_round, put_seq, put_set, put_slot, put_token, put_value, put_votes,
+use crate::put_read_bodies::{
+    put_match_read_ack, put_pre_read, put_pre_read_ack, put_read_answer, put_read_key,
+    put_read_req, put_sess_read,
 };
-use cx_wire::put_u16;
+use crate::put_set_bodies::{put_boot, put_round_set, put_stop_b};
+use cx_base::{Grid, NoMemory, Reply, Round, Value};
+use cx_field::{
+    Answers, Entries, NackReason, Votes, put_answers, put_asking, put_at, put_command,
+    put_commands, put_entries, put_grid, put_mark, put_reason, put_reply, put_round, put_seq,
+    put_set, put_slot, put_value, put_votes,
+};
 
 /// A message's number on the wire.
-pub fn kind_of(msg: &Msg) -> u8
+pub fn message_kind(msg: &Msg) -> u8
     ensures { result ≡ (message.body_shape msg.now).tag }
 {
     match msg {
@@ -189,134 +192,6 @@ fn put_answer(out: &mut Vec<u8>, seq: u64, at: u64, reply: &Reply) -> Result<(),
     put_seq(out, seq)?;
     put_at(out, at)?;
     put_reply(out, reply)
-}
-
-#[tactic(auto, unfolding(crate::specs::Messages::read_req))]
-fn put_read_req(out: &mut Vec<u8>, seq: u64, replica: u16, key: &Key) -> Result<(), NoMemory>
-    ensures { OnOk result (Appends message.read_req (seq, (replica, key.now)) 43 out.old.items out.new.items) }
-{
-    put_seq(out, seq)?;
-    put_u16(out, replica)?;
-    put_name(out, key)
-}
-
-#[tactic(auto, unfolding(crate::specs::Messages::match_read_ack))]
-fn put_match_read_ack(
-    out: &mut Vec<u8>,
-    asking: &Asking,
-    watermark: &Round,
-    entries: &Entries,
-) -> Result<(), NoMemory>
-    ensures { OnOk result (Appends message.match_read_ack (asking.now, (watermark.now, entries.now)) 11241
-        out.old.items out.new.items) }
-{
-    put_asking(out, asking)?;
-    put_round(out, watermark)?;
-    put_entries(out, entries)
-}
-
-#[tactic(auto, unfolding(crate::specs::Messages::pre_read))]
-fn put_pre_read(out: &mut Vec<u8>, asking: &Asking, watermark: &Round) -> Result<(), NoMemory>
-    ensures { OnOk result (Appends message.pre_read (asking.now, watermark.now) 20 out.old.items out.new.items) }
-{
-    put_asking(out, asking)?;
-    put_round(out, watermark)
-}
-
-#[tactic(auto, unfolding(crate::specs::Messages::pre_read_ack))]
-fn put_pre_read_ack(
-    out: &mut Vec<u8>,
-    asking: &Asking,
-    watermark: &Round,
-    mark: u64,
-) -> Result<(), NoMemory>
-    ensures { OnOk result (Appends message.pre_read_ack (asking.now, (watermark.now, mark)) 28
-        out.old.items out.new.items) }
-{
-    put_asking(out, asking)?;
-    put_round(out, watermark)?;
-    put_mark(out, mark)
-}
-
-#[tactic(auto, unfolding(crate::specs::Messages::read_key))]
-fn put_read_key(out: &mut Vec<u8>, token: &Token, mark: u64, key: &Key) -> Result<(), NoMemory>
-    ensures { OnOk result (Appends message.read_key (token.now, (mark, key.now)) 51 out.old.items out.new.items) }
-{
-    put_token(out, token)?;
-    put_mark(out, mark)?;
-    put_name(out, key)
-}
-
-#[tactic(auto, unfolding(crate::specs::Messages::read_answer))]
-fn put_read_answer(
-    out: &mut Vec<u8>,
-    seq: u64,
-    mark: u64,
-    found: &Option<Text>,
-) -> Result<(), NoMemory>
-    ensures { OnOk result (Appends message.read_answer (seq, (mark, found.now)) 82 out.old.items out.new.items) }
-{
-    put_seq(out, seq)?;
-    put_mark(out, mark)?;
-    put_found(out, found)
-}
-
-fn put_accepted(out: &mut Vec<u8>, accepted: &Round, set: &Set) -> Result<(), NoMemory>
-    ensures { OnOk result (Appends (then_by field.round0 field.accepted_set) (accepted.now, set.now) 25
-        out.old.items out.new.items) }
-{
-    put_round(out, accepted)?;
-    put_set(out, set)
-}
-
-#[tactic(auto, unfolding(crate::specs::Messages::stop_b))]
-fn put_stop_b(
-    out: &mut Vec<u8>,
-    round: &Round,
-    watermark: &Round,
-    entries: &Entries,
-    accepted: &Round,
-    set: &Set,
-) -> Result<(), NoMemory>
-    ensures { OnOk result (Appends message.stop_b
-        (round.now, (watermark.now, (entries.now, (accepted.now, set.now)))) 11266 out.old.items
-        out.new.items) }
-{
-    put_round(out, round)?;
-    put_round(out, watermark)?;
-    put_entries(out, entries)?;
-    put_accepted(out, accepted, set)
-}
-
-fn put_round_set(out: &mut Vec<u8>, round: &Round, set: &Set) -> Result<(), NoMemory>
-    ensures { OnOk result (Appends records.round_set (round.now, set.now) 25 out.old.items out.new.items) }
-{
-    put_round(out, round)?;
-    put_set(out, set)
-}
-
-/// Appends a set, a watermark and entries.
-pub fn put_boot(
-    out: &mut Vec<u8>,
-    set: &Set,
-    watermark: &Round,
-    entries: &Entries,
-) -> Result<(), NoMemory>
-    ensures { OnOk result (Appends records.boot (set.now, (watermark.now, entries.now)) 11246
-        out.old.items out.new.items) }
-{
-    put_set(out, set)?;
-    put_round(out, watermark)?;
-    put_entries(out, entries)
-}
-
-#[tactic(auto, unfolding(crate::specs::Messages::sess_read))]
-fn put_sess_read(out: &mut Vec<u8>, seq: u64, mark: u64, key: &Key) -> Result<(), NoMemory>
-    ensures { OnOk result (Appends message.sess_read (seq, (mark, key.now)) 49 out.old.items out.new.items) }
-{
-    put_seq(out, seq)?;
-    put_mark(out, mark)?;
-    put_name(out, key)
 }
 
 /// Appends a message's body, at most 30,611 bytes.

@@ -104,7 +104,7 @@ pub fn pre_read_ack(
 
 /// A reader's question for a key, for a replica that holds `mark` slots.
 #[tactic(auto, unfolding(crate::specs::Messages::read_key, cx_wire::specs::Format::u16))]
-pub fn read(reader: u16, replica: u16, token: Token, mark: u64, key: Key) -> Datagram
+pub fn replica_read(reader: u16, replica: u16, token: Token, mark: u64, key: Key) -> Datagram
     requires token { IsTrue (field.token.fits token) }
     requires mark { IsTrue (field.mark.fits mark) }
     ensures { result ≡ letter (role Kind.Reader reader) (role Kind.Replica replica) (Msg.Read token mark key) }

@@ -11,12 +11,12 @@ ghost use Rattle.cx_msg.specs.declared.kept.Record.{Record as Kept};
 
 use crate::fault::WireFault;
 use crate::kept::Record;
-use crate::put_bodies::put_boot;
+use crate::put_set_bodies::put_boot;
 use cx_base::{NoMemory, Round, Value};
 use cx_field::{
-    Notes, ReadFault, Reader, grid_from, joined_from, mark_from, notes_from, pairs_from, put_grid,
-    put_mark, put_notes, put_pairs, put_round, put_seq, put_set, put_slot, put_value, put_values,
-    round_from, round0_from, seq_from, set_from, slot_from, value_from, values_from,
+    ByteReader, Notes, ReadFault, grid_from, joined_from, mark_from, notes_from, pairs_from,
+    put_grid, put_mark, put_notes, put_pairs, put_round, put_seq, put_set, put_slot, put_value,
+    put_values, round_from, round0_from, seq_from, set_from, slot_from, value_from, values_from,
 };
 use cx_wire::{put_u8, put_u16, put_u32, put_u64};
 use std::alloc::Global;
@@ -32,7 +32,7 @@ pub(crate) fn is_tag(tag: u8) -> bool
 pub(crate) fn fields_from(
     tag: u8,
     alloc: Global,
-    reader: &mut Reader<'_>,
+    reader: &mut ByteReader<'_>,
 ) -> Result<Record, ReadFault>
     ensures { Gives (λ r. r) result (wire.by_tag records.record_cases tag (length reader.old) reader.old) reader.new }
 {
@@ -133,11 +133,11 @@ pub(crate) fn fields_from(
     }
 }
 
-#[tactic(auto, unfolding(crate::specs::Records::ended, crate::specs::Records::with_tag))]
+#[tactic(auto, unfolding(crate::specs::Records::record_at_end, crate::specs::Records::with_tag))]
 fn read(alloc: Global, bytes: &[u8]) -> Result<Record, WireFault>
-    ensures { Decodes result (records.recorded bytes.now) }
+    ensures { Decodes result (records.record_of_bytes bytes.now) }
 {
-    let mut reader = Reader::new(bytes);
+    let mut reader = ByteReader::new(bytes);
     let tag = match reader.u8() {
         Ok(tag) => tag,
         Err(ReadFault::Bad { .. } | ReadFault::Cut { .. }) => {
@@ -178,7 +178,7 @@ pub fn record_from(alloc: Global, bytes: &[u8]) -> Result<Record, WireFault>
     ensures only { (r : Kept) → IsTrue (records.fits r) → bytes.now ≡ records.spelling r
         → Decodes result (Ok r) }
     // Which fault it is.
-    ensures exact { Decodes result (records.recorded bytes.now) }
+    ensures exact { Decodes result (records.record_of_bytes bytes.now) }
     // Where it lies.
     ensures place { IfErr result (λ fault. LiesIn 1 bytes.now fault) }
 {

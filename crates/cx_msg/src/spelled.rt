@@ -8,9 +8,9 @@ ghost use Rattle.cx_msg.specs.Spelled.{IsShort, letter_of, role_at, role_bytes, 
 use crate::bodies::body_from;
 use crate::datagram::Datagram;
 use crate::names::name_of_kind;
-use crate::put_bodies::{kind_of, put_body};
+use crate::put_bodies::{message_kind, put_body};
 use cx_base::{Kind, NoMemory, RoleId};
-use cx_field::{ReadFault, Reader};
+use cx_field::{ByteReader, ReadFault};
 use cx_wire::{put_u8, put_u16};
 use std::alloc::Global;
 use std::marker::Model;
@@ -56,7 +56,7 @@ fn after(bytes: &[u8], count: usize) -> &[u8]
 }
 
 impl<'a> Spelled<'a> {
-    /// The datagram in bytes that `short_into` appended. It takes no memory.
+    /// The datagram in bytes that `short_into` appended.
     #[tactic(auto, using(crate::proofs::SpelledLaws::opened))]
     pub fn new(bytes: &'a [u8]) -> Self
         requires { IsShort bytes.now }
@@ -102,7 +102,7 @@ impl<'a> Spelled<'a> {
     pub fn datagram(&self, alloc: Global) -> Result<Datagram, NoMemory>
         ensures { IfOk result (λ datagram. datagram ≡ self.now) }
     {
-        let mut reader = Reader::new(self.body);
+        let mut reader = ByteReader::new(self.body);
         match body_from(self.kind, alloc, true, &mut reader) {
             Ok(msg) => Ok(Datagram::new(self.from, self.to, msg)),
             Err(ReadFault::NoMemory) => Err(NoMemory),
@@ -128,7 +128,7 @@ fn put_role(out: &mut Vec<u8>, role: RoleId) -> Result<(), NoMemory>
 pub fn short_into(datagram: &Datagram, out: &mut Vec<u8>) -> Result<(), NoMemory>
     ensures bytes { OnOk result (out.new.items ≡ out.old.items ++ short datagram.now) }
 {
-    put_u8(out, kind_of(datagram.msg()))?;
+    put_u8(out, message_kind(datagram.msg()))?;
     put_role(out, datagram.from())?;
     put_role(out, datagram.to())?;
     put_body(out, datagram.msg())

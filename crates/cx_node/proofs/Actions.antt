@@ -10,11 +10,11 @@ use Rattle.cx_node.specs.Changing.{Changing}
 use Rattle.cx_node.specs.declared.guest.Guest.{Guest}
 use Rattle.cx_node.specs.declared.node.Stop.{Stop}
 use Rattle.cx_node.specs.declared.node.Stop.TheVariants.{LinkFault, NoMemory, WriteFault}
-use Rattle.cx_course.specs.Action.{Action, HasTaken, Took, bound_by, taken_by}
+use Rattle.cx_course.specs.Action.{Action, AreTakesOf, Took, bound_by, taken_by}
 use Rattle.cx_node.specs.Acts.{Acts, Blames, Failures}
 use Rattle.cx_node.specs.Doing.{Linked, Scene, course_in, scene}
 use Rattle.cx_node.specs.Guest.{AreReady, hosted_in}
-use Rattle.cx_course.specs.Run.{Takes}
+use Rattle.cx_course.specs.Run.{TakeResults}
 use Rattle.cx_course.specs.Course.{Course, Moved, stays, then_do, took}
 use Rattle.cx_record.specs.Numbers.{Recorded}
 use Rattle.cx_node.proofs.Asked.{linked_took}
@@ -57,7 +57,7 @@ blames_then r a b d p q =
     }
 
 -- the takes of actions, some after others
-taken_then : (ts us : Takes) (xs ys : List Action) → HasTaken ts xs → HasTaken us ys → HasTaken (ts ++ us) (xs ++ ys)
+taken_then : (ts us : TakeResults) (xs ys : List Action) → AreTakesOf ts xs → AreTakesOf us ys → AreTakesOf (ts ++ us) (xs ++ ys)
 taken_then ts us xs ys p q = (
   flat_map-append bound_by xs ys ∙ ap₂ (λ k l. k ++ l) p.0 q.0,
   flat_map-append taken_by xs ys
@@ -65,7 +65,7 @@ taken_then ts us xs ys p q = (
 )
 
 module _ {K : Type 0} (gives : Changing K) (c : Cluster) where
-  then_more : (ts us : Takes) (m : Moved Course) (f : Course → Moved Course) (r : Done)
+  then_more : (ts us : TakeResults) (m : Moved Course) (f : Course → Moved Course) (r : Done)
       (a b d : Scene K)
       → Acts gives c ts m (Ok tt) a b → Acts gives c us (f m.next) r b d → Acts gives c (ts ++ us) (then_do m f) r a d
   then_more ts us m f (Ok u) a b d p q =
@@ -84,7 +84,7 @@ module _ {K : Type 0} (gives : Changing K) (c : Cluster) where
             ((f m.next).actions) e a b d p.done.did q.part;
       }
 
-  pub acts_then : (ts us : Takes) (m : Moved Course) (f : Course → Moved Course) (r : Done)
+  pub acts_then : (ts us : TakeResults) (m : Moved Course) (f : Course → Moved Course) (r : Done)
       (a b d : Scene K)
       → Acts gives c ts m (Ok tt) a b → Acts gives c us (f (course_in b)) r b d
       → Acts gives c (ts ++ us) (then_do m f) r a d
@@ -92,7 +92,7 @@ module _ {K : Type 0} (gives : Changing K) (c : Cluster) where
       then_more ts us m f r a b d p (subst (λ s. Acts gives c us (f s) r b d) p.done.course q)
 
   -- it stopped, and what was to come didn't
-  pub acts_before : (ts us : Takes) (m : Moved Course) (f : Course → Moved Course) (e : Stop)
+  pub acts_before : (ts us : TakeResults) (m : Moved Course) (f : Course → Moved Course) (e : Stop)
       (a b : Scene K)
       → Acts gives c ts m (Err e) a b → Acts gives c (ts ++ us) (then_do m f) (Err e) a b
   acts_before ts us m f e a b p =
@@ -109,7 +109,7 @@ module _ {K : Type 0} (gives : Changing K) (c : Cluster) where
   acts_nothing a ready = record { done = does_nothing gives c a; taken = (refl, refl); ready = ready; part = tt }
 
   -- memory ran out before anything was done
-  pub acts_none : (ts : Takes) (m : Moved Course) (a : Scene K) → Acts gives c ts m (Err NoMemory) a a
+  pub acts_none : (ts : TakeResults) (m : Moved Course) (a : Scene K) → Acts gives c ts m (Err NoMemory) a a
   acts_none ts m a =
       record {
         done = tt;
@@ -119,7 +119,7 @@ module _ {K : Type 0} (gives : Changing K) (c : Cluster) where
       }
 
   -- a take failed
-  pub acts_cut : (ts : Takes) (m : Moved Course) (a : Scene K)
+  pub acts_cut : (ts : TakeResults) (m : Moved Course) (a : Scene K)
       → Acts gives c ts (took None m) (Err LinkFault) a a
   acts_cut ts m a =
       record {
@@ -140,7 +140,7 @@ module _ {K : Type 0} (gives : Changing K) (c : Cluster) where
       → after ≡ option_map (with_taken what) link → AreReady c gs
       → Acts gives c (what ∷ []) (took what (stays (course gs known))) (Ok tt) (scene gs known link out)
       (scene gs known after out)
-  acts_took what gs known link after out told ready =
+  acts_took what gs known link after out same_link ready =
       let none = did_nothing gives c (scene gs known link out) in
       record {
         done = record {
@@ -149,7 +149,7 @@ module _ {K : Type 0} (gives : Changing K) (c : Cluster) where
               record {
                 names = refl;
                 kept = none.kept;
-                link = subst (Linked c (Took what ∷ []) link) (sym told)
+                link = subst (Linked c (Took what ∷ []) link) (sym same_link)
                     (linked_took c what link);
                 printed = Appends-nil out;
                 made = refl;

@@ -11,25 +11,25 @@ use Rattle.cx_base.specs.declared.status.Status.{Status}
 use Rattle.cx_base.specs.declared.status.Status.TheVariants as status
 use Rattle.cx_course.specs.Action.{Action, Filled, Took}
 use Rattle.cx_journal.specs.Files.{Files}
-use Rattle.cx_script.specs.Lines.{Spelled}
-use Rattle.cx_node.specs.declared.input.Heard.{Heard}
-use Rattle.cx_node.specs.declared.input.Heard.TheVariants.{Lines}
+use Rattle.cx_script.specs.Lines.{ParsedLines}
+use Rattle.cx_node.specs.declared.input.NodeInput.{NodeInput}
+use Rattle.cx_node.specs.declared.input.NodeInput.TheVariants.{Lines}
 use Rattle.cx_node.specs.declared.input.Refusal.{Refusal}
 use Rattle.cx_node.specs.declared.input.Refusal.TheVariants as refusal
 use Rattle.cx_node.specs.declared.node.RunEnd.{RunEnd}
 use Rattle.cx_node.specs.declared.node.RunEnd.TheVariants as end
 use Rattle.cx_node.specs.Hosting.{HasOpened, HasRun, HostAnswered, HostBinding, HostDid, HostEnds, HostEndsAt}
 use Rattle.cx_node.specs.Input.{FailsRead, input_of, may_host, refused_of}
-use Rattle.cx_node.specs.Opening.{IsFirstBad, IsFirstUsed, is_used}
-use Rattle.cx_node.specs.Serving.{AllRead, Answered, AnswersPart, Completes, Ends, EndsAt, EndsBinding, EndsWell, IsUntouched, Outside, Says}
+use Rattle.cx_node.specs.Opening.{IsFirstBad, IsFirstUsed, is_store_used}
+use Rattle.cx_node.specs.Serving.{AllRead, IsNodeAnswer, AnswersPart, NodeCompletes, Ends, EndsAt, EndsBinding, EndsWell, IsUntouched, Outside, InputSays}
 use Rattle.cx_node.specs.Serving.{TellsBad, TellsUsed, recorded_header, refused_status}
 use Rattle.cx_node.proofs.FirstBad.{one_first}
 use Rattle.cx_node.proofs.HostedRuns.{records_header}
 
 -- what was heard is what the input says, and it is refused for nothing
-pub says_heard : (recording : Bool) (roles : List RoleId) (left : Option (List ℕ)) (text : List ℕ) (c : Cluster) (spelled : Spelled)
+pub says_heard : (recording : Bool) (roles : List RoleId) (left : Option (List ℕ)) (text : List ℕ) (c : Cluster) (spelled : ParsedLines)
     → IfSome left (λ all. input_of all ≡ Lines text c spelled) → spelled.bad ≡ None → may_host recording c roles ≡ true
-    → Says recording roles left (recorded_header recording text) c spelled.events
+    → InputSays recording roles left (recorded_header recording text) c spelled.events
 says_heard recording roles left text c spelled heard good hosts = record { text = text; header_is = refl; said = said left heard }
   where
     said : (left : Option (List ℕ)) → IfSome left (λ all. input_of all ≡ Lines text c spelled)
@@ -42,12 +42,12 @@ says_heard recording roles left text c spelled heard good hosts = record { text 
 
 -- a node that has a header is to record
 records_so : (recording : Bool) (roles : List RoleId) (left header : Option (List ℕ)) (c : Cluster) (events : List Event)
-    → Says recording roles left header c events → is_some header ≡ recording
+    → InputSays recording roles left header c events → is_some header ≡ recording
 records_so recording roles left header c events says = ap is_some says.header_is ∙ records_header recording says.text
 
 pub answered_so : (recording : Bool) (roles : List RoleId) (tend : Option ℕ) (header : Option (List ℕ)) (c : Cluster) (window : ℕ)
-    (events : List Event) (turns : ℕ) (old new : Outside) (s : Status) → Says recording roles old.left header c events → AllRead old new
-    → HostAnswered roles tend header c window events turns old new s → Answered roles tend window recording turns old new s
+    (events : List Event) (turns : ℕ) (old new : Outside) (s : Status) → InputSays recording roles old.left header c events → AllRead old new
+    → HostAnswered roles tend header c window events turns old new s → IsNodeAnswer roles tend window recording turns old new s
 answered_so recording roles tend header c window events turns old new s says reads host = record {
   done = λ e. ended end.Done (did status.Done e);
   turns_ended = λ e. ended end.Turns (did status.Turns e);
@@ -111,7 +111,7 @@ pub refused_so : (recording : Bool) (roles : List RoleId) (tend : Option ℕ) (w
     → ((line : ℕ) → why ≡ refusal.BadInput line → IfSome old.left
     (λ all. refused_of recording roles (input_of all) ≡ Some (refusal.BadInput line)))
     → (why ≡ refusal.ReadFault → Rises old.reads new.reads) → (new.reads ≡ old.reads)
-    ⊎ FailsRead recording roles old.left new.left why → Answered roles tend window recording turns old new s
+    ⊎ FailsRead recording roles old.left new.left why → IsNodeAnswer roles tend window recording turns old new s
 refused_so recording roles tend window turns old new why s is untouched words line fault fails = record {
   done = λ e. absurd (untrue (ran e));
   turns_ended = λ e. absurd (untrue (ran e));
@@ -186,7 +186,7 @@ not_refused recording roles left why all known accepted refused =
 
 -- what is answered where all is good and nothing fails
 pub completes_so : (recording : Bool) (roles : List RoleId) (tend : Option ℕ) (window turns : ℕ) (old new : Outside) (s : Status)
-    → Answered roles tend window recording turns old new s → Completes recording roles old new s
+    → IsNodeAnswer roles tend window recording turns old new s → NodeCompletes recording roles old new s
 completes_so recording roles tend window turns old new s is whole good = go s refl
   where
     go : (t : Status) → s ≡ t → EndsWell recording t
@@ -212,30 +212,30 @@ completes_so recording roles tend window turns old new s is whole good = go s re
 
 -- a whole input says one cluster
 one_cluster : (recording : Bool) (roles : List RoleId) (left : Option (List ℕ)) (all : List ℕ) (header other : Option (List ℕ)) (c d : Cluster)
-    (events more : List Event) → left ≡ Some all → Says recording roles left header c events → Says recording roles left other d more → c ≡ d
+    (events more : List Event) → left ≡ Some all → InputSays recording roles left header c events → InputSays recording roles left other d more → c ≡ d
 one_cluster recording roles left all header other c d events more known one two =
     same_cluster (sym (said header c events one).0 ∙ (said other d more two).0)
   where
-    said : (h : Option (List ℕ)) (e : Cluster) (es : List Event) (so : Says recording roles left h e es)
+    said : (h : Option (List ℕ)) (e : Cluster) (es : List Event) (so : InputSays recording roles left h e es)
         → (input_of all ≡ Lines so.text e (record { events = es; bad = None })) × (refused_of recording roles (input_of all) ≡ None)
     said h e es so = subst (λ o. IfSome o (λ all. (input_of all ≡ Lines so.text e (record { events = es; bad = None }))
         × (refused_of recording roles (input_of all) ≡ None))) known so.said
 
-    same_cluster : {t u : List ℕ} → ◌≡◌ {A = Heard} (Lines t c (record { events = events; bad = None }))
+    same_cluster : {t u : List ℕ} → ◌≡◌ {A = NodeInput} (Lines t c (record { events = events; bad = None }))
         (Lines u d (record { events = more; bad = None })) → c ≡ d
     same_cluster e = cc
 
 -- what is answered where the whole input is known and the store of a hosted role is none of its own
 pub tells_bad_so : (recording : Bool) (roles : List RoleId) (tend : Option ℕ) (header : Option (List ℕ)) (c : Cluster) (window : ℕ)
-    (events : List Event) (turns : ℕ) (old new : Outside) (s : Status) → Says recording roles old.left header c events
+    (events : List Event) (turns : ℕ) (old new : Outside) (s : Status) → InputSays recording roles old.left header c events
     → HostAnswered roles tend header c window events turns old new s
     → TellsBad recording roles old new s
 tells_bad_so recording roles tend header c window events turns old new s says host whole tells all known other d more role at said bad =
     go s refl
   where
-    first : IsFirstBad roles c old.held role at
+    first : IsFirstBad roles c old.stored role at
     first =
-        subst (λ e. IsFirstBad roles e old.held role at)
+        subst (λ e. IsFirstBad roles e old.stored role at)
         (one_cluster recording roles old.left all other header d c more events known said says) bad
 
     did : (t : Status) → s ≡ t → HostDid roles tend header c window events turns old new t
@@ -257,13 +257,13 @@ tells_bad_so recording roles tend header c window events turns old new s says ho
     go (status.NotFresh other) e = absurd (not_opened (status.NotFresh other) e tt)
     go (status.StoreFault other) e = absurd (whole.stores other (did (status.StoreFault other) e).1)
     go (status.BadStore other place) e =
-        let one = one_first roles c old.held other role place at ((did
+        let one = one_first roles c old.stored other role place at ((did
         (status.BadStore other place) e).1 tells) first in
         inl (e ∙ ap (λ r. status.BadStore r place) one.0 ∙ ap (λ n. status.BadStore role n) one.1)
 
 -- the same where the input was refused
 pub refused_tells_bad : (recording : Bool) (roles : List RoleId) (tend : Option ℕ) (window turns : ℕ) (old new : Outside) (why : Refusal)
-    (s : Status) → s ≡ refused_status why → Answered roles tend window recording turns old new s → TellsBad recording roles old new s
+    (s : Status) → s ≡ refused_status why → IsNodeAnswer roles tend window recording turns old new s → TellsBad recording roles old new s
 refused_tells_bad recording roles tend window turns old new why s is answered whole tells all known header c events role at said bad =
     go why is
   where
@@ -288,18 +288,18 @@ not_both : (b : Bool) → b ≡ true → b ≡ false → ⊥
 not_both b is other = cc
 
 -- one store is the first that has a record
-one_used : (roles : List RoleId) (held : RoleId → Files) (role other : RoleId) → IsFirstUsed roles held role → IsFirstUsed roles held other
+one_used : (roles : List RoleId) (stored : RoleId → Files) (role other : RoleId) → IsFirstUsed roles stored role → IsFirstUsed roles stored other
     → role ≡ other
-one_used roles held role other one two = go (by_order one.place two.place)
+one_used roles stored role other one two = go (by_order one.place two.place)
   where
     go : (one.place < two.place) ⊎ ((one.place ≡ two.place) ⊎ (two.place < one.place)) → role ≡ other
-    go (inl before) = absurd (not_both (is_used role (held role)) one.used (two.first one.place role before one.here))
-    go (inr (inr behind)) = absurd (not_both (is_used other (held other)) two.used (one.first two.place other behind two.here))
+    go (inl before) = absurd (not_both (is_store_used role (stored role)) one.used (two.first one.place role before one.here))
+    go (inr (inr behind)) = absurd (not_both (is_store_used other (stored other)) two.used (one.first two.place other behind two.here))
     go (inr (inl place)) = same_Some role other (sym one.here ∙ ap (slice_get roles) place ∙ two.here)
 
 -- what is answered where all is good and nothing fails, and a store of a node that is to record has a record
 pub tells_used_so : (recording : Bool) (roles : List RoleId) (tend : Option ℕ) (header : Option (List ℕ)) (c : Cluster) (window : ℕ)
-    (events : List Event) (turns : ℕ) (old new : Outside) (s : Status) → Says recording roles old.left header c events
+    (events : List Event) (turns : ℕ) (old new : Outside) (s : Status) → InputSays recording roles old.left header c events
     → HostAnswered roles tend header c window events turns old new s
     → TellsUsed recording roles old new s
 tells_used_so recording roles tend header c window events turns old new s says host whole good records role first =
@@ -309,7 +309,7 @@ tells_used_so recording roles tend header c window events turns old new s says h
     did t e = subst (HostDid roles tend header c window events turns old new) e host.did
 
     not_run : (t : Status) → s ≡ t → HasRun t → ⊥
-    not_run t e run = not_both (is_used role (old.held role)) first.used
+    not_run t e run = not_both (is_store_used role (old.stored role)) first.used
         (host.unused (subst HasRun (sym e) run) (records_so recording roles old.left header c events says ∙ records) good.tells
         first.place role first.here)
 
@@ -328,11 +328,11 @@ tells_used_so recording roles tend header c window events turns old new s says h
         let bad = (did (status.BadStore other at) e).1 good.tells in
         absurd (good.stores header c events bad.place other at says bad.here bad.bad)
     go (status.NotFresh other) e =
-        inl (e ∙ ap status.NotFresh (one_used roles old.held other role ((did (status.NotFresh other) e).3 good.tells) first))
+        inl (e ∙ ap status.NotFresh (one_used roles old.stored other role ((did (status.NotFresh other) e).3 good.tells) first))
 
 -- the same where the input was refused
 pub refused_tells_used : (recording : Bool) (roles : List RoleId) (tend : Option ℕ) (window turns : ℕ) (old new : Outside) (why : Refusal)
-    (s : Status) → s ≡ refused_status why → Answered roles tend window recording turns old new s → TellsUsed recording roles old new s
+    (s : Status) → s ≡ refused_status why → IsNodeAnswer roles tend window recording turns old new s → TellsUsed recording roles old new s
 refused_tells_used recording roles tend window turns old new why s is answered whole good records role first =
     go why is
   where

@@ -7,7 +7,7 @@ use Rattle.std.proofs.lemmas.Bool.{cases_Bool}
 use Rattle.cx_base.specs.declared.role.Kind.{Kind}
 use Rattle.cx_msg.specs.declared.kept.Record.{Record}
 use Rattle.cx_journal.specs.Payload.{may_keep, part_break, payload_read}
-use Rattle.cx_journal.specs.Image.{Image, image, image_at, framed, sized, with_first, with_record}
+use Rattle.cx_journal.specs.Image.{Image, image, image_at, framed, sized, with_first, image_with_record}
 use Rattle.cx_journal.specs.State.{records_or_none}
 use Rattle.cx_journal.specs.Files.{Files, OneFile, TwoFiles, files_image, files_records}
 use Rattle.cx_journal.specs.Generation.{generation, second_is_live}
@@ -19,8 +19,8 @@ use Rattle.cx_journal.proofs.Payloads.{read_so, refused}
 abbrev IsAlso : Image → Image → Type 0
 IsAlso i j = (rs : List Record) → i ≡ Ok rs → j ≡ Ok rs
 
-record_also : (r : Record) (i j : Image) → IsAlso i j → IsAlso (with_record r i) (with_record r j)
-record_also r (Ok one) j also rs e = ap (with_record r) (also one refl) ∙ e
+record_also : (r : Record) (i j : Image) → IsAlso i j → IsAlso (image_with_record r i) (image_with_record r j)
+record_also r (Ok one) j also rs e = ap (image_with_record r) (also one refl) ∙ e
 record_also r (Err break) j also rs e = cc
 
 first_also : (at : ℕ) (p q : Result Record ℕ) (i j : Image) → ((r : Record) → p ≡ Ok r → q ≡ Ok r) → IsAlso i j

@@ -15,7 +15,7 @@ use Rattle.cx_msg.specs.Letter.{Letter}
 use Rattle.cx_course.specs.Action.{Action, Answered, Bound, Noted, Took, bound_by, bound_in, is_filled, kept_in, printed_in}
 use Rattle.cx_course.specs.Action.{sent_by, sent_in, step_actions, taken_by, taken_in}
 use Rattle.cx_course.specs.Changing.{StoreChange}
-use Rattle.cx_node.specs.Doing.{Asks, Linked, with_actions}
+use Rattle.cx_node.specs.Doing.{HasLinkSent, Linked, with_actions}
 use Rattle.cx_node.specs.Hosting.{with_binds}
 use Rattle.cx_node.specs.Ports.{bind_of, sending_of, sendings}
 
@@ -163,7 +163,7 @@ module _ (c : Cluster) where
 
   -- what a step sends
   pub linked_step : (ks : List StoreChange) (ls : List Letter) (bs : List ℕ) (ns : List Action) (a b : Option LinkHistory)
-      → IsNoted ns → Asks c ls a b → Linked c (step_actions ks ls bs ns) a b
+      → IsNoted ns → HasLinkSent c ls a b → Linked c (step_actions ks ls bs ns) a b
   linked_step ks ls bs ns a b noted asks = λ after e.
       let one = asks after e in
       let h = one.0 in

@@ -3,7 +3,7 @@ use Rattle.std.proofs.Common.{◌≡◌, ◌&&◌, ℕ, Option, None, Some, refl
 use Rattle.cx_base.specs.declared.why.Why.TheVariants.{Heard, Stranger}
 use Rattle.cx_base.specs.Role.{same_role}
 use Rattle.cx_client.specs.Client.{ClientMoved, ClientState, answer_number, client_completes, client_takes}
-use Rattle.cx_client.specs.Client.{client_told, hearing, left, stays}
+use Rattle.cx_client.specs.Client.{client_told, hearing, left, client_stays}
 use Rattle.cx_client.specs.Window.{is_outstanding}
 use Rattle.cx_model.specs.Heard.{mark_told}
 use Rattle.cx_model.specs.Names.{names}
@@ -14,10 +14,10 @@ told_name : (s : ClientState) (at : ℕ) (o : Option ℕ) → (client_told s at 
 told_name s at None = refl
 told_name s at (Some n) =
     either_way (λ (m : ClientMoved). m.state.me ≡ s.me) (is_outstanding s.window (left s) n)
-    (client_completes n (hearing at s)) (stays Heard (hearing at s)) refl refl
+    (client_completes n (hearing at s)) (client_stays Heard (hearing at s)) refl refl
 
 pub takes_name : (s : ClientState) (letter : Letter) → (client_takes s letter).state.me ≡ s.me
 takes_name s letter =
     either_way (λ (m : ClientMoved). m.state.me ≡ s.me) (same_role letter.to s.me && names s.cluster letter)
-    (client_told s (mark_told letter.msg) (answer_number letter.msg)) (stays Stranger s)
+    (client_told s (mark_told letter.msg) (answer_number letter.msg)) (client_stays Stranger s)
     (told_name s (mark_told letter.msg) (answer_number letter.msg)) refl

@@ -30,7 +30,7 @@ use Rattle.cx_model.specs.Replica.{ReplicaDurable, held, notes_of, pieces, repli
 use Rattle.cx_model.specs.Rules.{Rules, folded}
 use Rattle.cx_model.specs.Turn.{snap_turn, turn, turn_with}
 use Rattle.cx_model.specs.Unbatcher.{unbatcher_rules}
-use Rattle.cx_model.specs.World.{World, Roles, act_of, change, come, durable_part, kept_by, list_after, list_from, run}
+use Rattle.cx_model.specs.World.{World, Roles, act_of, change, come, durable_part, kept_by, list_after, list_after_kept, run}
 use Rattle.cx_model.specs.World.{step, turn_at, turn_found}
 use Rattle.cx_inv_open.specs.Reopened.{stored_as}
 use Rattle.cx_inv_run.specs.Kinds.{IsKeeper, IsWriter}
@@ -50,13 +50,13 @@ use Rattle.cx_msg.specs.declared.kept.Record.TheVariants as kept_record
 use Rattle.cx_msg.specs.Records.{fits, record_shape}
 use Rattle.cx_journal.specs.Payload.{all_kept_by, is_kept_by, may_keep}
 use Rattle.cx_disk.specs.declared.disk.Disk.{Ghosts as DiskGhosts}
-use Rattle.cx_journal.specs.Files.{Files, IsStored, files_records, one_told}
+use Rattle.cx_journal.specs.Files.{Files, IsFilesImageOf, files_records, one_told}
 use Rattle.cx_journal.specs.Store.{IsStoreChange, store_told}
 use Rattle.cx_journal.specs.StoreLaw.{both_records, one_records, one_tells}
-use Rattle.cx_journal.specs.declared.store.Store.{Store}
-use Rattle.cx_journal.specs.declared.store.Store.TheVariants.{One, Two}
+use Rattle.cx_journal.specs.declared.store.RecordStore.{RecordStore}
+use Rattle.cx_journal.specs.declared.store.RecordStore.TheVariants.{One, Two}
 use Rattle.cx_journal.proofs.Stores.{two_tell}
-use Rattle.cx_keeper.specs.Keeper.{Append, Change, Renewal, list_after as change_after}
+use Rattle.cx_keeper.specs.Keeper.{Append, KeeperChange, Renewal, list_after as change_after}
 use Rattle.cx_keeper.specs.declared.keeper.KeepFault.{KeepFault}
 use Rattle.cx_journal.proofs.Gates.{all_kept-push}
 use Rattle.cx_journal.proofs.Payloads.{both_so}
@@ -247,7 +247,7 @@ module _ {D V : Type 0} (rules : Rules D V) (me : RoleId)
   tagged_after list (written.Snap first) is h = renews (folded rules list) first is
 
   tagged_from : (list : List Record) (ks : List KeptRecord) → ((k : KeptRecord) → Member k ks → IsWriter k.role.kind k.what)
-      → are_tagged me.kind list ≡ true → are_tagged me.kind (list_from rules me list ks) ≡ true
+      → are_tagged me.kind list ≡ true → are_tagged me.kind (list_after_kept rules me list ks) ≡ true
   tagged_from list [] are h = h
   tagged_from list (k ∷ ks) are h = elim (cases_Bool (same_role me k.role)) [
     | inl own ↦
@@ -284,7 +284,7 @@ own_kept k (r ∷ rs) tagged fit =
 -- the files have the list of a run after which the event changed it so
 of_run : (c : Cluster) (es : List Event) (e : Event) (cut : Cut) (me : RoleId) (files : Files) (records : List Record)
     → stored_as me ((run c es).kept ++ (change (run c es) (with_cut cut e)).kept) me.kind ≡ records
-    → all_kept_by None records ≡ true → IsStored records files → IsOfRun c es e cut me files
+    → all_kept_by None records ≡ true → IsFilesImageOf records files → IsOfRun c es e cut me files
 of_run c es e cut me files records is fit stored =
     let all = es ++ with_cut cut e ∷ [] in
     let here : stored_as me ((run c all).kept) me.kind ≡ records =
@@ -293,7 +293,7 @@ of_run c es e cut me files records is fit stored =
     (stored_tagged me (run c all).kept (kinds_are_so.keepers c all) me.kind)
     (subst (λ (rs : List Record). all_kept_by None rs ≡ true) (sym here) fit) in
     record {
-      stored = subst (λ (rs : List Record). IsStored rs files) (sym here) stored (Some me.kind) own;
+      stored = subst (λ (rs : List Record). IsFilesImageOf rs files) (sym here) stored (Some me.kind) own;
       lawful = lawful c all;
     }
 
@@ -313,12 +313,12 @@ module _ (c : Cluster) (es : List Event) (e : Event) (me : RoleId) (what : Writt
 
   changed : (cut : Cut) → (change (run c es) (with_cut cut e)).kept ≡ kept_by me (Some what)
       → all_kept_by None (change_after list (change_for list what)) ≡ true
-      → IsStored (change_after list (change_for list what)) files → IsOfRun c es e cut me files
+      → IsFilesImageOf (change_after list (change_for list what)) files → IsOfRun c es e cut me files
   changed cut kept fit stored =
       of_run c es e cut me files _ (ap (λ (ks : List KeptRecord). stored_as me ((run c es).kept ++ ks) me.kind) kept
       ∙ stored_next me what (run c es).kept me.kind own_writer) fit stored
 
-  pub lost_of_run : MayChange e → all_kept_by None list ≡ true → IsStored list files → IsOfRun c es e Torn me files
+  pub lost_of_run : MayChange e → all_kept_by None list ≡ true → IsFilesImageOf list files → IsOfRun c es e Torn me files
   lost_of_run may fit stored =
       let keeps = cut_change (run c es) e me what may next in
       of_run c es e Torn me files _
@@ -326,11 +326,11 @@ module _ (c : Cluster) (es : List Event) (e : Event) (me : RoleId) (what : Writt
       ∙ ap (λ (ks : List KeptRecord). stored_as me ks me.kind) (append-nil (run c es).kept)) fit stored
 
   pub kept_of_run : MayChange e → all_kept_by None (change_after list (change_for list what)) ≡ true
-      → IsStored (change_after list (change_for list what)) files → IsOfRun c es e Kept me files
+      → IsFilesImageOf (change_after list (change_for list what)) files → IsOfRun c es e Kept me files
   kept_of_run may = changed Kept (cut_change (run c es) e me what may next).kept_too
 
   pub whole_of_run : all_kept_by None (change_after list (change_for list what)) ≡ true
-      → IsStored (change_after list (change_for list what)) files → IsOfRun c es e Whole me files
+      → IsFilesImageOf (change_after list (change_for list what)) files → IsOfRun c es e Whole me files
   whole_of_run = changed Whole next
 
 -- only a list over two disks is put anew
@@ -341,14 +341,14 @@ renews_two list (written.Snap first) k two is sides records e = sides ∙ ap has
 
 -- where the list's records are in their ranges, they are after a change
 module _ {D : Type 0} (by : DiskGhosts D) where
-  abbrev told : Store D → Option Files
-  told s = store_told by.seen s
+  abbrev seen_files : RecordStore D → Option Files
+  seen_files s = store_told by.seen s
 
-  pub store_fits : (old : Store D) (ask : Change) (answer : Result (Unit {0}) KeepFault) (new : Store D)
-      → IsStoreChange by old ask answer new → is_some (told old) ≡ true
+  pub store_fits : (old : RecordStore D) (ask : KeeperChange) (answer : Result (Unit {0}) KeepFault) (new : RecordStore D)
+      → IsStoreChange by old ask answer new → is_some (seen_files old) ≡ true
       → ((records : List Record) → ask ≡ Renewal records → is_two old ≡ true)
-      → (all_kept_by None (files_records (told old)) ≡ true)
-      × (all_kept_by None (change_after (files_records (told old)) ask) ≡ true)
+      → (all_kept_by None (files_records (seen_files old)) ≡ true)
+      × (all_kept_by None (change_after (files_records (seen_files old)) ask) ≡ true)
   store_fits (One old) (Append r) answer (One new) is known two =
       let fit : all_kept_by None (files_records (one_told (by.seen old.disk))) ≡ true =
       ap (λ rs. all_kept_by None rs) (one_records (by.seen old.disk))

@@ -5,7 +5,7 @@ use Rattle.std.specs.Prelude.{slice_get}
 use Rattle.std.specs.Option.{option_map}
 use Rattle.cx_base.specs.declared.role.RoleId.{RoleId}
 use Rattle.cx_base.specs.Role.{same_role}
-use Rattle.cx_keeper.specs.Keeper.{Append, Change, Renewal}
+use Rattle.cx_keeper.specs.Keeper.{Append, KeeperChange, Renewal}
 use Rattle.cx_keeper.specs.declared.keeper.KeepFault.{KeepFault}
 use Rattle.cx_keeper.specs.declared.keeper.KeepFault.TheVariants.{Failed, NoMemory}
 use Rattle.cx_model.specs.Lists.{same_role-itself}
@@ -19,10 +19,10 @@ use Rattle.cx_role.specs.Snap.{IsSnap, Renewing}
 use Rattle.cx_node.specs.declared.guest.Guest.TheVariants as guest
 use Rattle.cx_course.specs.Changing.{changed_by, changes_of}
 use Rattle.cx_node.specs.Changing.{Changing, Refuses, changing}
-use Rattle.cx_node.specs.Guest.{Fails, MakesRow, Performs}
+use Rattle.cx_node.specs.Guest.{HasChangeFailed, MakesRow, Performs}
 use Rattle.cx_course.specs.Hosted.{ReplicaAt, snap_of, snapped}
 
-first_change : (me : RoleId) (c : Change) → slice_get (changes_of me (changed_by me (Some c))) 0 ≡ Some c
+first_change : (me : RoleId) (c : KeeperChange) → slice_get (changes_of me (changed_by me (Some c))) 0 ≡ Some c
 first_change me c = own (same_role-itself me)
   where
     own : same_role me me ≡ true → slice_get (if same_role me me then c ∷ [] else []) 0 ≡ Some c
@@ -33,11 +33,11 @@ module _ {K : Type 0} (append_gives : Appending K) (renew_gives : Renewing K) (t
   abbrev gives : Changing K
   gives = changing append_gives renew_gives
 
-  fails_first : (me : RoleId) (c : Change) (o : Option Change) → o ≡ Some c → gives old c (Err Failed) new
-      → Fails gives (slice_get (changes_of me (changed_by me o)) 0) old new
+  fails_first : (me : RoleId) (c : KeeperChange) (o : Option KeeperChange) → o ≡ Some c → gives old c (Err Failed) new
+      → HasChangeFailed gives (slice_get (changes_of me (changed_by me o)) 0) old new
   fails_first me c o is failed =
-      subst (λ x. Fails gives (slice_get (changes_of me (changed_by me x)) 0) old new) (sym is)
-      (subst (λ x. Fails gives x old new) (sym (first_change me c)) failed)
+      subst (λ x. HasChangeFailed gives (slice_get (changes_of me (changed_by me x)) 0) old new) (sym is)
+      (subst (λ x. HasChangeFailed gives x old new) (sym (first_change me c)) failed)
 
   module _ {D V : Type 0} (rules : Rules D V) (before after : Running D V) (row : Outcome V) where
     refused : RefusesAppend append_gives old new → Refuses gives old new
@@ -85,7 +85,7 @@ module _ {K : Type 0} (append_gives : Appending K) (renew_gives : Renewing K) (t
     }
     snap_ends Failed snap =
         let p = (snap.failed refl).renewal in
-        let asked : ReplicaDurable → Change = λ d. Renewal (replica_renewed d p.0) in
+        let asked : ReplicaDurable → KeeperChange = λ d. Renewal (replica_renewed d p.0) in
         record {
           role = tt;
           kept = tt;

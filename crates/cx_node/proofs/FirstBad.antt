@@ -13,7 +13,7 @@ use Rattle.cx_journal.specs.Files.{Files, front_in}
 use Rattle.cx_journal.specs.Image.{Image}
 use Rattle.cx_journal.specs.Journal.{frames}
 use Rattle.cx_journal.specs.Payload.{payloads}
-use Rattle.cx_journal.specs.declared.store.Store.{Store}
+use Rattle.cx_journal.specs.declared.store.RecordStore.{RecordStore}
 use Rattle.cx_model.specs.Acceptor.{acceptor_rules}
 use Rattle.cx_model.specs.Leader.{leader_rules}
 use Rattle.cx_model.specs.Matchmaker.{matchmaker_rules}
@@ -67,9 +67,9 @@ bad_as_once c me files a b Replacer p q = bad_once replacer_rules c me files a b
 by_order : (m n : ℕ) → (m < n) ⊎ ((m ≡ n) ⊎ (n < m))
 by_order m n = grind arith
 
-pub one_first : (roles : List RoleId) (c : Cluster) (held : RoleId → Files) (role other : RoleId) (a b : ℕ)
-    → IsFirstBad roles c held role a → IsFirstBad roles c held other b → (role ≡ other) × (a ≡ b)
-one_first roles c held role other a b one two = go (by_order one.place two.place)
+pub one_first : (roles : List RoleId) (c : Cluster) (stored : RoleId → Files) (role other : RoleId) (a b : ℕ)
+    → IsFirstBad roles c stored role a → IsFirstBad roles c stored other b → (role ≡ other) × (a ≡ b)
+one_first roles c stored role other a b one two = go (by_order one.place two.place)
   where
     go : (one.place < two.place) ⊎ ((one.place ≡ two.place) ⊎ (two.place < one.place)) → (role ≡ other) × (a ≡ b)
     go (inl before) = absurd (two.first one.place role a before one.here one.bad)
@@ -77,20 +77,20 @@ one_first roles c held role other a b one two = go (by_order one.place two.place
     go (inr (inl place)) =
         let same : role ≡ other = same_Some role other (sym one.here ∙ ap (slice_get roles) place ∙ two.here) in (
           same,
-          bad_as_once c other (held other) a b other.kind
-              (subst (λ (r : RoleId). IsBadAs c r (held r) a r.kind) same one.bad) two.bad,
+          bad_as_once c other (stored other) a b other.kind
+              (subst (λ (r : RoleId). IsBadAs c r (stored r) a r.kind) same one.bad) two.bad,
         )
 
 -- ---- where opening stops
 
 -- Behind roles that were opened, one whose store is none of its own is the first.
 pub first_bad : {S : Type 0} (seen : S → Option (List ℕ)) (disk_faults : S → ℕ) (c : Cluster) (window : ℕ)
-    (events : List Event) (tells : Bool) (held : RoleId → Files) (roles : List RoleId)
-    (guests : List (Guest (Store S)))
-    → AreOpened seen disk_faults c window events tells held roles guests → tells ≡ true → (role : RoleId) (at : ℕ)
-    → slice_get roles (length guests) ≡ Some role → IsBadAs c role (held role) at role.kind
-    → IsFirstBad roles c held role at
-first_bad {S} seen disk_faults c window events tells held roles guests all t role at next bad = record {
+    (events : List Event) (tells : Bool) (stored : RoleId → Files) (roles : List RoleId)
+    (guests : List (Guest (RecordStore S)))
+    → AreOpened seen disk_faults c window events tells stored roles guests → tells ≡ true → (role : RoleId) (at : ℕ)
+    → slice_get roles (length guests) ≡ Some role → IsBadAs c role (stored role) at role.kind
+    → IsFirstBad roles c stored role at
+first_bad {S} seen disk_faults c window events tells stored roles guests all t role at next bad = record {
   place = length guests;
   here = next;
   bad = bad;
@@ -98,11 +98,11 @@ first_bad {S} seen disk_faults c window events tells held roles guests all t rol
 }
   where
     own : (i : ℕ) (other : RoleId) (fault : ℕ) → i < length guests → slice_get roles i ≡ Some other
-        → IsBadAs c other (held other) fault other.kind
-        → ((g : Guest (Store S)) × (i < length guests) × (slice_get guests i ≡ Some g)
+        → IsBadAs c other (stored other) fault other.kind
+        → ((g : Guest (RecordStore S)) × (i < length guests) × (slice_get guests i ≡ Some g)
         × (get_or guests i g ≡ g)) ⊎ ((length guests ≤ i) × (slice_get guests i ≡ None)) → ⊥
     own i other fault before there is (inl g) =
         let o = all i g.0 g.2 in
-        good_opened seen disk_faults c window events tells held o.0 g.0 fault o.2 t
-        (subst (λ (r : RoleId). IsBadAs c r (held r) fault r.kind) (same_Some other o.0 (sym there ∙ o.1)) is)
+        good_opened seen disk_faults c window events tells stored o.0 g.0 fault o.2 t
+        (subst (λ (r : RoleId). IsBadAs c r (stored r) fault r.kind) (same_Some other o.0 (sym there ∙ o.1)) is)
     own i other fault before there is (inr past) = absurd (omega (arith, before, past.0))

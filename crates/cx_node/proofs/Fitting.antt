@@ -4,14 +4,14 @@ use Rattle.std.proofs.Common.{sym, ap, ap₂, ◌∙◌, append-nil}
 use Rattle.std.proofs.lemmas.Bool.Decides.{nat_tests}
 use Rattle.std.proofs.lemmas.List.{length-append}
 use Rattle.cx_base.specs.declared.event.Event.{Event}
-use Rattle.cx_keeper.specs.Keeper.{Change}
-use Rattle.cx_course.specs.Course.{fits, own_event, requests_by, step_events}
+use Rattle.cx_keeper.specs.Keeper.{KeeperChange}
+use Rattle.cx_course.specs.Course.{has_room_for, own_event, requests_by, step_events}
 use Rattle.cx_course.specs.Hosted.{Hosted, does}
 use Rattle.cx_course.specs.declared.doing.Doing.{Doing}
 use Rattle.cx_course.specs.declared.doing.Doing.TheVariants.{Begin, Give, Snap}
 use Rattle.cx_msg.specs.Letter.{Letter}
 use Rattle.cx_node.specs.Changing.{Changing}
-use Rattle.cx_node.specs.Guest.{FailsIn, Grows, Rests, hosted_of, keeper_of, who}
+use Rattle.cx_node.specs.Guest.{HasChangeFailedIn, Grows, Rests, hosted_of, keeper_of, who}
 use Rattle.cx_node.specs.declared.guest.Guest.{Guest}
 use Rattle.cx_node.specs.declared.guest.Guest.TheVariants as guest
 use Rattle.cx_record.specs.Numbers.{Recorded, has_room, most_lines}
@@ -27,8 +27,8 @@ full_with r own more full =
     ∙ more_full r.lines (length own) (length more) most_lines full
 
 -- a role with a store sends no requests
-asks_none : {K : Type 0} (gives : Changing K) (h : Guest K) (what : Doing) (o : Option Change) (b : Option K)
-    → FailsIn gives o (keeper_of h) b
+asks_none : {K : Type 0} (gives : Changing K) (h : Guest K) (what : Doing) (o : Option KeeperChange) (b : Option K)
+    → HasChangeFailedIn gives o (keeper_of h) b
     → requests_by (does (hosted_of h) what).next (does (hosted_of h) what).sends ≡ []
 unfolding does
 asks_none gives (guest.Client role) what o b fails = absurd fails
@@ -55,17 +55,17 @@ asks_none gives (guest.Replacer role keeper) (Give n i) o b fails = refl
 asks_none gives (guest.Replacer role keeper) Snap o b fails = refl
 
 -- so its own lines are all
-pub own_is_all : {K : Type 0} (gives : Changing K) (h : Guest K) (what : Doing) (o : Option Change) (b : Option K)
+pub own_is_all : {K : Type 0} (gives : Changing K) (h : Guest K) (what : Doing) (o : Option KeeperChange) (b : Option K)
     (r : Recorded)
-    → FailsIn gives o (keeper_of h) b → has_room (length (own_event (who h) what)) r ≡ true
-    → fits (Some r) (step_events (hosted_of h) what) ≡ true
+    → HasChangeFailedIn gives o (keeper_of h) b → has_room (length (own_event (who h) what)) r ≡ true
+    → has_room_for (Some r) (step_events (hosted_of h) what) ≡ true
 own_is_all gives h what o b r fails room =
     ap (λ (es : List Event). has_room (length es) r)
     (ap (λ es. own_event (who h) what ++ es) (asks_none gives h what o b fails) ∙ append-nil (own_event (who h) what))
     ∙ room
 
 -- a role that has no keeper in the end had none
-pub rests_without : {K : Type 0} (gives : Changing K) (rs : List Change) (a b : Option K) → Grows gives rs a b → b ≡ None
+pub rests_without : {K : Type 0} (gives : Changing K) (rs : List KeeperChange) (a b : Option K) → Grows gives rs a b → b ≡ None
     → Rests gives a b
 rests_without gives rs None None grows none = tt
 rests_without gives rs None (Some b) grows none = absurd grows
@@ -74,7 +74,7 @@ rests_without gives rs (Some a) (Some b) grows none = cc
 
 -- where its own event doesn't fit, a step doesn't
 pub full_own : {K : Type 0} (h : Guest K) (what : Doing) (r : Recorded) (own : List Event) → own ≡ own_event (who h) what
-    → has_room (length own) r ≡ false → fits (Some r) (step_events (hosted_of h) what) ≡ false
+    → has_room (length own) r ≡ false → has_room_for (Some r) (step_events (hosted_of h) what) ≡ false
 full_own h what r own is full =
     full_with r (own_event (who h) what) (requests_by (does (hosted_of h) what).next (does (hosted_of h) what).sends)
     (ap (λ (es : List Event). has_room (length es) r) (sym is) ∙ full)

@@ -13,12 +13,12 @@ use Rattle.cx_client.specs.Client.{IsClient, client_opened}
 use Rattle.cx_client.proofs.Steps.{opened_is_client}
 use Rattle.cx_course.specs.Alike.{AreDistinct, AreFresh, IsFresh, IsFreshClient, IsFreshRole}
 use Rattle.cx_course.specs.Course.{course_of}
-use Rattle.cx_course.specs.Follows.{FollowsBetween, KeepsNext}
+use Rattle.cx_course.specs.Follows.{FollowsBetween, EachKeptIsNext}
 use Rattle.cx_course.specs.Hosted.{Hosted}
-use Rattle.cx_course.specs.Run.{Takes}
+use Rattle.cx_course.specs.Run.{TakeResults}
 use Rattle.cx_course.specs.Tending.{node_run}
 use Rattle.cx_journal.specs.Files.{Files}
-use Rattle.cx_journal.specs.declared.store.Store.{Store}
+use Rattle.cx_journal.specs.declared.store.RecordStore.{RecordStore}
 use Rattle.cx_model.specs.Acceptor.{acceptor_rules}
 use Rattle.cx_model.specs.Leader.{leader_rules}
 use Rattle.cx_model.specs.Matchmaker.{matchmaker_rules}
@@ -33,7 +33,7 @@ use Rattle.cx_record.specs.Readable.{IsRecordable}
 use Rattle.cx_script.specs.Requests.{IsScript, script_of}
 use Rattle.cx_node.specs.declared.guest.Guest.{Guest}
 use Rattle.cx_node.specs.Opening.{AreApart, AreOpened, is_durable, opened_as}
-use Rattle.cx_node.specs.Serving.{IsRecorded, hosts, run_of}
+use Rattle.cx_node.specs.Serving.{IsRecordedRun, hosts, run_of}
 use Rattle.cx_node.proofs.OpenedRoles.{AreOpenedFrom, distinct_opened, get_beside, get_map, hosts_opened}
 use Rattle.cx_node.proofs.Unused.{NoneIsUsed, fresh_opened}
 
@@ -77,14 +77,14 @@ module _ (c : Cluster) (window : ℕ) (events : List Event) (scripts : (client :
   is_fresh me records Replacer kind named none = role_fresh replacer_rules me records (none refl) kind named
 
   -- all of them
-  pub are_fresh : (told : RoleId → List Record) (roles : List RoleId) → AreDistinct (hosts c window events told roles)
+  pub are_fresh : (recovered : RoleId → List Record) (roles : List RoleId) → AreDistinct (hosts c window events recovered roles)
       → ((i : ℕ) (me : RoleId) → slice_get roles i ≡ Some me → names_role c me ≡ true)
-      → ((i : ℕ) (me : RoleId) → slice_get roles i ≡ Some me → is_durable me.kind ≡ true → told me ≡ [])
-      → AreFresh c (hosts c window events told roles)
-  are_fresh told roles apart named none = record {
+      → ((i : ℕ) (me : RoleId) → slice_get roles i ≡ Some me → is_durable me.kind ≡ true → recovered me ≡ [])
+      → AreFresh c (hosts c window events recovered roles)
+  are_fresh recovered roles apart named none = record {
     each = λ i h at.
-        let r = get_map (λ (me : RoleId). opened_as c window events me (told me) me.kind) roles i h at in
-        subst (IsFresh c) (sym r.2) (is_fresh r.0 (told r.0) r.0.kind refl (named i r.0 r.1) (none i r.0 r.1));
+        let r = get_map (λ (me : RoleId). opened_as c window events me (recovered me) me.kind) roles i h at in
+        subst (IsFresh c) (sym r.2) (is_fresh r.0 (recovered r.0) r.0.kind refl (named i r.0 r.1) (none i r.0 r.1));
     distinct = apart;
   }
 
@@ -92,37 +92,37 @@ module _ (c : Cluster) (window : ℕ) (events : List Event) (scripts : (client :
 
 -- what is known of recorded runs of fresh roles
 pub record IsLaw (c : Cluster) : Type 0 where
-  pub follows : (tend : Option ℕ) (takes : Takes) (hs : List Hosted) → AreFresh c hs
+  pub follows : (tend : Option ℕ) (takes : TakeResults) (hs : List Hosted) → AreFresh c hs
       → FollowsBetween c (node_run tend c takes (course_of true hs)).actions
-  pub in_flight : (tend : Option ℕ) (takes : Takes) (hs : List Hosted) → AreFresh c hs
-      → KeepsNext c (node_run tend c takes (course_of true hs)).actions
+  pub in_flight : (tend : Option ℕ) (takes : TakeResults) (hs : List Hosted) → AreFresh c hs
+      → EachKeptIsNext c (node_run tend c takes (course_of true hs)).actions
 
 module _ {D : Type 0} (seen : D → Option (List ℕ)) (disk_faults : D → ℕ) (c : Cluster) (window : ℕ) (events : List Event)
-    (tells : Bool) (held : RoleId → Files) (roles : List RoleId) (guests : List (Guest (Store D)))
+    (tells : Bool) (stored : RoleId → Files) (roles : List RoleId) (guests : List (Guest (RecordStore D)))
     (apart : AreApart roles) (named : (i : ℕ) (me : RoleId) → slice_get roles i ≡ Some me → names_role c me ≡ true)
     (scripts : (client : ℕ) → IsScript c client (script_of client events))
     (recordable : (client : ℕ) → All (IsRecordable c) (script_of client events)) (some : 1 ≤ window) (most : window ≤ 64)
-    (law : IsLaw c) (all : AreOpened seen disk_faults c window events tells held roles guests)
-    (count : length guests ≡ length roles) (unused : NoneIsUsed guests) (told : RoleId → List Record)
-    (from : AreOpenedFrom seen disk_faults c window events tells held told roles guests) where
+    (law : IsLaw c) (all : AreOpened seen disk_faults c window events tells stored roles guests)
+    (count : length guests ≡ length roles) (unused : NoneIsUsed guests) (recovered : RoleId → List Record)
+    (from : AreOpenedFrom seen disk_faults c window events tells stored recovered roles guests) where
   -- no role was opened from a record
-  none_told : (i : ℕ) (me : RoleId) → slice_get roles i ≡ Some me → is_durable me.kind ≡ true → told me ≡ []
+  none_told : (i : ℕ) (me : RoleId) → slice_get roles i ≡ Some me → is_durable me.kind ≡ true → recovered me ≡ []
   none_told i me here durable =
       let g = get_beside roles guests i me count here in
       let o = from i me g.0 here g.1 in
-      sym o.1 ∙ fresh_opened seen disk_faults c window events tells held me g.0 o.0 (unused i g.0 g.1) durable
+      sym o.1 ∙ fresh_opened seen disk_faults c window events tells stored me g.0 o.0 (unused i g.0 g.1) durable
 
-  fresh : AreFresh c (hosts c window events told roles)
+  fresh : AreFresh c (hosts c window events recovered roles)
   fresh =
-      are_fresh c window events scripts recordable some most told roles
-      (subst AreDistinct (hosts_opened seen disk_faults c window events tells held told roles guests count from)
-      (distinct_opened seen disk_faults c window events tells held roles guests apart all)) named none_told
+      are_fresh c window events scripts recordable some most recovered roles
+      (subst AreDistinct (hosts_opened seen disk_faults c window events tells stored recovered roles guests count from)
+      (distinct_opened seen disk_faults c window events tells stored roles guests apart all)) named none_told
 
-  pub recorded_run : (tend : Option ℕ) (header : Option (List ℕ)) → is_some header ≡ true → (takes : Takes)
-      → IsRecorded roles c told (run_of tend header c window events told roles takes).actions
+  pub recorded_run : (tend : Option ℕ) (header : Option (List ℕ)) → is_some header ≡ true → (takes : TakeResults)
+      → IsRecordedRun roles c recovered (run_of tend header c window events recovered roles takes).actions
   recorded_run tend header is takes =
-      let hs = hosts c window events told roles in
-      subst (λ b. IsRecorded roles c told (node_run tend c takes (course_of b hs)).actions) (sym is) (record {
+      let hs = hosts c window events recovered roles in
+      subst (λ b. IsRecordedRun roles c recovered (node_run tend c takes (course_of b hs)).actions) (sym is) (record {
         fresh = none_told;
         follows = law.follows tend takes hs fresh;
         in_flight = law.in_flight tend takes hs fresh;

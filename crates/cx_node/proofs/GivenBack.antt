@@ -11,8 +11,8 @@ use Rattle.cx_edge.proofs.ShelfLaws.{same_shelf-itself}
 use Rattle.cx_edge.specs.Depot.{IsOut, without}
 use Rattle.cx_edge.specs.Shelf.{shelf}
 use Rattle.cx_edge.specs.declared.shelf.Shelf.{Shelf}
-use Rattle.cx_journal.specs.declared.store.Store.{Store}
-use Rattle.cx_journal.specs.declared.store.Store.TheVariants.{One, Two}
+use Rattle.cx_journal.specs.declared.store.RecordStore.{RecordStore}
+use Rattle.cx_journal.specs.declared.store.RecordStore.TheVariants.{One, Two}
 use Rattle.cx_journal.specs.State.{JournalState}
 use Rattle.cx_journal.specs.Twin.{TwinState}
 use Rattle.cx_model.specs.Lists.{same_role-true}
@@ -48,7 +48,7 @@ hosted_at gs i g at = slice_get-map hosted_of gs i ∙ ap (option_map hosted_of)
 
 module _ {S : Type 0} where
   -- a disk is of this role, or of those that follow
-  role_or_rest : (me : RoleId) (o : Option (Store S)) (rest : List (Lent S)) (i : ℕ) (m : Lent S)
+  role_or_rest : (me : RoleId) (o : Option (RecordStore S)) (rest : List (Lent S)) (i : ℕ) (m : Lent S)
       → slice_get (disks_of me o ++ rest) i ≡ Some m
       → ((n : ℕ) × (slice_get (disks_of me o) n ≡ Some m)) ⊎ ((k : ℕ) × (slice_get rest k ≡ Some m))
   role_or_rest me None rest i m at = inr (i, at)
@@ -59,17 +59,17 @@ module _ {S : Type 0} where
   role_or_rest me (Some (Two t)) rest (suc (suc i)) m at = inr (i, at)
 
   -- each disk is one of some role's
-  pub lender : (gs : List (Guest (Store S))) (i : ℕ) (m : Lent S) → slice_get (disks_in gs) i ≡ Some m
-      → (k : ℕ) × (g : Guest (Store S)) × (n : ℕ) × (slice_get gs k ≡ Some g)
+  pub lender : (gs : List (Guest (RecordStore S))) (i : ℕ) (m : Lent S) → slice_get (disks_in gs) i ≡ Some m
+      → (k : ℕ) × (g : Guest (RecordStore S)) × (n : ℕ) × (slice_get gs k ≡ Some g)
       × (slice_get (disks_of (who g) (keeper_of g)) n ≡ Some m)
   lender [] i m at = absurd (none-some m at)
   lender (g ∷ gs) i m at = go (lender gs) (role_or_rest (who g) (keeper_of g) (disks_in gs) i m at)
     where
-      go : ((k : ℕ) (d : Lent S) → slice_get (disks_in gs) k ≡ Some d → (l : ℕ) × (h : Guest (Store S)) × (n : ℕ)
+      go : ((k : ℕ) (d : Lent S) → slice_get (disks_in gs) k ≡ Some d → (l : ℕ) × (h : Guest (RecordStore S)) × (n : ℕ)
           × (slice_get gs l ≡ Some h) × (slice_get (disks_of (who h) (keeper_of h)) n ≡ Some d))
           → ((n : ℕ) × (slice_get (disks_of (who g) (keeper_of g)) n ≡ Some m))
           ⊎ ((k : ℕ) × (slice_get (disks_in gs) k ≡ Some m))
-          → (k : ℕ) × (h : Guest (Store S)) × (n : ℕ) × (slice_get (g ∷ gs) k ≡ Some h)
+          → (k : ℕ) × (h : Guest (RecordStore S)) × (n : ℕ) × (slice_get (g ∷ gs) k ≡ Some h)
           × (slice_get (disks_of (who h) (keeper_of h)) n ≡ Some m)
       go rest (inl own) = (0, g, own.0, refl, own.1)
       go rest (inr later) = let p = rest later.0 m later.1 in (suc p.0, p.1, p.2, p.3, p.4)
@@ -85,19 +85,19 @@ module _ {S : Type 0} where
   in_rest (x ∷ xs) ys n m at = let p = in_rest xs ys n m at in (suc p.0, p.1)
 
   -- and the disks of each role are among them
-  pub lent_at : (gs : List (Guest (Store S))) (i : ℕ) (g : Guest (Store S)) (n : ℕ) (m : Lent S)
+  pub lent_at : (gs : List (Guest (RecordStore S))) (i : ℕ) (g : Guest (RecordStore S)) (n : ℕ) (m : Lent S)
       → slice_get gs i ≡ Some g → slice_get (disks_of (who g) (keeper_of g)) n ≡ Some m
       → (k : ℕ) × (slice_get (disks_in gs) k ≡ Some m)
   lent_at [] i g n m at own = absurd (none-some g at)
   lent_at (h ∷ gs) zero g n m at own = (
     n,
     in_front (disks_of (who h) (keeper_of h)) (disks_in gs) n m
-        (ap (λ (x : Guest (Store S)). slice_get (disks_of (who x) (keeper_of x)) n) (same_Some h g at) ∙ own),
+        (ap (λ (x : Guest (RecordStore S)). slice_get (disks_of (who x) (keeper_of x)) n) (same_Some h g at) ∙ own),
   )
   lent_at (h ∷ gs) (suc i) g n m at own =
       let p = lent_at gs i g n m at own in in_rest (disks_of (who h) (keeper_of h)) (disks_in gs) p.0 m p.1
 
-  pub apart_disks : (gs : List (Guest (Store S))) → AreDistinct (hosted_in gs) → Apart (disks_in gs)
+  pub apart_disks : (gs : List (Guest (RecordStore S))) → AreDistinct (hosted_in gs) → Apart (disks_in gs)
   apart_disks [] distinct = tt
   apart_disks (g ∷ gs) distinct =
       front (apart_disks gs (λ m n a b x y e. less_one m n (distinct (suc m) (suc n) a b x y e))) (keeper_of g)
@@ -111,7 +111,7 @@ module _ {S : Type 0} where
       one_is_zero : (a b : Shelf) → a ≡ b → a.side ≡ 1 → b.side ≡ 0 → ⊥
       one_is_zero a b e p q = cc
 
-      front : Apart (disks_in gs) → (o : Option (Store S)) → Apart (disks_of (who g) o ++ disks_in gs)
+      front : Apart (disks_in gs) → (o : Option (RecordStore S)) → Apart (disks_of (who g) o ++ disks_in gs)
       front rest None = rest
       front rest (Some (One j)) = (λ i m at same. other i m at (ap (λ (p : Shelf). p.role) same), rest)
       front rest (Some (Two t)) = (first, (λ i m at same. other i m at (ap (λ (p : Shelf). p.role) same), rest))
@@ -124,7 +124,7 @@ module _ {S : Type 0} where
               (ap (λ (l : Lent S). l.place) (same_Some _ m at) ∙ same) refl refl
           first (suc i) m at same = other i m at (ap (λ (p : Shelf). p.role) same)
 
--- ---- what is held, and the counts
+-- ---- what is stored, and the counts
 
 rises_on : (a b c : ℕ) → Rises a b → b ≤ c → Rises a c
 rises_on a b c rose later = grind arith
@@ -135,7 +135,7 @@ rises_from a b c later rose = grind arith
 module _ {D S : Type 0} (shown : Shown D S) where
   pub told_all : (ls : List (Lent S)) (old new : D) → GiveBack shown ls old new → shown.tells new ≡ shown.tells old
   told_all [] old new same = ap shown.tells same
-  told_all (l ∷ ls) old new (mid, first, rest) = told_all ls mid new rest ∙ first.told
+  told_all (l ∷ ls) old new (mid, first, rest) = told_all ls mid new rest ∙ first.tells_same
 
   later_once : (l : Lent S) (old new : D) → IsGivenBack shown l old new → (a : RoleId)
       → shown.faults old a ≤ shown.faults new a
@@ -152,22 +152,22 @@ module _ {D S : Type 0} (shown : Shown D S) where
       omega (arith, later_once l old mid first a, later_all ls mid new rest a)
 
   pub others_all : (ls : List (Lent S)) (old new : D) → GiveBack shown ls old new → (a : Shelf)
-      → ((i : ℕ) (l : Lent S) → slice_get ls i ≡ Some l → l.place ≡ a → ⊥) → shown.held new a ≡ shown.held old a
-  others_all [] old new same a other = ap (λ (d : D). shown.held d a) same
+      → ((i : ℕ) (l : Lent S) → slice_get ls i ≡ Some l → l.place ≡ a → ⊥) → shown.stored new a ≡ shown.stored old a
+  others_all [] old new same a other = ap (λ (d : D). shown.stored d a) same
   others_all (l ∷ ls) old new (mid, first, rest) a other =
-      others_all ls mid new rest a (λ i. other (suc i)) ∙ first.others_held a (λ e. other 0 l refl (sym e))
+      others_all ls mid new rest a (λ i. other (suc i)) ∙ first.others_stored a (λ e. other 0 l refl (sym e))
 
   pub held_all : (ls : List (Lent S)) (old new : D) → GiveBack shown ls old new → Apart ls → shown.tells old ≡ true
       → (i : ℕ) (l : Lent S) (file : List ℕ) → slice_get ls i ≡ Some l → shown.seen l.disk ≡ Some file
-      → shown.held new l.place ≡ file
+      → shown.stored new l.place ≡ file
   held_all [] old new same apart tells i l file at holds = absurd (none-some l at)
   held_all (m ∷ ls) old new (mid, first, rest) apart tells zero l file at holds =
       let same = same_Some m l at in
-      ap (λ (x : Lent S). shown.held new x.place) (sym same)
+      ap (λ (x : Lent S). shown.stored new x.place) (sym same)
       ∙ others_all ls mid new rest m.place apart.0
-      ∙ first.held tells file (ap (λ (x : Lent S). shown.seen x.disk) same ∙ holds)
+      ∙ first.stored tells file (ap (λ (x : Lent S). shown.seen x.disk) same ∙ holds)
   held_all (m ∷ ls) old new (mid, first, rest) apart tells (suc i) l file at holds =
-      held_all ls mid new rest apart.1 (first.told ∙ tells) i l file at holds
+      held_all ls mid new rest apart.1 (first.tells_same ∙ tells) i l file at holds
 
   still_once : (l : Lent S) (old new : D) → IsGivenBack shown l old new → (a : RoleId)
       → (l.place.role ≡ a → shown.failures l.disk ≡ 0) → shown.faults new a ≡ shown.faults old a
@@ -198,8 +198,8 @@ module _ {D S : Type 0} (shown : Shown D S) where
 
   -- ---- the stores of one role after those of another
 
-  module _ (g : Guest (Store S)) (rest items : List (Guest (Store S))) (next : items ≡ g ∷ rest) where
-    first_lent : (out : List Shelf) (o : Option (Store S)) → out ≡ lent_to items → keeper_of g ≡ o
+  module _ (g : Guest (RecordStore S)) (rest items : List (Guest (RecordStore S))) (next : items ≡ g ∷ rest) where
+    first_lent : (out : List Shelf) (o : Option (RecordStore S)) → out ≡ lent_to items → keeper_of g ≡ o
         → out ≡ places_of (disks_of (who g) o) ++ lent_to rest
     first_lent out o lent some =
         lent ∙ ap lent_to next ∙ ap (λ k. places_of (disks_of (who g) k ++ disks_in rest)) some
@@ -233,7 +233,7 @@ module _ {D S : Type 0} (shown : Shown D S) where
     second_taken out lent = rw (lent, same_shelf-itself (shelf (who g) 1)) refl
 
     -- those of this role, before those that are to come
-    pub goes_on : (old mid : D) (all : List (Lent S)) (begin : D) (o : Option (Store S)) → keeper_of g ≡ o
+    pub goes_on : (old mid : D) (all : List (Lent S)) (begin : D) (o : Option (RecordStore S)) → keeper_of g ≡ o
         → ((end : D) → GiveBack shown (disks_in rest) mid end
         → GiveBack shown (disks_of (who g) o ++ disks_in rest) old end)
         → ((end : D) → GiveBack shown (disks_in items) old end → GiveBack shown all begin end)
@@ -243,7 +243,7 @@ module _ {D S : Type 0} (shown : Shown D S) where
         (ap (λ k. disks_of (who g) k ++ disks_in rest) (sym some) ∙ ap disks_in (sym next)) (first end later))
 
   -- all were given back
-  pub all_back : (items : List (Guest (Store S))) (all : List (Lent S)) (begin now : D) → items ≡ []
+  pub all_back : (items : List (Guest (RecordStore S))) (all : List (Lent S)) (begin now : D) → items ≡ []
       → ((end : D) → GiveBack shown (disks_in items) now end → GiveBack shown all begin end)
       → GiveBack shown all begin now
   all_back items all begin now empty before =

@@ -4,11 +4,11 @@ use Rattle.std.proofs.Common.{ap, subst, Bool, true, false, if◌then◌else◌}
 use Rattle.std.proofs.lemmas.Option.{none-some}
 use Rattle.cx_base.specs.declared.role.RoleId.{RoleId}
 use Rattle.cx_base.specs.Role.{same_role}
-use Rattle.cx_keeper.specs.Keeper.{Change}
+use Rattle.cx_keeper.specs.Keeper.{KeeperChange}
 use Rattle.cx_node.specs.declared.guest.Guest.{Guest}
 use Rattle.cx_course.specs.Changing.{StoreChange, changes_of}
 use Rattle.cx_node.specs.Changing.{Changing}
-use Rattle.cx_node.specs.Guest.{Changed, Grows, GuestGrows, keeper_of, who}
+use Rattle.cx_node.specs.Guest.{AreChangesMade, Grows, GuestGrows, keeper_of, who}
 
 -- the place after a list at which a prefix of another ends
 pub behind : {X : Type 0} (xs ys : List X) (n : ℕ) → (k : ℕ) × (take k (xs ++ ys) ≡ xs ++ take n ys)
@@ -41,12 +41,12 @@ changes_append me (k ∷ ks) ls = by (same_role me k.role) (changes_append me ks
     by false e = e
 
 module _ {K : Type 0} (gives : Changing K) where
-  changed_then : (rs ss : List Change) (a b d : K) → Changed gives rs a b → Changed gives ss b d
-      → Changed gives (rs ++ ss) a d
-  changed_then [] ss a b d p q = subst (λ x. Changed gives ss x d) p q
+  changed_then : (rs ss : List KeeperChange) (a b d : K) → AreChangesMade gives rs a b → AreChangesMade gives ss b d
+      → AreChangesMade gives (rs ++ ss) a d
+  changed_then [] ss a b d p q = subst (λ x. AreChangesMade gives ss x d) p q
   changed_then (r ∷ rs) ss a b d p q = (p.0, p.1, changed_then rs ss p.0 b d p.2 q)
 
-  grows_then : (rs ss : List Change) (a b d : Option K) → Grows gives rs a b → Grows gives ss b d
+  grows_then : (rs ss : List KeeperChange) (a b d : Option K) → Grows gives rs a b → Grows gives ss b d
       → Grows gives (rs ++ ss) a d
   grows_then rs ss None None None p q = tt
   grows_then rs ss None None (Some d) p q = absurd q

@@ -16,15 +16,15 @@ use Rattle.cx_base.specs.Faults.{Rises}
 use Rattle.cx_edge.specs.Link.{LinkHistory}
 use Rattle.cx_edge.specs.declared.shelf.Shelf.{Shelf}
 use Rattle.cx_journal.specs.Files.{files_records}
-use Rattle.cx_journal.specs.declared.store.Store.{Store}
+use Rattle.cx_journal.specs.declared.store.RecordStore.{RecordStore}
 use Rattle.cx_disk.specs.declared.disk.Disk.{Ghosts as DiskGhosts}
 use Rattle.cx_msg.specs.declared.kept.Record.{Record}
 use Rattle.cx_record.specs.Numbers.{Recorded}
-use Rattle.cx_course.specs.Action.{Action, Bound, Filled, HasTaken, Kept, Printed, Took, is_filled, kept_as, kept_in, printed_by, printed_in}
+use Rattle.cx_course.specs.Action.{Action, Bound, Filled, AreTakesOf, Kept, Printed, Took, is_filled, kept_as, kept_in, printed_by, printed_in}
 use Rattle.cx_course.specs.Changing.{StoreChange, changes_of, lists_after}
 use Rattle.cx_course.specs.Course.{Course, course_of}
 use Rattle.cx_course.specs.Hosted.{Hosted}
-use Rattle.cx_course.specs.Run.{Takes}
+use Rattle.cx_course.specs.Run.{TakeResults}
 use Rattle.cx_course.specs.Tending.{node_run}
 use Rattle.cx_node.specs.declared.guest.Guest.{Guest}
 use Rattle.cx_node.specs.declared.node.RunEnd.{RunEnd}
@@ -39,9 +39,9 @@ use Rattle.cx_node.specs.Guest.{who}
 use Rattle.cx_node.specs.Hosting.{GivesBack, HasOpened, HasRun, HostAnswered, HostBinding, HostDid, HostEnds, HostEndsAt, HostEndsAtChange, HostEndsEarly, Ran}
 use Rattle.cx_node.specs.Hosting.{RunsBehind, RunsPartBehind, ended_status, known_first, unopened_status, with_binds}
 use Rattle.cx_node.specs.Node.{IsEnd, IsUnderway}
-use Rattle.cx_node.specs.Opening.{AreApart, AreOpened, IsBadAs, IsFirstBad, IsFirstUsed, disks_in, is_durable, is_used}
+use Rattle.cx_node.specs.Opening.{AreApart, AreOpened, IsBadAs, IsFirstBad, IsFirstUsed, disks_in, is_durable, is_store_used}
 use Rattle.cx_node.specs.Ports.{bind_of}
-use Rattle.cx_node.specs.Serving.{Did, IsRecorded, Outside, ServedPart, begun_with, head_text, hosts, recorded_header, run_of, told_to}
+use Rattle.cx_node.specs.Serving.{Did, IsRecordedRun, Outside, ServedPart, begun_with, record_head, hosts, recorded_header, run_of, records_in_files}
 use Rattle.cx_node.specs.Stores.{files_of, is_two}
 use Rattle.cx_node.proofs.Asked.{binds_kept, binds_printed, linked_binds, linked_nothing, linked_then}
 use Rattle.cx_node.proofs.ClosedStores.{ran_still, ran_stores, stops_rises, stops_still, stops_stores, told_whole}
@@ -74,12 +74,12 @@ IsUnhosted roles me = (i : ℕ) → slice_get roles i ≡ Some me → ⊥
 
 module _ (tend : Option ℕ) (header : Option (List ℕ)) (c : Cluster) (window : ℕ) (events : List Event) (turns : ℕ)
     (roles : List RoleId) (old new : Outside) where
-  -- only binds were made, and the stores hold what they held
+  -- only binds were made, and the stores hold what they had
   binds_did : (n : ℕ) → new.link ≡ option_map (with_binds (map (bind_of c) (take n roles))) old.link
       → new.out ≡ old.out
       → (old.tells ≡ true → (i : ℕ) (me : RoleId) → slice_get roles i ≡ Some me → is_durable me.kind ≡ true
-      → files_records (Some (new.held me)) ≡ files_records (Some (old.held me)))
-      → ((me : RoleId) → IsUnhosted roles me → (new.held me ≡ old.held me) × (new.stores me ≡ old.stores me))
+      → files_records (Some (new.stored me)) ≡ files_records (Some (old.stored me)))
+      → ((me : RoleId) → IsUnhosted roles me → (new.stored me ≡ old.stored me) × (new.stores me ≡ old.stores me))
       → new.tells ≡ old.tells
       → Did roles c (map Bound (take n roles)) old new
   binds_did n link out stays others tells = record {
@@ -89,7 +89,7 @@ module _ (tend : Option ℕ) (header : Option (List ℕ)) (c : Cluster) (window 
         (subst (λ o. Appends old.out o []) (sym out) (Appends-nil old.out));
     stores = λ t i me here durable.
         stays t i me here durable
-        ∙ ap (λ ks. lists_after (files_records (Some (old.held me))) (changes_of me ks)) (sym (only_kept (take n roles)));
+        ∙ ap (λ ks. lists_after (files_records (Some (old.stored me))) (changes_of me ks)) (sym (only_kept (take n roles)));
     others = others;
     tells = tells;
   }
@@ -97,8 +97,8 @@ module _ (tend : Option ℕ) (header : Option (List ℕ)) (c : Cluster) (window 
   pub host_binding : (n : ℕ) → new.link ≡ option_map (with_binds (map (bind_of c) (take n roles))) old.link
       → new.out ≡ old.out
       → (old.tells ≡ true → (i : ℕ) (me : RoleId) → slice_get roles i ≡ Some me → is_durable me.kind ≡ true
-      → files_records (Some (new.held me)) ≡ files_records (Some (old.held me)))
-      → ((me : RoleId) → IsUnhosted roles me → (new.held me ≡ old.held me) × (new.stores me ≡ old.stores me))
+      → files_records (Some (new.stored me)) ≡ files_records (Some (old.stored me)))
+      → ((me : RoleId) → IsUnhosted roles me → (new.stored me ≡ old.stored me) × (new.stores me ≡ old.stores me))
       → new.tells ≡ old.tells
       → HostBinding roles c old new
   host_binding n link out stays others tells = (n, binds_did n link out stays others tells)
@@ -107,24 +107,24 @@ module _ (tend : Option ℕ) (header : Option (List ℕ)) (c : Cluster) (window 
   pub host_early : (n : ℕ) → new.link ≡ option_map (with_binds (map (bind_of c) (take n roles))) old.link
       → new.out ≡ old.out
       → (old.tells ≡ true → (i : ℕ) (me : RoleId) → slice_get roles i ≡ Some me → is_durable me.kind ≡ true
-      → files_records (Some (new.held me)) ≡ files_records (Some (old.held me)))
-      → ((me : RoleId) → IsUnhosted roles me → (new.held me ≡ old.held me) × (new.stores me ≡ old.stores me))
+      → files_records (Some (new.stored me)) ≡ files_records (Some (old.stored me)))
+      → ((me : RoleId) → IsUnhosted roles me → (new.stored me ≡ old.stored me) × (new.stores me ≡ old.stores me))
       → new.tells ≡ old.tells
       → HostEndsEarly roles tend header c window events turns old new
   host_early n link out stays others tells =
-      let told = told_to old.held in
-      let run = map Printed (head_text header) ++ (run_of tend header c window events told roles []).actions in
+      let recovered = records_in_files old.stored in
+      let run = map Printed (record_head header) ++ (run_of tend header c window events recovered roles []).actions in
       let k = first_of (map Bound roles) run n in
       let only : take k.0 (map Bound roles ++ run) ≡ map Bound (take n roles) = k.1 ∙ take-map Bound n roles in (
-        told,
+        recovered,
         [],
         k.0,
         record {
-          told_by = λ t me d. refl;
+          recovered_is = λ t me d. refl;
           did = subst (λ actions. Did roles c actions old new) (sym only) (binds_did n link out stays others tells);
           recorded = λ has more. absurd (no_more k.0 (length roles) (length (map Bound roles)) k.2 (length-map roles Bound) more);
         },
-        no_end tend c turns (begun_with header c window events told roles),
+        no_end tend c turns (begun_with header c window events recovered roles),
         tt,
       )
     where
@@ -136,11 +136,11 @@ module _ (tend : Option ℕ) (header : Option (List ℕ)) (c : Cluster) (window 
       → HostBinding roles c old new
       → ((role : RoleId) → s ≡ open_stop.StoreFault role → Rises (old.stores role) (new.stores role))
       → ((role : RoleId) (at : ℕ) → s ≡ open_stop.BadStore role at → old.tells ≡ true
-      → IsFirstBad roles c old.held role at)
+      → IsFirstBad roles c old.stored role at)
       → ((role : RoleId) → s ≡ open_stop.NotFresh role → (is_some header ≡ true) × (new.out ≡ old.out)
-      × (old.tells ≡ true → IsFirstUsed roles old.held role))
+      × (old.tells ≡ true → IsFirstUsed roles old.stored role))
       → ((role : RoleId) → s ≡ open_stop.NotFresh role → old.tells ≡ true → (i : ℕ) (me : RoleId) (at : ℕ)
-      → slice_get roles i ≡ Some me → IsBadAs c me (old.held me) at me.kind → ⊥)
+      → slice_get roles i ≡ Some me → IsBadAs c me (old.stored me) at me.kind → ⊥)
       → ((role : RoleId) → (s ≡ open_stop.StoreFault role → ⊥) → new.stores role ≡ old.stores role)
       → new.writes ≡ old.writes → new.links ≡ old.links
       → HostAnswered roles tend header c window events turns old new (unopened_status s)
@@ -160,9 +160,9 @@ module _ (tend : Option ℕ) (header : Option (List ℕ)) (c : Cluster) (window 
       none_ran (open_stop.NotFresh role) run = run
 
       good_all : (s : OpenStop) → ((role : RoleId) → s ≡ open_stop.NotFresh role → old.tells ≡ true → (i : ℕ) (me : RoleId) (at : ℕ)
-          → slice_get roles i ≡ Some me → IsBadAs c me (old.held me) at me.kind → ⊥) → HasOpened (unopened_status s)
+          → slice_get roles i ≡ Some me → IsBadAs c me (old.stored me) at me.kind → ⊥) → HasOpened (unopened_status s)
           → old.tells ≡ true → (i : ℕ) (me : RoleId) (at : ℕ) → slice_get roles i ≡ Some me
-          → IsBadAs c me (old.held me) at me.kind → ⊥
+          → IsBadAs c me (old.stored me) at me.kind → ⊥
       good_all open_stop.NoMemory own opened = absurd opened
       good_all (open_stop.StoreFault role) own opened = absurd opened
       good_all (open_stop.BadStore role at) own opened = absurd opened
@@ -171,9 +171,9 @@ module _ (tend : Option ℕ) (header : Option (List ℕ)) (c : Cluster) (window 
       did : (s : OpenStop) → ((role : RoleId) → s ≡ open_stop.StoreFault role
           → Rises (old.stores role) (new.stores role))
           → ((role : RoleId) (at : ℕ) → s ≡ open_stop.BadStore role at → old.tells ≡ true
-          → IsFirstBad roles c old.held role at)
+          → IsFirstBad roles c old.stored role at)
           → ((role : RoleId) → s ≡ open_stop.NotFresh role → (is_some header ≡ true) × (new.out ≡ old.out)
-          × (old.tells ≡ true → IsFirstUsed roles old.held role)) → HostDid roles tend header c window events turns old new
+          × (old.tells ≡ true → IsFirstUsed roles old.stored role)) → HostDid roles tend header c window events turns old new
           (unopened_status s)
       did open_stop.NoMemory failed bad used = early
       did (open_stop.StoreFault role) failed bad used = (early, failed role refl, inl binding)
@@ -198,7 +198,7 @@ linked_same c actions n k a b next linked =
     subst (λ l. Linked c l a b) (sym (take_next actions n (Kept k) next))
     (linked_then c (take n actions) (Kept k ∷ []) a b b linked (linked_nothing c b))
 
--- what is told of the next action stands where another list has the same
+-- what is known of the next action stands where another list has the same
 next_here : (xs ys : List Action) (k n : ℕ) (next : Option Action) → slice_get xs k ≡ slice_get ys n
     → IfSome next (λ a. slice_get ys n ≡ Some a) → IfSome next (λ a. slice_get xs k ≡ Some a)
 next_here xs ys k n None same here = tt
@@ -216,11 +216,11 @@ filled_any (a ∷ rest) (suc n) e = either (is_filled a) (list_any is_filled res
 
 -- no plain run leaves out a step
 abbrev pub NoneFilled : Option ℕ → Cluster → Type 0
-NoneFilled tend c = (takes : Takes) (hs : List Hosted) → list_any is_filled (node_run tend c takes (course_of false hs)).actions ≡ false
+NoneFilled tend c = (takes : TakeResults) (hs : List Hosted) → list_any is_filled (node_run tend c takes (course_of false hs)).actions ≡ false
 
 -- one that leaves out a step records
-filled_records : (tend : Option ℕ) (c : Cluster) (header : Option (List ℕ)) (takes : Takes) (hs : List Hosted) (n : ℕ) → NoneFilled tend c
-    → slice_get (map Printed (head_text header) ++ (node_run tend c takes (course_of (is_some header) hs)).actions) n ≡ Some Filled
+filled_records : (tend : Option ℕ) (c : Cluster) (header : Option (List ℕ)) (takes : TakeResults) (hs : List Hosted) (n : ℕ) → NoneFilled tend c
+    → slice_get (map Printed (record_head header) ++ (node_run tend c takes (course_of (is_some header) hs)).actions) n ≡ Some Filled
     → is_some header ≡ true
 filled_records tend c (Some text) takes hs n plain next = refl
 filled_records tend c None takes hs n plain next =
@@ -237,53 +237,53 @@ records_header false text = refl
 
 module _ {D : Type 0} (by : DiskGhosts D) (tend : Option ℕ) (header : Option (List ℕ)) (c : Cluster) (window : ℕ)
     (events : List Event) (turns : ℕ) (roles : List RoleId) (old new : Outside) (mid : Option LinkHistory) (mid_links : ℕ)
-    (held_mid held_after : Shelf → List ℕ) (faults : RoleId → ℕ) (guests after : List (Guest (Store D)))
+    (stored_mid stored_after : Shelf → List ℕ) (faults : RoleId → ℕ) (guests after : List (Guest (RecordStore D)))
     (known : Option Recorded) (answer : Result RunEnd Stop)
-    (apart : AreApart roles) (all : AreOpened by.seen by.faults c window events old.tells old.held roles guests)
+    (apart : AreApart roles) (all : AreOpened by.seen by.faults c window events old.tells old.stored roles guests)
     (count : length guests ≡ length roles)
     (link : mid ≡ option_map (with_binds (map (bind_of c) roles)) old.link) (links : mid_links ≡ old.links)
     (still : (role : RoleId) → faults role ≡ old.stores role)
-    (unopened : (me : RoleId) → IsUnhosted roles me → files_of held_mid me ≡ old.held me)
-    (holds : (me : RoleId) → new.held me ≡ files_of held_after me) (tells : new.tells ≡ old.tells)
-    (ran : Ran (gives by) tend c turns (head_text header) answer
+    (unopened : (me : RoleId) → IsUnhosted roles me → files_of stored_mid me ≡ old.stored me)
+    (holds : (me : RoleId) → new.stored me ≡ files_of stored_after me) (tells : new.tells ≡ old.tells)
+    (ran : Ran (gives by) tend c turns (record_head header) answer
     (scene guests (known_first (is_some header)) mid old.out) (scene after known new.link new.out)
     (failures mid_links old.writes) (failures new.links new.writes))
-    (back : GivesBack by.seen by.faults (disks_in after) old.tells held_mid held_after faults new.stores)
+    (back : GivesBack by.seen by.faults (disks_in after) old.tells stored_mid stored_after faults new.stores)
     (plain : NoneFilled tend c)
-    (recorded : (told : RoleId → List Record) → AreOpenedFrom by.seen by.faults c window events old.tells old.held told roles guests
-    → is_some header ≡ true → (takes : Takes)
-    → IsRecorded roles c told (run_of tend header c window events told roles takes).actions)
+    (recorded : (recovered : RoleId → List Record) → AreOpenedFrom by.seen by.faults c window events old.tells old.stored recovered roles guests
+    → is_some header ≡ true → (takes : TakeResults)
+    → IsRecordedRun roles c recovered (run_of tend header c window events recovered roles takes).actions)
     (unused : is_some header ≡ true → old.tells ≡ true → (i : ℕ) (role : RoleId) → slice_get roles i ≡ Some role
-    → is_used role (old.held role) ≡ false) where
-  told : AreTold by.seen by.faults c window events old.tells old.held roles guests
-  told = told_opened by.seen by.faults c window events old.tells old.held roles guests apart all
+    → is_store_used role (old.stored role) ≡ false) where
+  recovered : AreTold by.seen by.faults c window events old.tells old.stored roles guests
+  recovered = told_opened by.seen by.faults c window events old.tells old.stored roles guests apart all
 
   -- as what the roles begin, and what all does, over these takes
   abbrev begun : Course
-  begun = begun_with header c window events told.0 roles
+  begun = begun_with header c window events recovered.0 roles
 
-  abbrev done_over : Takes → Course → List Action
-  done_over takes s = map Printed (head_text header) ++ (node_run tend c takes s).actions
+  abbrev done_over : TakeResults → Course → List Action
+  done_over takes s = map Printed (record_head header) ++ (node_run tend c takes s).actions
 
-  abbrev before : Scene (Store D)
+  abbrev before : Scene (RecordStore D)
   before = scene guests (known_first (is_some header)) mid old.out
 
-  abbrev now : Scene (Store D)
+  abbrev now : Scene (RecordStore D)
   now = scene after known new.link new.out
 
   same : course_in before ≡ begun
-  same = ap (course_of (is_some header)) (hosts_opened by.seen by.faults c window events old.tells old.held told.0 roles guests count told.2)
+  same = ap (course_of (is_some header)) (hosts_opened by.seen by.faults c window events old.tells old.stored recovered.0 roles guests count recovered.2)
 
-  did_whole : (e : RunEnd) (runs : RunsBehind (gives by) tend c turns (head_text header) e before now)
+  did_whole : (e : RunEnd) (runs : RunsBehind (gives by) tend c turns (record_head header) e before now)
       → DidNode (gives by) c (done_over runs.takes begun) before now
   did_whole e runs = subst (λ (s : Course). DidNode (gives by) c (done_over runs.takes s) before now) same runs.did
 
-  did_part : (e : Stop) (runs : RunsPartBehind (gives by) tend c turns (head_text header) e before now)
+  did_part : (e : Stop) (runs : RunsPartBehind (gives by) tend c turns (record_head header) e before now)
       → DidPart (gives by) c (done_over runs.takes begun) e before now
   did_part e runs = subst (λ (s : Course). DidPart (gives by) c (done_over runs.takes s) e before now) same runs.part
 
-  steady_so : (a : Result RunEnd Stop) → IfOk a (λ e. RunsBehind (gives by) tend c turns (head_text header) e before now)
-      → IfErr a (λ e. RunsPartBehind (gives by) tend c turns (head_text header) e before now) → IsSteady is_two guests after
+  steady_so : (a : Result RunEnd Stop) → IfOk a (λ e. RunsBehind (gives by) tend c turns (record_head header) e before now)
+      → IfErr a (λ e. RunsPartBehind (gives by) tend c turns (record_head header) e before now) → IsSteady is_two guests after
   steady_so (Ok e) whole part =
       steady_did (gives by) is_two (shape_stays by) c (done_over whole.takes begun) before now (did_whole e whole)
   steady_so (Err s) whole part =
@@ -296,12 +296,12 @@ module _ {D : Type 0} (by : DiskGhosts D) (tend : Option ℕ) (header : Option (
   steady : IsSteady is_two guests after
   steady = steady_so answer ran.done ran.part
 
-  others : (me : RoleId) → IsUnhosted roles me → (new.held me ≡ old.held me) × (new.stores me ≡ old.stores me)
+  others : (me : RoleId) → IsUnhosted roles me → (new.stored me ≡ old.stored me) × (new.stores me ≡ old.stores me)
   others me none =
-      let stays = unhosted by c window events old.tells old.held held_mid held_after faults new.stores roles guests after named back me none in
+      let stays = unhosted by c window events old.tells old.stored stored_mid stored_after faults new.stores roles guests after named back me none in
       (holds me ∙ stays.0 ∙ unopened me none, stays.1 ∙ still me)
     where
-      named : (i : ℕ) (h : Guest (Store D)) → slice_get after i ≡ Some h → (me : RoleId)
+      named : (i : ℕ) (h : Guest (RecordStore D)) → slice_get after i ≡ Some h → (me : RoleId)
           × (slice_get roles i ≡ Some me) × (who h ≡ me)
       named i h at =
           let g = get_beside after guests i h (sym steady.count) at in
@@ -309,14 +309,14 @@ module _ {D : Type 0} (by : DiskGhosts D) (tend : Option ℕ) (header : Option (
             o.0,
             o.1,
             (steady.each i g.0 h g.1 at).0
-                ∙ name_is by.seen by.faults c window events old.tells old.held o.0 g.0 o.2,
+                ∙ name_is by.seen by.faults c window events old.tells old.stored o.0 g.0 o.2,
           )
 
   -- each store has the list after these changes
   abbrev StoresTell : List StoreChange → Type 0
   StoresTell more = old.tells ≡ true → (i : ℕ) (me : RoleId) → slice_get roles i ≡ Some me → is_durable me.kind ≡ true
-      → files_records (Some (files_of held_after me))
-      ≡ lists_after (files_records (Some (old.held me))) (changes_of me more)
+      → files_records (Some (files_of stored_after me))
+      ≡ lists_after (files_records (Some (old.stored me))) (changes_of me more)
 
   -- the binds, and then these actions
   did_behind : (actions : List Action) → Linked c actions mid new.link → Appends old.out new.out (printed_in actions)
@@ -329,30 +329,30 @@ module _ {D : Type 0} (by : DiskGhosts D) (tend : Option ℕ) (header : Option (
         printed = subst (Appends old.out new.out) (sym (binds_printed roles actions)) printed;
         stores =
             λ t i me here durable. ap (λ f. files_records (Some f)) (holds me) ∙ stores t i me here durable
-            ∙ ap (λ ks. lists_after (files_records (Some (old.held me))) (changes_of me ks)) (sym (binds_kept roles actions));
+            ∙ ap (λ ks. lists_after (files_records (Some (old.stored me))) (changes_of me ks)) (sym (binds_kept roles actions));
         others = others;
         tells = tells;
       }
 
-  whole : (e : RunEnd) → RunsBehind (gives by) tend c turns (head_text header) e before now
+  whole : (e : RunEnd) → RunsBehind (gives by) tend c turns (record_head header) e before now
       → HostEnds roles tend header c window events turns e old new
   whole e runs =
       let takes = runs.takes in
       let actions = done_over takes begun in
       let did = did_whole e runs in (
-        told.0,
+        recovered.0,
         takes,
         record {
-          told_by = told.1;
+          recovered_is = recovered.1;
           told_whole =
-              told_whole by c window events old.tells old.held held_mid held_after faults new.stores roles guests told.0 told.2 all count apart
+              told_whole by c window events old.tells old.stored stored_mid stored_after faults new.stores roles guests recovered.0 recovered.2 all count apart
               (kept_in actions) after did.names did.kept;
-          taken = subst (λ (s : Course). HasTaken takes ((node_run tend c takes s).actions)) same runs.taken;
+          taken = subst (λ (s : Course). AreTakesOf takes ((node_run tend c takes s).actions)) same runs.taken;
           did =
               did_behind actions did.link did.printed
-              (ran_stores by c window events old.tells old.held held_mid held_after faults new.stores roles guests told.0 told.2 all count apart
+              (ran_stores by c window events old.tells old.stored stored_mid stored_after faults new.stores roles guests recovered.0 recovered.2 all count apart
               (kept_in actions) after did.names did.kept back);
-          recorded = λ has. recorded told.0 told.2 has takes;
+          recorded = λ has. recorded recovered.0 recovered.2 has takes;
         },
         subst (λ (s : Course). IsEnd tend c turns s takes e) same runs.is_end,
       )
@@ -389,63 +389,63 @@ module _ {D : Type 0} (by : DiskGhosts D) (tend : Option ℕ) (header : Option (
   took_differs : (what : Option (List ℕ)) (k : StoreChange) → ◌≡◌ {A = Option Action} (Some (Took what)) (Some (Kept k)) → ⊥
   took_differs what k e = cc
 
-  ended_at : (next : Option Action) (takes : Takes) (m : ℕ) → Did roles c (map Bound roles ++ take m (done_over takes begun)) old new
+  ended_at : (next : Option Action) (takes : TakeResults) (m : ℕ) → Did roles c (map Bound roles ++ take m (done_over takes begun)) old new
       → IsUnderway tend c turns begun takes → IfSome next (λ a. slice_get (done_over takes begun) m ≡ Some a)
       → HostEndsAt next roles tend header c window events turns old new
   ended_at next takes m did underway here =
       let actions = done_over takes begun in
       let k = behind (map Bound roles) actions m in (
-        told.0,
+        recovered.0,
         takes,
         k.0,
         record {
-          told_by = told.1;
+          recovered_is = recovered.1;
           did = subst (λ l. Did roles c l old new) (sym k.1) did;
-          recorded = λ has more. recorded told.0 told.2 has takes;
+          recorded = λ has more. recorded recovered.0 recovered.2 has takes;
         },
         underway,
         next_here (map Bound roles ++ actions) actions k.0 m next k.2 here,
       )
 
-  underway_so : (e : Stop) (runs : RunsPartBehind (gives by) tend c turns (head_text header) e before now)
+  underway_so : (e : Stop) (runs : RunsPartBehind (gives by) tend c turns (record_head header) e before now)
       → IsUnderway tend c turns begun runs.takes
   underway_so e runs = subst (λ (s : Course). IsUnderway tend c turns s runs.takes) same runs.underway
 
-  front : (e : Stop) → RunsPartBehind (gives by) tend c turns (head_text header) e before now
+  front : (e : Stop) → RunsPartBehind (gives by) tend c turns (record_head header) e before now
       → HostEndsEarly roles tend header c window events turns old new
   front e runs =
       let p = did_part e runs in
       let actions = done_over runs.takes begun in
       let part = cut actions p.count
-      (stops_stores by c window events old.tells old.held held_mid held_after faults new.stores roles guests told.0 told.2 all count apart
+      (stops_stores by c window events old.tells old.stored stored_mid stored_after faults new.stores roles guests recovered.0 recovered.2 all count apart
       (kept_in (take p.count actions)) p.mid p.did.names p.did.kept after back e
       (slice_get actions p.count) p.stops) p.did.link p.did.printed in
       ended_at None runs.takes part.0 part.1 (underway_so e runs) tt
 
   -- the lines of the next step don't fit the record
-  full : RunsPartBehind (gives by) tend c turns (head_text header) stop.RecordFull before now
+  full : RunsPartBehind (gives by) tend c turns (record_head header) stop.RecordFull before now
       → HostEndsAt (Some Filled) roles tend header c window events turns old new × (is_some header ≡ true)
   full runs =
       let p = did_part stop.RecordFull runs in
       let actions = done_over runs.takes begun in
       let stores = uncut actions p.count Filled filled_differs p.stops.0
-      (stops_stores by c window events old.tells old.held held_mid held_after faults new.stores roles guests told.0 told.2 all count apart
+      (stops_stores by c window events old.tells old.stored stored_mid stored_after faults new.stores roles guests recovered.0 recovered.2 all count apart
       (kept_in (take p.count actions)) p.mid p.did.names p.did.kept after back stop.RecordFull
       (slice_get actions p.count) p.stops) in (
         ended_at (Some Filled) runs.takes p.count (did_behind (take p.count actions) p.did.link p.did.printed stores)
             (underway_so stop.RecordFull runs) p.stops.0,
-        filled_records tend c header runs.takes (hosts c window events told.0 roles) p.count plain p.stops.0,
+        filled_records tend c header runs.takes (hosts c window events recovered.0 roles) p.count plain p.stops.0,
       )
 
   -- a take failed, which was next
-  failed_take : RunsPartBehind (gives by) tend c turns (head_text header) stop.LinkFault before now
+  failed_take : RunsPartBehind (gives by) tend c turns (record_head header) stop.LinkFault before now
       → (what : Option (List ℕ)) × HostEndsAt (Some (Took what)) roles tend header c window events turns old new
   failed_take runs =
       let p = did_part stop.LinkFault runs in
       let actions = done_over runs.takes begun in
       let next = p.stops.0 in
       let stores = uncut actions p.count (Took next.0) (took_differs next.0) next.1
-      (stops_stores by c window events old.tells old.held held_mid held_after faults new.stores roles guests told.0 told.2 all count apart
+      (stops_stores by c window events old.tells old.stored stored_mid stored_after faults new.stores roles guests recovered.0 recovered.2 all count apart
       (kept_in (take p.count actions)) p.mid p.did.names p.did.kept after back stop.LinkFault
       (slice_get actions p.count) p.stops) in (
         next.0,
@@ -454,39 +454,39 @@ module _ {D : Type 0} (by : DiskGhosts D) (tend : Option ℕ) (header : Option (
       )
 
   -- a change failed, which was next, and was made or not
-  failed_change : (role : RoleId) → RunsPartBehind (gives by) tend c turns (head_text header) (stop.StoreFault role) before now
+  failed_change : (role : RoleId) → RunsPartBehind (gives by) tend c turns (record_head header) (stop.StoreFault role) before now
       → HostEndsAtChange role roles tend header c window events turns old new
   failed_change role runs =
       let p = did_part (stop.StoreFault role) runs in
       let actions = done_over runs.takes begun in
       let k = behind (map Bound roles) actions p.count in (
-        told.0,
+        recovered.0,
         runs.takes,
         k.0,
         p.stops.0,
         parts p.count actions runs.takes refl p.did.link p.did.printed
-            (stops_stores by c window events old.tells old.held held_mid held_after faults new.stores roles guests told.0 told.2 all count apart
+            (stops_stores by c window events old.tells old.stored stored_mid stored_after faults new.stores roles guests recovered.0 recovered.2 all count apart
             (kept_in (take p.count actions)) p.mid p.did.names p.did.kept after back (stop.StoreFault role)
             (slice_get actions p.count) p.stops),
         underway_so (stop.StoreFault role) runs,
         k.2 ∙ p.stops.1,
       )
     where
-      part_at : (takes : Takes) (m k : ℕ) → take k (map Bound roles ++ done_over takes begun) ≡ map Bound roles ++ take m (done_over takes begun)
+      part_at : (takes : TakeResults) (m k : ℕ) → take k (map Bound roles ++ done_over takes begun) ≡ map Bound roles ++ take m (done_over takes begun)
           → Did roles c (map Bound roles ++ take m (done_over takes begun)) old new
-          → ServedPart roles tend header c window events told.0 takes k old new
+          → ServedPart roles tend header c window events recovered.0 takes k old new
       part_at takes m k e did = record {
-        told_by = told.1;
+        recovered_is = recovered.1;
         did = subst (λ l. Did roles c l old new) (sym e) did;
-        recorded = λ has more. recorded told.0 told.2 has takes;
+        recorded = λ has more. recorded recovered.0 recovered.2 has takes;
       }
 
-      parts : (n : ℕ) (actions : List Action) (takes : Takes) → actions ≡ done_over takes begun
+      parts : (n : ℕ) (actions : List Action) (takes : TakeResults) → actions ≡ done_over takes begun
           → Linked c (take n actions) mid new.link → Appends old.out new.out (printed_in (take n actions))
           → StoresTell (kept_in (take n actions))
           ⊎ ((k : StoreChange) × (slice_get actions n ≡ Some (Kept k)) × StoresTell (kept_in (take n actions) ++ k ∷ []))
-          → ServedPart roles tend header c window events told.0 takes (behind (map Bound roles) (done_over takes begun) n).0 old new
-          ⊎ ServedPart roles tend header c window events told.0 takes (suc (behind (map Bound roles) (done_over takes begun) n).0) old new
+          → ServedPart roles tend header c window events recovered.0 takes (behind (map Bound roles) (done_over takes begun) n).0 old new
+          ⊎ ServedPart roles tend header c window events recovered.0 takes (suc (behind (map Bound roles) (done_over takes begun) n).0) old new
       parts n actions takes is linked printed (inl stores) =
           let did = did_behind (take n actions) linked printed stores in
           inl (part_at takes n (behind (map Bound roles) (done_over takes begun) n).0 (behind (map Bound roles) (done_over takes begun) n).1
@@ -500,14 +500,14 @@ module _ {D : Type 0} (by : DiskGhosts D) (tend : Option ℕ) (header : Option (
 
   did_so : (a : Result RunEnd Stop) → answer ≡ a → HostDid roles tend header c window events turns old new (ended_status a)
   did_so (Ok end.Done) e =
-      whole end.Done (subst (λ a. IfOk a (λ x. RunsBehind (gives by) tend c turns (head_text header) x before now)) e ran.done)
+      whole end.Done (subst (λ a. IfOk a (λ x. RunsBehind (gives by) tend c turns (record_head header) x before now)) e ran.done)
   did_so (Ok end.Turns) e =
-      whole end.Turns (subst (λ a. IfOk a (λ x. RunsBehind (gives by) tend c turns (head_text header) x before now)) e ran.done)
+      whole end.Turns (subst (λ a. IfOk a (λ x. RunsBehind (gives by) tend c turns (record_head header) x before now)) e ran.done)
   did_so (Err s) e =
-      let runs = subst (λ a. IfErr a (λ x. RunsPartBehind (gives by) tend c turns (head_text header) x before now)) e ran.part in
+      let runs = subst (λ a. IfErr a (λ x. RunsPartBehind (gives by) tend c turns (record_head header) x before now)) e ran.part in
       stopped s e runs (front s runs)
     where
-      stopped : (s : Stop) → answer ≡ Err s → RunsPartBehind (gives by) tend c turns (head_text header) s before now
+      stopped : (s : Stop) → answer ≡ Err s → RunsPartBehind (gives by) tend c turns (record_head header) s before now
           → HostEndsEarly roles tend header c window events turns old new
           → HostDid roles tend header c window events turns old new (ended_status (Err s))
       stopped stop.NoMemory e runs early = early
@@ -519,7 +519,7 @@ module _ {D : Type 0} (by : DiskGhosts D) (tend : Option ℕ) (header : Option (
           let actions = done_over runs.takes begun in (
             early,
             subst (λ n. Rises n (new.stores role)) (still role)
-                (stops_rises by c window events old.tells old.held held_mid held_after faults new.stores roles guests told.0 told.2 all count apart
+                (stops_rises by c window events old.tells old.stored stored_mid stored_after faults new.stores roles guests recovered.0 recovered.2 all count apart
                 (kept_in (take p.count actions)) p.mid p.did.names p.did.kept after back role
                 (slice_get actions p.count) p.stops),
             inr (failed_change role runs),
@@ -529,30 +529,30 @@ module _ {D : Type 0} (by : DiskGhosts D) (tend : Option ℕ) (header : Option (
   stored_so : (a : Result RunEnd Stop) → answer ≡ a → (role : RoleId)
       → (ended_status answer ≡ status.StoreFault role → ⊥) → new.stores role ≡ old.stores role
   stored_so (Ok e) is role unsaid =
-      let runs = subst (λ a. IfOk a (λ x. RunsBehind (gives by) tend c turns (head_text header) x before now)) is ran.done in
+      let runs = subst (λ a. IfOk a (λ x. RunsBehind (gives by) tend c turns (record_head header) x before now)) is ran.done in
       let did = did_whole e runs in
-      ran_still by c window events old.tells old.held held_mid held_after
-      faults new.stores roles guests told.0 told.2 all count apart
+      ran_still by c window events old.tells old.stored stored_mid stored_after
+      faults new.stores roles guests recovered.0 recovered.2 all count apart
       (kept_in (done_over runs.takes begun)) after did.names did.kept back role
       ∙ still role
   stored_so (Err s) is role unsaid =
-      let runs = subst (λ a. IfErr a (λ x. RunsPartBehind (gives by) tend c turns (head_text header) x before now)) is ran.part in
+      let runs = subst (λ a. IfErr a (λ x. RunsPartBehind (gives by) tend c turns (record_head header) x before now)) is ran.part in
       let p = did_part s runs in
       let actions = done_over runs.takes begun in
-      stops_still by c window events old.tells old.held held_mid held_after
-      faults new.stores roles guests told.0 told.2 all count apart
+      stops_still by c window events old.tells old.stored stored_mid stored_after
+      faults new.stores roles guests recovered.0 recovered.2 all count apart
       (kept_in (take p.count actions)) p.mid p.did.names p.did.kept after back s
       (slice_get actions p.count) p.stops role (λ e. unsaid (ap ended_status (is ∙ ap Err e)))
       ∙ still role
 
   -- each store was its role's own
   good_so : old.tells ≡ true → (i : ℕ) (role : RoleId) (at : ℕ) → slice_get roles i ≡ Some role
-      → IsBadAs c role (old.held role) at role.kind → ⊥
+      → IsBadAs c role (old.stored role) at role.kind → ⊥
   good_so t i role at here bad =
       let g = get_beside roles guests i role count here in
       let o = all i g.0 g.1 in
-      good_opened by.seen by.faults c window events old.tells old.held o.0 g.0 at o.2 t
-      (subst (λ r. IsBadAs c r (old.held r) at r.kind) (same_Some role o.0 (sym here ∙ o.1)) bad)
+      good_opened by.seen by.faults c window events old.tells old.stored o.0 g.0 at o.2 t
+      (subst (λ r. IsBadAs c r (old.stored r) at r.kind) (same_Some role o.0 (sym here ∙ o.1)) bad)
 
   -- the roles ran to this answer
   pub host_ran : HostAnswered roles tend header c window events turns old new (ended_status answer)

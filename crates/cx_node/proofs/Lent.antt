@@ -19,8 +19,8 @@ use Rattle.cx_journal.specs.Files.{Files, OneFile, TwoFiles, files_records}
 use Rattle.cx_journal.specs.Image.{SameImage}
 use Rattle.cx_journal.specs.State.{records_or_none}
 use Rattle.cx_journal.specs.Twin.{SamePair}
-use Rattle.cx_journal.specs.declared.store.Store.{Store}
-use Rattle.cx_journal.specs.declared.store.Store.TheVariants.{One, Two}
+use Rattle.cx_journal.specs.declared.store.RecordStore.{RecordStore}
+use Rattle.cx_journal.specs.declared.store.RecordStore.TheVariants.{One, Two}
 use Rattle.cx_model.specs.Lists.{same_role-true, same_role-itself}
 use Rattle.cx_node.specs.declared.guest.Guest.{Guest}
 use Rattle.cx_node.specs.Guest.{keeper_of, who}
@@ -69,85 +69,85 @@ module _ (me : RoleId) (out : List Shelf) (none : NoneIsOut me out) where
   pub without_both : without (shelf me 1) (without (shelf me 0) ((out ++ shelf me 0 ∷ []) ++ shelf me 1 ∷ [])) ≡ out
   without_both = ap (without (shelf me 1)) second_lent ∙ without_last (shelf me 1) out (none 1)
 
--- ---- what is held
+-- ---- what is stored
 
-pub files_by_sides : (held after : Shelf → List ℕ) (who : RoleId) → after (shelf who 0) ≡ held (shelf who 0)
-    → after (shelf who 1) ≡ held (shelf who 1) → files_of after who ≡ files_of held who
-files_by_sides held after who one other =
+pub files_by_sides : (stored after : Shelf → List ℕ) (who : RoleId) → after (shelf who 0) ≡ stored (shelf who 0)
+    → after (shelf who 1) ≡ stored (shelf who 1) → files_of after who ≡ files_of stored who
+files_by_sides stored after who one other =
     ap (λ first. files_by (has_second who.kind) first (after (shelf who 1))) one
-    ∙ ap (λ second. files_by (has_second who.kind) (held (shelf who 0)) second) other
+    ∙ ap (λ second. files_by (has_second who.kind) (stored (shelf who 0)) second) other
 
-pub files_same : (held after : Shelf → List ℕ) (who : RoleId)
-    → ((side : ℕ) → after (shelf who side) ≡ held (shelf who side)) → files_of after who ≡ files_of held who
-files_same held after who same = files_by_sides held after who (same 0) (same 1)
+pub files_same : (stored after : Shelf → List ℕ) (who : RoleId)
+    → ((side : ℕ) → after (shelf who side) ≡ stored (shelf who side)) → files_of after who ≡ files_of stored who
+files_same stored after who same = files_by_sides stored after who (same 0) (same 1)
 
-pub same_records : (held after : Shelf → List ℕ) → ((place : Shelf) → after place ≡ held place)
-    → SameRecords (files_of held) (files_of after)
-same_records held after same who =
-    ap (λ files. files_records (Some files)) (files_same held after who (λ side. same (shelf who side)))
+pub same_records : (stored after : Shelf → List ℕ) → ((place : Shelf) → after place ≡ stored place)
+    → SameRecords (files_of stored) (files_of after)
+same_records stored after same who =
+    ap (λ files. files_records (Some files)) (files_same stored after who (λ side. same (shelf who side)))
 
-pub one_file : (held : Shelf → List ℕ) (me : RoleId) → has_second me.kind ≡ false
-    → files_of held me ≡ OneFile (held (shelf me 0))
-one_file held me one = ap (λ b. files_by b (held (shelf me 0)) (held (shelf me 1))) one
+pub one_file : (stored : Shelf → List ℕ) (me : RoleId) → has_second me.kind ≡ false
+    → files_of stored me ≡ OneFile (stored (shelf me 0))
+one_file stored me one = ap (λ b. files_by b (stored (shelf me 0)) (stored (shelf me 1))) one
 
-pub two_files : (held : Shelf → List ℕ) (me : RoleId) → has_second me.kind ≡ true
-    → files_of held me ≡ TwoFiles (held (shelf me 0)) (held (shelf me 1))
-two_files held me two = ap (λ b. files_by b (held (shelf me 0)) (held (shelf me 1))) two
+pub two_files : (stored : Shelf → List ℕ) (me : RoleId) → has_second me.kind ≡ true
+    → files_of stored me ≡ TwoFiles (stored (shelf me 0)) (stored (shelf me 1))
+two_files stored me two = ap (λ b. files_by b (stored (shelf me 0)) (stored (shelf me 1))) two
 
--- the records of all stores stay, where those of one role do, and elsewhere what is held
-pub records_stay : (me : RoleId) (held after : Shelf → List ℕ)
-    → files_records (Some (files_of after me)) ≡ files_records (Some (files_of held me))
-    → ((place : Shelf) → (place.role ≡ me → ⊥) → after place ≡ held place)
-    → SameRecords (files_of held) (files_of after)
-records_stay me held after own others who = elim (cases_Bool (same_role who me)) [
-  | inl is ↦ subst (λ (a : RoleId). files_records (Some (files_of after a)) ≡ files_records (Some (files_of held a)))
+-- the records of all stores stay, where those of one role do, and elsewhere what is stored
+pub records_stay : (me : RoleId) (stored after : Shelf → List ℕ)
+    → files_records (Some (files_of after me)) ≡ files_records (Some (files_of stored me))
+    → ((place : Shelf) → (place.role ≡ me → ⊥) → after place ≡ stored place)
+    → SameRecords (files_of stored) (files_of after)
+records_stay me stored after own others who = elim (cases_Bool (same_role who me)) [
+  | inl is ↦ subst (λ (a : RoleId). files_records (Some (files_of after a)) ≡ files_records (Some (files_of stored a)))
       (sym (same_role-true who me is)) own
   | inr other ↦ ap (λ files. files_records (Some files))
-      (files_same held after who (λ side. others (shelf who side) (others_differ who me other)))
+      (files_same stored after who (λ side. others (shelf who side) (others_differ who me other)))
 ]
 
-module _ {S : Type 0} (seen : S → Option (List ℕ)) (me : RoleId) (held after : Shelf → List ℕ) where
+module _ {S : Type 0} (seen : S → Option (List ℕ)) (me : RoleId) (stored after : Shelf → List ℕ) where
   -- the records of a role's only store, where the disk that was given back has the same image
-  pub one_stays : (lent back : S) → has_second me.kind ≡ false → seen lent ≡ Some (held (shelf me 0))
+  pub one_stays : (lent back : S) → has_second me.kind ≡ false → seen lent ≡ Some (stored (shelf me 0))
       → is_some (seen back) ≡ is_some (seen lent)
       → ((file now : List ℕ) → seen lent ≡ Some file → seen back ≡ Some now → SameImage now file)
       → ((file : List ℕ) → seen back ≡ Some file → after (shelf me 0) ≡ file)
-      → files_records (Some (files_of after me)) ≡ files_records (Some (files_of held me))
+      → files_records (Some (files_of after me)) ≡ files_records (Some (files_of stored me))
   one_stays lent back one opened tells same closed =
       ap (λ files. files_records (Some files)) (one_file after me one)
       ∙ go (seen back) refl (tells ∙ ap is_some opened)
-      ∙ ap (λ files. files_records (Some files)) (sym (one_file held me one))
+      ∙ ap (λ files. files_records (Some files)) (sym (one_file stored me one))
     where
       go : (o : Option (List ℕ)) → seen back ≡ o → is_some o ≡ true
-          → files_records (Some (OneFile (after (shelf me 0)))) ≡ files_records (Some (OneFile (held (shelf me 0))))
+          → files_records (Some (OneFile (after (shelf me 0)))) ≡ files_records (Some (OneFile (stored (shelf me 0))))
       go None e some = cc
       go (Some now) e some =
           ap (λ file. files_records (Some (OneFile file))) (closed now e)
-          ∙ ap records_or_none (same (held (shelf me 0)) now opened e None)
+          ∙ ap records_or_none (same (stored (shelf me 0)) now opened e None)
 
   -- those of its two stores, where the two have the same records
   pub two_stay : (first second first_back second_back : S) → has_second me.kind ≡ true
-      → seen first ≡ Some (held (shelf me 0)) → seen second ≡ Some (held (shelf me 1))
+      → seen first ≡ Some (stored (shelf me 0)) → seen second ≡ Some (stored (shelf me 1))
       → is_some (seen first_back) ≡ is_some (seen first) → is_some (seen second_back) ≡ is_some (seen second)
       → ((a b c d : List ℕ) → seen first ≡ Some a → seen second ≡ Some b → seen first_back ≡ Some c
       → seen second_back ≡ Some d → SamePair c d a b)
       → ((file : List ℕ) → seen first_back ≡ Some file → after (shelf me 0) ≡ file)
       → ((file : List ℕ) → seen second_back ≡ Some file → after (shelf me 1) ≡ file)
-      → files_records (Some (files_of after me)) ≡ files_records (Some (files_of held me))
+      → files_records (Some (files_of after me)) ≡ files_records (Some (files_of stored me))
   two_stay first second first_back second_back two opened other tells other_tells same closed other_closed =
       ap (λ files. files_records (Some files)) (two_files after me two)
       ∙ go (seen first_back) (seen second_back) refl refl (tells ∙ ap is_some opened) (other_tells ∙ ap is_some other)
-      ∙ ap (λ files. files_records (Some files)) (sym (two_files held me two))
+      ∙ ap (λ files. files_records (Some files)) (sym (two_files stored me two))
     where
       go : (o p : Option (List ℕ)) → seen first_back ≡ o → seen second_back ≡ p → is_some o ≡ true → is_some p ≡ true
           → files_records (Some (TwoFiles (after (shelf me 0)) (after (shelf me 1))))
-          ≡ files_records (Some (TwoFiles (held (shelf me 0)) (held (shelf me 1))))
+          ≡ files_records (Some (TwoFiles (stored (shelf me 0)) (stored (shelf me 1))))
       go None p d e some more = cc
       go (Some a) None d e some more = cc
       go (Some a) (Some b) d e some more =
           ap (λ file. files_records (Some (TwoFiles file (after (shelf me 1))))) (closed a d)
           ∙ ap (λ file. files_records (Some (TwoFiles a file))) (other_closed b e)
-          ∙ ap records_or_none (same (held (shelf me 0)) (held (shelf me 1)) a b opened other d e None)
+          ∙ ap records_or_none (same (stored (shelf me 0)) (stored (shelf me 1)) a b opened other d e None)
 
 -- no count falls, where one doesn't and the others stay
 pub none_falls : (me : RoleId) (before after : RoleId → ℕ) → before me ≤ after me
@@ -159,13 +159,13 @@ none_falls me before after later others a = elim (cases_Bool (same_role a me)) [
 
 -- ---- roles that were opened
 
-pub lent_append : {D : Type 0} (guests more : List (Guest (Store D))) → lent_to (guests ++ more) ≡ lent_to guests
+pub lent_append : {D : Type 0} (guests more : List (Guest (RecordStore D))) → lent_to (guests ++ more) ≡ lent_to guests
     ++ lent_to more
 lent_append guests more =
     ap places_of (flat_map-append (λ g. disks_of (who g) (keeper_of g)) guests more)
     ∙ map-append (λ (l : Lent _). l.place) (disks_in guests) (disks_in more)
 
-pub lent_one : {D : Type 0} (guest : Guest (Store D))
+pub lent_one : {D : Type 0} (guest : Guest (RecordStore D))
     → lent_to (guest ∷ []) ≡ places_of (disks_of (who guest) (keeper_of guest))
 lent_one guest = ap places_of (append-nil (disks_of (who guest) (keeper_of guest)))
 
@@ -178,14 +178,14 @@ any_append p (x ∷ xs) ys none more = elim (cases_Bool (p x)) [
 ]
 
 -- a role's places are none of another's
-places_differ : {D : Type 0} (me other : RoleId) (side : ℕ) (k : Option (Store D)) → same_role me other ≡ false
+places_differ : {D : Type 0} (me other : RoleId) (side : ℕ) (k : Option (RecordStore D)) → same_role me other ≡ false
     → list_any (same_shelf (shelf me side)) (places_of (disks_of other k)) ≡ false
 places_differ me other side None differ = refl
 places_differ me other side (Some (One j)) differ = rw differ refl
 places_differ me other side (Some (Two t)) differ = rw differ refl
 
-not_lent : {D : Type 0} (me : RoleId) (guests : List (Guest (Store D)))
-    → ((i : ℕ) (g : Guest (Store D)) → slice_get guests i ≡ Some g → same_role me (who g) ≡ false)
+not_lent : {D : Type 0} (me : RoleId) (guests : List (Guest (RecordStore D)))
+    → ((i : ℕ) (g : Guest (RecordStore D)) → slice_get guests i ≡ Some g → same_role me (who g) ≡ false)
     → NoneIsOut me (lent_to guests)
 not_lent me [] other side = refl
 not_lent me (g ∷ gs) other side =
@@ -204,27 +204,27 @@ one_more P (z ∷ zs) x each last zero y e = each zero y e
 one_more P (z ∷ zs) x each last (suc i) y e = one_more (λ k. P (suc k)) zs x (λ k. each (suc k)) last i y e
 
 module _ {S : Type 0} (seen : S → Option (List ℕ)) (disk_faults : S → ℕ) (c : Cluster) (window : ℕ)
-    (events : List Event) (tells : Bool) (held : RoleId → Files) (roles : List RoleId)
-    (guests : List (Guest (Store S))) (me : RoleId) (next : slice_get roles (length guests) ≡ Some me)
-    (all : AreOpened seen disk_faults c window events tells held roles guests) where
+    (events : List Event) (tells : Bool) (stored : RoleId → Files) (roles : List RoleId)
+    (guests : List (Guest (RecordStore S))) (me : RoleId) (next : slice_get roles (length guests) ≡ Some me)
+    (all : AreOpened seen disk_faults c window events tells stored roles guests) where
   -- the next role of the list is opened
-  pub opened_more : (guest : Guest (Store S)) → IsOpened seen disk_faults c window events tells
-      (held me) me guest → AreOpened seen disk_faults c window events tells held roles (guests ++ guest ∷ [])
+  pub opened_more : (guest : Guest (RecordStore S)) → IsOpened seen disk_faults c window events tells
+      (stored me) me guest → AreOpened seen disk_faults c window events tells stored roles (guests ++ guest ∷ [])
   opened_more guest opened =
-      one_more (λ i (g : Guest (Store S)). (a : RoleId) × (slice_get roles i ≡ Some a)
-      × IsOpened seen disk_faults c window events tells (held a) a g) guests guest all (me, next, opened)
+      one_more (λ i (g : Guest (RecordStore S)). (a : RoleId) × (slice_get roles i ≡ Some a)
+      × IsOpened seen disk_faults c window events tells (stored a) a g) guests guest all (me, next, opened)
 
   -- its stores aren't out yet
   pub next_in_depot : ((i j : ℕ) (a : RoleId) → slice_get roles i ≡ Some a → slice_get roles j ≡ Some a → i ≡ j)
       → NoneIsOut me (lent_to guests)
   next_in_depot distinct = not_lent me guests (λ i g at. other i g at (same_role me (who g)) refl)
     where
-      other : (i : ℕ) (g : Guest (Store S)) → slice_get guests i ≡ Some g → (b : Bool)
+      other : (i : ℕ) (g : Guest (RecordStore S)) → slice_get guests i ≡ Some g → (b : Bool)
           → same_role me (who g) ≡ b → same_role me (who g) ≡ false
       other i g at false e = e
       other i g at true e =
           let one = all i g at in
-          let same : one.0 ≡ me = sym (name_is seen disk_faults c window events tells held one.0 g one.2)
+          let same : one.0 ≡ me = sym (name_is seen disk_faults c window events tells stored one.0 g one.2)
           ∙ sym (same_role-true me (who g) e) in
           let place : i ≡ length guests = distinct i (length guests) me (one.1 ∙ ap Some same) next in
           absurd (omega (arith, place, slice_get_within guests i g at))

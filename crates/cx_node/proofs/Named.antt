@@ -4,7 +4,7 @@ use Rattle.cx_base.specs.declared.role.RoleId.{RoleId}
 use Rattle.cx_node.specs.declared.guest.Guest.{Guest}
 use Rattle.cx_node.specs.declared.guest.Guest.TheVariants as guest
 use Rattle.cx_node.specs.Guest.{hosted_of, keeper_of, who}
-use Rattle.cx_course.specs.Hosted.{is_live}
+use Rattle.cx_course.specs.Hosted.{is_live_role}
 use Rattle.cx_node.specs.Seat.{IsNamed, named}
 
 pub named_itself : {K : Type 0} (me : RoleId) (h : Guest K) → me ≡ who h → named me h ≡ h
@@ -31,7 +31,7 @@ keeper_named me (guest.Unbatcher role) = refl
 keeper_named me (guest.Reader role keeper) = refl
 keeper_named me (guest.Replacer role keeper) = refl
 
-live_named : {K : Type 0} (me : RoleId) (h : Guest K) → is_live (hosted_of (named me h)) ≡ is_live (hosted_of h)
+live_named : {K : Type 0} (me : RoleId) (h : Guest K) → is_live_role (hosted_of (named me h)) ≡ is_live_role (hosted_of h)
 live_named me (guest.Client role) = refl
 live_named me (guest.Batcher role) = refl
 live_named me (guest.Leader role keeper) = refl
@@ -45,9 +45,9 @@ live_named me (guest.Replacer role keeper) = refl
 
 -- a seat's role that may take a step has the seat's name, and is what the seat shows
 pub own_name : {K : Type 0} (me : RoleId) (h self : Guest K) → IsNamed me h → named me h ≡ self
-    → IsTrue (is_live (hosted_of self)) → me ≡ who h
+    → IsTrue (is_live_role (hosted_of self)) → me ≡ who h
 own_name me h self is view live =
-    is (subst (λ b. IsTrue b) (live_named me h) (subst (λ (s : Guest _). IsTrue (is_live (hosted_of s)))
+    is (subst (λ b. IsTrue b) (live_named me h) (subst (λ (s : Guest _). IsTrue (is_live_role (hosted_of s)))
     (sym view) live))
 
 pub is_shown : {K : Type 0} (me : RoleId) (h self : Guest K) → me ≡ who h → named me h ≡ self → h ≡ self

@@ -15,7 +15,7 @@ use Rattle.cx_inv_open.specs.Reopened.{refused_as}
 use Rattle.cx_journal.specs.Files.{Files, files_image}
 use Rattle.cx_journal.specs.Image.{Image}
 use Rattle.cx_journal.specs.State.{records_or_none}
-use Rattle.cx_journal.specs.declared.store.Store.{Store}
+use Rattle.cx_journal.specs.declared.store.RecordStore.{RecordStore}
 use Rattle.cx_journal.proofs.Payloads.{both_so}
 use Rattle.cx_model.specs.Acceptor.{acceptor_rules}
 use Rattle.cx_model.specs.Leader.{leader_rules}
@@ -30,9 +30,9 @@ use Rattle.cx_msg.specs.declared.kept.Record.{Record}
 use Rattle.cx_node.specs.declared.guest.Guest.{Guest}
 use Rattle.cx_course.specs.Alike.{AreDistinct}
 use Rattle.cx_node.specs.Guest.{AreReady, hosted_in, hosted_of, keeper_of, who}
-use Rattle.cx_course.specs.Hosted.{Hosted, is_live, kind_at, name_of}
+use Rattle.cx_course.specs.Hosted.{Hosted, is_live_role, kind_at, name_of}
 use Rattle.cx_node.specs.Opening.{AreApart, AreOpened, HasRecords, HasStore, IsBadAs, IsOpened, is_durable, opened_as}
-use Rattle.cx_node.specs.Serving.{hosts, told_to}
+use Rattle.cx_node.specs.Serving.{hosts, records_in_files}
 use Rattle.cx_node.specs.Stores.{has_second}
 use Rattle.cx_node.specs.Wake.{IsBadStore}
 
@@ -80,7 +80,7 @@ name_opened c window events me records Reader = refl
 name_opened c window events me records Replacer = refl
 
 live_opened : (c : Cluster) (window : ℕ) (events : List Event) (me : RoleId) (records : List Record) (k : Kind)
-    → is_live (opened_as c window events me records k) ≡ true
+    → is_live_role (opened_as c window events me records k) ≡ true
 live_opened c window events me records Client = refl
 live_opened c window events me records Batcher = refl
 live_opened c window events me records Leader = refl
@@ -144,14 +144,14 @@ good_as c me files records at Replacer read accepted bad =
     good_store replacer_rules c me files records at (read refl) accepted bad
 
 module _ {D : Type 0} (seen : D → Option (List ℕ)) (disk_faults : D → ℕ) (tells second : Bool) where
-  has_store : (records : List Record) (b : Bool) (o : Option (Store D)) → b ≡ true
-      → HasStore seen disk_faults tells second records b o → (s : Store D) × (o ≡ Some s)
+  has_store : (records : List Record) (b : Bool) (o : Option (RecordStore D)) → b ≡ true
+      → HasStore seen disk_faults tells second records b o → (s : RecordStore D) × (o ≡ Some s)
       × HasRecords seen disk_faults tells second records s
   has_store records true None durable has = absurd has
   has_store records true (Some s) durable has = (s, refl, has)
   has_store records false o durable has = cc
 
-  pub has_records : (records : List Record) (b : Bool) (o : Option (Store D)) (s : Store D) → o ≡ Some s
+  pub has_records : (records : List Record) (b : Bool) (o : Option (RecordStore D)) (s : RecordStore D) → o ≡ Some s
       → HasStore seen disk_faults tells second records b o → HasRecords seen disk_faults tells second records s
   has_records records b None s e has = absurd (none-some s e)
   has_records records true (Some k) s e has =
@@ -159,29 +159,29 @@ module _ {D : Type 0} (seen : D → Option (List ℕ)) (disk_faults : D → ℕ)
   has_records records false (Some k) s e has = absurd has
 
 module _ {D : Type 0} (seen : D → Option (List ℕ)) (disk_faults : D → ℕ) (c : Cluster) (window : ℕ)
-    (events : List Event) (tells : Bool) (held : RoleId → Files) where
-  pub name_is : (me : RoleId) (guest : Guest (Store D))
-      → IsOpened seen disk_faults c window events tells (held me) me guest → who guest ≡ me
+    (events : List Event) (tells : Bool) (stored : RoleId → Files) where
+  pub name_is : (me : RoleId) (guest : Guest (RecordStore D))
+      → IsOpened seen disk_faults c window events tells (stored me) me guest → who guest ≡ me
   name_is me guest o = ap name_of o.hosted ∙ name_opened c window events me o.records me.kind
 
-  pub keeps_store : (me : RoleId) (guest : Guest (Store D))
-      (o : IsOpened seen disk_faults c window events tells (held me) me guest) → is_durable me.kind ≡ true
-      → (s : Store D) × (keeper_of guest ≡ Some s)
+  pub keeps_store : (me : RoleId) (guest : Guest (RecordStore D))
+      (o : IsOpened seen disk_faults c window events tells (stored me) me guest) → is_durable me.kind ≡ true
+      → (s : RecordStore D) × (keeper_of guest ≡ Some s)
       × HasRecords seen disk_faults tells (has_second me.kind) o.records s
   keeps_store me guest o durable =
       has_store seen disk_faults tells (has_second me.kind) o.records (is_durable me.kind) (keeper_of guest) durable
       o.stored
 
   -- the store of a role that was opened is its own
-  pub good_opened : (me : RoleId) (guest : Guest (Store D)) (at : ℕ)
-      → IsOpened seen disk_faults c window events tells (held me) me guest → tells ≡ true
-      → IsBadAs c me (held me) at me.kind → ⊥
-  good_opened me guest at o t bad = good_as c me (held me) o.records at me.kind (o.read t) o.accepted bad
+  pub good_opened : (me : RoleId) (guest : Guest (RecordStore D)) (at : ℕ)
+      → IsOpened seen disk_faults c window events tells (stored me) me guest → tells ≡ true
+      → IsBadAs c me (stored me) at me.kind → ⊥
+  good_opened me guest at o t bad = good_as c me (stored me) o.records at me.kind (o.read t) o.accepted bad
 
   -- ---- all roles
 
-  pub distinct_opened : (roles : List RoleId) (guests : List (Guest (Store D))) → AreApart roles
-      → AreOpened seen disk_faults c window events tells held roles guests → AreDistinct (hosted_in guests)
+  pub distinct_opened : (roles : List RoleId) (guests : List (Guest (RecordStore D))) → AreApart roles
+      → AreOpened seen disk_faults c window events tells stored roles guests → AreDistinct (hosted_in guests)
   distinct_opened roles guests apart all i j a b here there same =
       let g = get_map hosted_of guests i a here in
       let h = get_map hosted_of guests j b there in
@@ -191,12 +191,12 @@ module _ {D : Type 0} (seen : D → Option (List ℕ)) (disk_faults : D → ℕ)
       ∙ name_is p.0 h.0 p.2 in
       apart i j p.0 (o.1 ∙ ap Some name) p.1
 
-  pub ready_opened : (roles : List RoleId) (guests : List (Guest (Store D))) → AreApart roles
+  pub ready_opened : (roles : List RoleId) (guests : List (Guest (RecordStore D))) → AreApart roles
       → ((i : ℕ) (me : RoleId) → slice_get roles i ≡ Some me → IsTrue (names_role c me))
-      → AreOpened seen disk_faults c window events tells held roles guests → AreReady c guests
+      → AreOpened seen disk_faults c window events tells stored roles guests → AreReady c guests
   ready_opened roles guests apart named all = record {
     each = λ i h at. let o = all i h at in record {
-      live = subst IsTrue (sym (ap is_live o.2.hosted ∙ live_opened c window events o.0 o.2.records o.0.kind)) refl;
+      live = subst IsTrue (sym (ap is_live_role o.2.hosted ∙ live_opened c window events o.0 o.2.records o.0.kind)) refl;
       named = subst (λ me. IsTrue (names_role c me)) (sym (name_is o.0 h o.2)) (named i o.0 o.1);
       kind =
           ap kind_at o.2.hosted ∙ kind_opened c window events o.0 o.2.records o.0.kind
@@ -206,70 +206,70 @@ module _ {D : Type 0} (seen : D → Option (List ℕ)) (disk_faults : D → ℕ)
   }
 
   -- a role was opened from these records
-  abbrev pub IsOpenedFrom : List Record → RoleId → Guest (Store D) → Type 0
+  abbrev pub IsOpenedFrom : List Record → RoleId → Guest (RecordStore D) → Type 0
   IsOpenedFrom records me guest =
-      (o : IsOpened seen disk_faults c window events tells (held me) me guest) × (o.records ≡ records)
+      (o : IsOpened seen disk_faults c window events tells (stored me) me guest) × (o.records ≡ records)
 
   -- each role of a list was opened from its records
-  abbrev pub AreOpenedFrom : (RoleId → List Record) → List RoleId → List (Guest (Store D)) → Type 0
-  AreOpenedFrom told roles guests =
-      (i : ℕ) (me : RoleId) (guest : Guest (Store D)) → slice_get roles i ≡ Some me
-      → slice_get guests i ≡ Some guest → IsOpenedFrom (told me) me guest
+  abbrev pub AreOpenedFrom : (RoleId → List Record) → List RoleId → List (Guest (RecordStore D)) → Type 0
+  AreOpenedFrom recovered roles guests =
+      (i : ℕ) (me : RoleId) (guest : Guest (RecordStore D)) → slice_get roles i ≡ Some me
+      → slice_get guests i ≡ Some guest → IsOpenedFrom (recovered me) me guest
 
   abbrev first_told : RoleId → List Record → (RoleId → List Record) → RoleId → List Record
-  first_told r records told me = if same_role me r then records else told me
+  first_told r records recovered me = if same_role me r then records else recovered me
 
   -- what each role was opened from; where it is known, it is what the depot holds
-  abbrev pub AreTold : List RoleId → List (Guest (Store D)) → Type 0
+  abbrev pub AreTold : List RoleId → List (Guest (RecordStore D)) → Type 0
   AreTold roles guests =
-      (told : RoleId → List Record) × (tells ≡ true → (me : RoleId) → is_durable me.kind ≡ true
-      → told me ≡ told_to held me) × AreOpenedFrom told roles guests
+      (recovered : RoleId → List Record) × (tells ≡ true → (me : RoleId) → is_durable me.kind ≡ true
+      → recovered me ≡ records_in_files stored me) × AreOpenedFrom recovered roles guests
 
-  told_more : (r : RoleId) (rs : List RoleId) (g : Guest (Store D)) (gs : List (Guest (Store D)))
+  told_more : (r : RoleId) (rs : List RoleId) (g : Guest (RecordStore D)) (gs : List (Guest (RecordStore D)))
       → AreApart (r ∷ rs)
-      → IsOpened seen disk_faults c window events tells (held r) r g → AreTold rs gs → AreTold (r ∷ rs) (g ∷ gs)
-  told_more r rs g gs apart first rest = (told, is_told, from)
+      → IsOpened seen disk_faults c window events tells (stored r) r g → AreTold rs gs → AreTold (r ∷ rs) (g ∷ gs)
+  told_more r rs g gs apart first rest = (recovered, is_told, from)
     where
-      told : RoleId → List Record
-      told = first_told r first.records rest.0
+      recovered : RoleId → List Record
+      recovered = first_told r first.records rest.0
 
-      own : told r ≡ first.records
+      own : recovered r ≡ first.records
       own = rw (same_role-itself r) refl
 
-      is_told : tells ≡ true → (me : RoleId) → is_durable me.kind ≡ true → told me ≡ told_to held me
-      is_told t me = by_role (λ a. is_durable a.kind ≡ true → told a ≡ told_to held a) r
+      is_told : tells ≡ true → (me : RoleId) → is_durable me.kind ≡ true → recovered me ≡ records_in_files stored me
+      is_told t me = by_role (λ a. is_durable a.kind ≡ true → recovered a ≡ records_in_files stored a) r
           (λ d. own ∙ sym (ap records_or_none (first.read t d)))
           (λ a other d. (rw other refl) ∙ rest.1 t a d) me
 
-      from : AreOpenedFrom told (r ∷ rs) (g ∷ gs)
+      from : AreOpenedFrom recovered (r ∷ rs) (g ∷ gs)
       from zero me guest a b =
-          subst (λ h. IsOpenedFrom (told me) me h) (same_Some g guest b)
-          (subst (λ m. IsOpenedFrom (told m) m g) (same_Some r me a) (first, sym own))
+          subst (λ h. IsOpenedFrom (recovered me) me h) (same_Some g guest b)
+          (subst (λ m. IsOpenedFrom (recovered m) m g) (same_Some r me a) (first, sym own))
       from (suc i) me guest a b =
           let other : same_role me r ≡ false = differ_role me r
           (λ e. let n = apart 0 (suc i) me (ap Some (sym e)) a in omega (arith, n)) in
-          let same : told me ≡ rest.0 me = rw other refl in
+          let same : recovered me ≡ rest.0 me = rw other refl in
           subst (λ rs. IsOpenedFrom rs me guest) (sym same) (rest.2 i me guest a b)
 
-  pub told_opened : (roles : List RoleId) (guests : List (Guest (Store D))) → AreApart roles
-      → AreOpened seen disk_faults c window events tells held roles guests → AreTold roles guests
-  told_opened roles [] apart all = (told_to held, (λ t me d. refl), λ i me guest a b. absurd (none-some guest b))
+  pub told_opened : (roles : List RoleId) (guests : List (Guest (RecordStore D))) → AreApart roles
+      → AreOpened seen disk_faults c window events tells stored roles guests → AreTold roles guests
+  told_opened roles [] apart all = (records_in_files stored, (λ t me d. refl), λ i me guest a b. absurd (none-some guest b))
   told_opened [] (g ∷ gs) apart all = let o = all 0 g refl in absurd (none-some o.0 o.1)
   told_opened (r ∷ rs) (g ∷ gs) apart all =
       let one = all 0 g refl in
-      told_more r rs g gs apart (subst (λ me. IsOpened seen disk_faults c window events tells (held me) me g)
+      told_more r rs g gs apart (subst (λ me. IsOpened seen disk_faults c window events tells (stored me) me g)
       (sym (same_Some r one.0 one.1)) one.2)
       (told_opened rs gs (λ i j me a b. let e = apart (suc i) (suc j) me a b in omega (arith, e)) (λ i. all (suc i)))
 
-  pub hosts_opened : (told : RoleId → List Record) (roles : List RoleId) (guests : List (Guest (Store D)))
-      → length guests ≡ length roles → AreOpenedFrom told roles guests
-      → hosted_in guests ≡ hosts c window events told roles
-  hosts_opened told [] [] same from = refl
-  hosts_opened told [] (g ∷ gs) same from = absurd (omega (arith, same))
-  hosts_opened told (r ∷ rs) [] same from = absurd (omega (arith, same))
-  hosts_opened told (r ∷ rs) (g ∷ gs) same from =
+  pub hosts_opened : (recovered : RoleId → List Record) (roles : List RoleId) (guests : List (Guest (RecordStore D)))
+      → length guests ≡ length roles → AreOpenedFrom recovered roles guests
+      → hosted_in guests ≡ hosts c window events recovered roles
+  hosts_opened recovered [] [] same from = refl
+  hosts_opened recovered [] (g ∷ gs) same from = absurd (omega (arith, same))
+  hosts_opened recovered (r ∷ rs) [] same from = absurd (omega (arith, same))
+  hosts_opened recovered (r ∷ rs) (g ∷ gs) same from =
       let o = from 0 r g refl refl in
       let fewer : length gs ≡ length rs = omega (arith, same) in
       ap (λ (h : Hosted). h ∷ hosted_in gs) (o.0.hosted ∙ ap (λ rec. opened_as c window events r rec r.kind) o.1)
-      ∙ ap (λ (hs : List Hosted). opened_as c window events r (told r) r.kind ∷ hs)
-      (hosts_opened told rs gs fewer (λ i. from (suc i)))
+      ∙ ap (λ (hs : List Hosted). opened_as c window events r (recovered r) r.kind ∷ hs)
+      (hosts_opened recovered rs gs fewer (λ i. from (suc i)))

@@ -26,7 +26,7 @@ use Rattle.cx_node.specs.Doing.{Scene, course_in, scene}
 use Rattle.cx_node.specs.Guest.{AreReady, hosted_in}
 use Rattle.cx_course.specs.Course.{Course, Moved, does_at, stays, then_do, took}
 use Rattle.cx_course.specs.Run.{all_do, at_place, brings, brought, comes, first_do, grid_of}
-use Rattle.cx_course.specs.Run.{idle_at, lead_at, ordered, place_of, prepared, snaps, spelled, ticked, turn}
+use Rattle.cx_course.specs.Run.{idle_at, lead_at, ordered, hosted_place, prepared, snaps, spelled, ticked, node_turn}
 use Rattle.cx_record.specs.Numbers.{Numbered, Recorded}
 use Rattle.cx_node.proofs.Actions.{Done, acts_before, acts_cut, acts_none, acts_nothing, acts_then, acts_took, course}
 
@@ -34,7 +34,7 @@ use Rattle.cx_node.proofs.Actions.{Done, acts_before, acts_cut, acts_none, acts_
 abbrev pub letter_comes : Come → Course → Moved Course
 letter_comes come.Nothing s = stays s
 letter_comes come.Foreign s = stays s
-letter_comes (come.Letter n d) s = at_place (place_of d.to s.hosted) (Give n (input.Take d)) s
+letter_comes (come.Letter n d) s = at_place (hosted_place d.to s.hosted) (Give n (input.Take d)) s
 
 read_comes : (o : Option Numbered) (s : Course) → brings o s ≡ letter_comes (read_as o) s
 read_comes None s = refl
@@ -89,12 +89,12 @@ module _ {K : Type 0} (gives : Changing K) (c : Cluster) where
       subst (λ (m : Moved Course). Acts gives c [] m r a b) (sym is) p
 
   pub order_due : (n : ℕ) (r : Done) (a b : Scene K) → ((n == 1) || (n % 4096 == 0)) ≡ true
-      → Acts gives c [] (lead_at c (place_of (role kind.Leader 0) (hosted_in a.guests)) (course_in a)) r a b
+      → Acts gives c [] (lead_at c (hosted_place (role kind.Leader 0) (hosted_in a.guests)) (course_in a)) r a b
       → Acts gives c [] (ordered c n (course_in a)) r a b
   unfolding ordered
   order_due n r a b due p =
       let s = course_in a in
-      subst (λ (t : Bool). Acts gives c [] (if t then lead_at c (place_of (role kind.Leader 0) s.hosted) s
+      subst (λ (t : Bool). Acts gives c [] (if t then lead_at c (hosted_place (role kind.Leader 0) s.hosted) s
       else stays s) r a b) (sym due) p
 
   pub order_none : (n : ℕ) (a : Scene K) → ((n == 1) || (n % 4096 == 0)) ≡ false → AreReady c a.guests
@@ -102,7 +102,7 @@ module _ {K : Type 0} (gives : Changing K) (c : Cluster) where
   unfolding ordered
   order_none n a none ready =
       let s = course_in a in
-      subst (λ (t : Bool). Acts gives c [] (if t then lead_at c (place_of (role kind.Leader 0) s.hosted) s else stays s)
+      subst (λ (t : Bool). Acts gives c [] (if t then lead_at c (hosted_place (role kind.Leader 0) s.hosted) s else stays s)
       (Ok tt) a a) (sym none) (acts_nothing gives c a ready)
 
   pub snap_due : (n : ℕ) (r : Done) (a b : Scene K) → (n % 4096 == 0) ≡ true
@@ -149,7 +149,7 @@ module _ {K : Type 0} (gives : Changing K) (c : Cluster) where
   -- a datagram came, or none
   pub take_some : (n : ℕ) (d : Letter) (gs : List (Guest K)) (known : Option Recorded) (link mid : Option LinkHistory) (out : Option (List ℕ))
       (r : Done) (b : Scene K) → AreReady c gs → Receives known link mid (Ok (come.Letter n d))
-      → Acts gives c [] (at_place (place_of d.to (hosted_in gs)) (Give n (input.Take d)) (course gs known)) r
+      → Acts gives c [] (at_place (hosted_place d.to (hosted_in gs)) (Give n (input.Take d)) (course gs known)) r
       (scene gs known mid out) b
       → ActsOnce gives c (λ what. comes what (course gs known)) r (scene gs known link out) b
   take_some n d gs known link mid out r b ready got p =
@@ -159,7 +159,7 @@ module _ {K : Type 0} (gives : Changing K) (c : Cluster) where
         subst (λ (m : Moved Course). Acts gives c (what ∷ []) m r (scene gs known link out) b)
             (sym (comes_is what s ∙ ap (λ o. took what (letter_comes o s)) got.2))
             (acts_then gives c (what ∷ []) [] (took what (stays s))
-            (λ after. at_place (place_of d.to after.hosted) (Give n (input.Take d)) after) r (scene gs known link out)
+            (λ after. at_place (hosted_place d.to after.hosted) (Give n (input.Take d)) after) r (scene gs known link out)
             (scene gs known mid out) b (acts_took gives c what gs known link mid out got.1 ready) p),
       )
 
@@ -236,8 +236,8 @@ module _ {K : Type 0} (gives : Changing K) (c : Cluster) where
 
   -- one part of a turn after another
   pub turn_prepare : (n : ℕ) (e : Stop) (a b : Scene K) → Acts gives c [] (prepared c n (course_in a)) (Err e) a b
-      → ActsOnce gives c (λ what. turn c n what (course_in a)) (Err e) a b
-  unfolding turn
+      → ActsOnce gives c (λ what. node_turn c n what (course_in a)) (Err e) a b
+  unfolding node_turn
   turn_prepare n e a b p = (
     None,
     acts_before gives c [] (None ∷ []) (prepared c n (course_in a))
@@ -247,8 +247,8 @@ module _ {K : Type 0} (gives : Changing K) (c : Cluster) where
   pub turn_take : (n : ℕ) (e : Stop) (a b d : Scene K)
       → Acts gives c [] (prepared c n (course_in a)) (Ok tt) a b
       → ActsOnce gives c (λ what. comes what (course_in b)) (Err e) b d
-      → ActsOnce gives c (λ what. turn c n what (course_in a)) (Err e) a d
-  unfolding turn
+      → ActsOnce gives c (λ what. node_turn c n what (course_in a)) (Err e) a d
+  unfolding node_turn
   turn_take n e a b d p q =
       let what = q.0 in (
         what,
@@ -261,8 +261,8 @@ module _ {K : Type 0} (gives : Changing K) (c : Cluster) where
       → Acts gives c [] (prepared c n (course_in a)) (Ok tt) a b
       → ActsOnce gives c (λ what. comes what (course_in b)) (Ok tt) b d
       → Acts gives c [] (ticked n (course_in d)) r d f
-      → ActsOnce gives c (λ what. turn c n what (course_in a)) r a f
-  unfolding turn
+      → ActsOnce gives c (λ what. node_turn c n what (course_in a)) r a f
+  unfolding node_turn
   turn_tick n r a b d f p q t =
       let what = q.0 in (
         what,

@@ -11,7 +11,7 @@ use Rattle.cx_base.specs.declared.role.RoleId.{RoleId}
 use Rattle.cx_node.specs.declared.guest.Guest.{Guest}
 use Rattle.cx_node.specs.Guest.{hosted_in, hosted_of, who}
 use Rattle.cx_course.specs.Hosted.{Hosted}
-use Rattle.cx_course.specs.Run.{all_finished, has_finished, is_client, place_of}
+use Rattle.cx_course.specs.Run.{all_finished, has_finished, is_client, hosted_place}
 
 -- std's numbers in rising order
 pub range_numbers : (first count : ℕ) → range_with_len first count ≡ numbers first count
@@ -37,13 +37,13 @@ next_place false n l p e =
     ∙ ap (option_map (λ (i : ℕ). i + 1)) e
 
 pub place_is : {K : Type 0} (role : RoleId) (gs : List (Guest K))
-    → position (λ g. same_role role (who g)) gs ≡ place_of role (hosted_in gs)
+    → position (λ g. same_role role (who g)) gs ≡ hosted_place role (hosted_in gs)
 place_is role [] = refl
 place_is role (g ∷ gs) =
     next_place (same_role role (who g)) (position_or_len (λ g. same_role role (who g)) gs) (length gs)
-    (place_of role (hosted_in gs)) (place_is role gs)
+    (hosted_place role (hosted_in gs)) (place_is role gs)
 
-pub place_within : {K : Type 0} (role : RoleId) (gs : List (Guest K)) (i : ℕ) → place_of role (hosted_in gs) ≡ Some i
+pub place_within : {K : Type 0} (role : RoleId) (gs : List (Guest K)) (i : ℕ) → hosted_place role (hosted_in gs) ≡ Some i
     → i < length gs
 place_within role gs i e =
     let n = position_or_len (λ g. same_role role (who g)) gs in

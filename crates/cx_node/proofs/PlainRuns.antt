@@ -8,10 +8,10 @@ use Rattle.cx_course.specs.Action.{Action, Took, is_filled, step_actions}
 use Rattle.cx_course.specs.Changing.{StoreChange}
 use Rattle.cx_course.specs.Course.{Course, course_of, does_at, found_does}
 use Rattle.cx_course.specs.Hosted.{Hosted, does}
-use Rattle.cx_course.specs.Run.{Takes}
+use Rattle.cx_course.specs.Run.{TakeResults}
 use Rattle.cx_course.specs.Tending.{node_run}
 use Rattle.cx_course.specs.declared.doing.Doing.{Doing}
-use Rattle.cx_node.proofs.Walk.{IsKept, walk}
+use Rattle.cx_node.proofs.Walk.{IsPreserved, walk}
 use Rattle.cx_msg.specs.Letter.{Letter}
 
 -- no record is known of, and nothing was left out
@@ -44,14 +44,14 @@ does_plain : (i : ℕ) (s : Course) (what : Doing) (done : List Action) → IsPl
 unfolding does_at
 does_plain i s what done plain = found_plain i s what (slice_get s.hosted i) done plain
 
-plain_kept : IsKept IsPlain
-plain_kept = record {
+plain_preserved : IsPreserved IsPlain
+plain_preserved = record {
   step = λ s done i what may plain. does_plain i s what done plain;
   take = λ s done what plain.
       record { unrecorded = plain.unrecorded; made = made_more done (Took what ∷ []) plain.made refl };
 }
 
-pub plain_run : (tend : Option ℕ) (c : Cluster) (takes : Takes) (hs : List Hosted)
+pub plain_run : (tend : Option ℕ) (c : Cluster) (takes : TakeResults) (hs : List Hosted)
     → list_any is_filled (node_run tend c takes (course_of false hs)).actions ≡ false
 plain_run tend c takes hs =
-    (walk IsPlain plain_kept tend c takes (course_of false hs) [] (record { unrecorded = refl; made = refl })).made
+    (walk IsPlain plain_preserved tend c takes (course_of false hs) [] (record { unrecorded = refl; made = refl })).made

@@ -9,31 +9,31 @@ use Rattle.cx_base.specs.declared.role.RoleId.{RoleId}
 use Rattle.cx_cluster.specs.declared.fault.ClusterFault.{ClusterFault}
 use Rattle.cx_cluster.specs.Reading.{header_cluster}
 use Rattle.cx_script.specs.Input.{begun_input, of_header, whole_input}
-use Rattle.cx_script.specs.Lines.{Spelled}
+use Rattle.cx_script.specs.Lines.{ParsedLines}
 use Rattle.cx_script.specs.Requests.{requests_of}
 use Rattle.cx_script.specs.Unended.{lines_text}
 use Rattle.cx_script.proofs.Feeds.{IsFree, AreFree}
 use Rattle.cx_script.proofs.GoesOn.{SpelledOn, overlong}
 use Rattle.cx_script.proofs.Inputs.{Cut, header_goes_on, input_length}
 use Rattle.cx_script.proofs.RequestsGoOn.{requests_length, requests_on}
-use Rattle.cx_node.specs.Input.{FailsRead, IsAnswer, IsRefusal, bad_line_of, behind, header_says, input_of, lines, may_host}
+use Rattle.cx_node.specs.Input.{FailsRead, IsInputAnswer, IsRefusal, bad_line_of, behind, header_says, input_of, lines, may_host}
 use Rattle.cx_node.specs.Input.{refusal_of_part, refused_of, with_port}
 use Rattle.cx_node.specs.declared.input.Accepted.{Accepted}
-use Rattle.cx_node.specs.declared.input.Heard.{Heard}
-use Rattle.cx_node.specs.declared.input.Heard.TheVariants.{Nothing, BadHeader, Lines}
+use Rattle.cx_node.specs.declared.input.NodeInput.{NodeInput}
+use Rattle.cx_node.specs.declared.input.NodeInput.TheVariants.{Nothing, BadHeader, Lines}
 use Rattle.cx_node.specs.declared.input.Refusal.{Refusal}
 use Rattle.cx_node.specs.declared.input.Refusal.TheVariants as refusal
 
 -- what one is refused for, the other is
-abbrev RefusedToo : Bool → List RoleId → Heard → Heard → Type 0
+abbrev RefusedToo : Bool → List RoleId → NodeInput → NodeInput → Type 0
 RefusedToo recording roles heard all = (why : Refusal) → refused_of recording roles heard ≡ Some why → refused_of recording roles all ≡ Some why
 
-bad_line_stays : (s all : Spelled) → SpelledOn s all → (bad : Option ℕ) → s.bad ≡ bad → (why : Refusal)
+bad_line_stays : (s all : ParsedLines) → SpelledOn s all → (bad : Option ℕ) → s.bad ≡ bad → (why : Refusal)
     → bad_line_of s.bad ≡ Some why → bad_line_of all.bad ≡ Some why
 bad_line_stays s all on None good why is = (let clash : bad_line_of None ≡ Some why = rw good at is in cc)
-bad_line_stays s all on (Some line) bad why is = ap (λ (t : Spelled). bad_line_of t.bad) (on.bad line bad) ∙ is
+bad_line_stays s all on (Some line) bad why is = ap (λ (t : ParsedLines). bad_line_of t.bad) (on.bad line bad) ∙ is
 
-spelled_stays : (named : Bool) (s all : Spelled) → SpelledOn s all → (why : Refusal)
+spelled_stays : (named : Bool) (s all : ParsedLines) → SpelledOn s all → (why : Refusal)
     → (if named then bad_line_of s.bad else Some refusal.BadWords) ≡ Some why
     → (if named then bad_line_of all.bad else Some refusal.BadWords) ≡ Some why
 spelled_stays true s all on why is = bad_line_stays s all on s.bad refl why is
@@ -56,7 +56,7 @@ behind_stays recording roles header (Err fault) ls last more free last_free = λ
 behind_stays recording roles header (Ok c) ls last more free last_free = port_stays recording roles header c c.base_port ls last more free last_free
 
 -- what is heard of a header in the bytes that count, with those after it
-abbrev heard_in : Cut → Bool → Heard
+abbrev heard_in : Cut → Bool → NodeInput
 heard_in cut long = of_header header_says cut (if long then BadHeader else Nothing)
 
 refused_stays : (recording : Bool) (roles : List RoleId) (bytes more : List ℕ) → RefusedToo recording roles (lines bytes) (input_of (bytes ++ more))
@@ -69,7 +69,7 @@ refused_stays recording roles bytes more =
     }) bytes more
 
 -- how many bytes aren't refused
-spelled_length : (named : Bool) (s : Spelled) (n : ℕ) → (s.bad ≡ None → n ≤ 67239935)
+spelled_length : (named : Bool) (s : ParsedLines) (n : ℕ) → (s.bad ≡ None → n ≤ 67239935)
     → (if named then bad_line_of s.bad else Some refusal.BadWords) ≡ None → n ≤ 67239935
 spelled_length true s n short good = by_line s.bad refl good
   where
@@ -126,33 +126,33 @@ refused_of_all recording roles left left_after bytes why consumed is =
 
 -- more bytes than an input has are refused
 pub long_is_refused : (recording : Bool) (roles : List RoleId) (bytes : List ℕ) → 68000000 < length bytes
-    → IsAnswer false recording roles (lines bytes) (Err refusal.ReadFault) → ⊥
+    → IsInputAnswer false recording roles (lines bytes) (Err refusal.ReadFault) → ⊥
 long_is_refused recording roles bytes long answer = absurd (omega (arith, long, taken_length recording roles bytes answer.0))
 
 lines_complete : (recording : Bool) (roles : List RoleId) (bytes more : List ℕ) (r : Result Accepted Refusal)
-    → (r ≡ Err refusal.ReadFault → ⊥) → IsAnswer false recording roles (lines bytes) r
+    → (r ≡ Err refusal.ReadFault → ⊥) → IsInputAnswer false recording roles (lines bytes) r
     → IfErr r (IsRefusal (refused_of recording roles (input_of (bytes ++ more))))
-lines_complete recording roles bytes more (Ok p) told answer = tt
-lines_complete recording roles bytes more (Err refusal.NoMemory) told answer = tt
-lines_complete recording roles bytes more (Err refusal.ReadFault) told answer = absurd (told refl)
-lines_complete recording roles bytes more (Err (refusal.BadInput line)) told answer =
+lines_complete recording roles bytes more (Ok p) no_fault answer = tt
+lines_complete recording roles bytes more (Err refusal.NoMemory) no_fault answer = tt
+lines_complete recording roles bytes more (Err refusal.ReadFault) no_fault answer = absurd (no_fault refl)
+lines_complete recording roles bytes more (Err (refusal.BadInput line)) no_fault answer =
     refused_stays recording roles bytes more (refusal.BadInput line) answer
-lines_complete recording roles bytes more (Err refusal.BadWords) told answer =
+lines_complete recording roles bytes more (Err refusal.BadWords) no_fault answer =
     refused_stays recording roles bytes more refusal.BadWords answer
 
 -- where no failed read is answered to bytes that were read, their refusal is that of all
 pub all_complete : (recording : Bool) (roles : List RoleId) (left left_after : Option (List ℕ)) (bytes : List ℕ)
     (r : Result Accepted Refusal) → Consumes left left_after bytes
-    → (r ≡ Err refusal.ReadFault → ⊥) → IsAnswer false recording roles (lines bytes) r
+    → (r ≡ Err refusal.ReadFault → ⊥) → IsInputAnswer false recording roles (lines bytes) r
     → IfSome left (λ all. IfErr r (IsRefusal (refused_of recording roles (input_of all))))
-all_complete recording roles left left_after bytes r consumed told answer =
+all_complete recording roles left left_after bytes r consumed no_fault answer =
     of_all left left_after bytes (λ all. IfErr r (IsRefusal (refused_of recording roles (input_of all)))) consumed
-    (λ more. lines_complete recording roles bytes more r told answer)
+    (λ more. lines_complete recording roles bytes more r no_fault answer)
 
 -- what is answered to bytes that were read before a read failed
 fails_read : (recording : Bool) (roles : List RoleId) (left left_after : Option (List ℕ)) (bytes : List ℕ)
     (r : Result Accepted Refusal) → Consumes left left_after bytes
-    → IsAnswer false recording roles (lines bytes) r → IfErr r (FailsRead recording roles left left_after)
+    → IsInputAnswer false recording roles (lines bytes) r → IfErr r (FailsRead recording roles left left_after)
 fails_read recording roles left left_after bytes (Ok p) consumed answer = tt
 fails_read recording roles left left_after bytes (Err refusal.NoMemory) consumed answer = inl refl
 fails_read recording roles left left_after bytes (Err refusal.ReadFault) consumed answer =
@@ -164,13 +164,13 @@ fails_read recording roles left left_after bytes (Err refusal.BadWords) consumed
 
 pub read_failed : (recording : Bool) (roles : List RoleId) (left left_after : Option (List ℕ)) (reads reads_after : ℕ) (bytes : List ℕ)
     (r : Result Accepted Refusal) → Consumes left left_after bytes
-    → IsAnswer false recording roles (lines bytes) r → (reads_after ≡ reads) ⊎ IfErr r (FailsRead recording roles left left_after)
+    → IsInputAnswer false recording roles (lines bytes) r → (reads_after ≡ reads) ⊎ IfErr r (FailsRead recording roles left left_after)
 read_failed recording roles left left_after reads reads_after bytes r consumed answer =
     inr (fails_read recording roles left left_after bytes r consumed answer)
 
 -- what is answered to lines that are refused
-pub refused_answer : (ended recording : Bool) (roles : List RoleId) (header : List ℕ) (c : Cluster) (s : Spelled) (why : Refusal)
-    → refused_of recording roles (Lines header c s) ≡ Some why → IsAnswer ended recording roles (Lines header c s) (Err why)
+pub refused_answer : (ended recording : Bool) (roles : List RoleId) (header : List ℕ) (c : Cluster) (s : ParsedLines) (why : Refusal)
+    → refused_of recording roles (Lines header c s) ≡ Some why → IsInputAnswer ended recording roles (Lines header c s) (Err why)
 refused_answer ended recording roles header c s refusal.NoMemory is = tt
 refused_answer ended recording roles header c s refusal.ReadFault is = absurd (never (may_host recording c roles) s.bad is)
   where

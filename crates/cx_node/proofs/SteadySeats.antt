@@ -11,9 +11,9 @@ use Rattle.cx_base.specs.declared.role.RoleId.{RoleId}
 use Rattle.cx_model.specs.Lists.{bool_cases, get_set_other, get_set_same, not_both, number_itself, same_number}
 use Rattle.cx_edge.specs.Shelf.{shelf}
 use Rattle.cx_edge.specs.declared.shelf.Shelf.{Shelf}
-use Rattle.cx_journal.specs.declared.store.Store.{Store}
-use Rattle.cx_journal.specs.declared.store.Store.TheVariants.{One, Two}
-use Rattle.cx_keeper.specs.Keeper.{Change}
+use Rattle.cx_journal.specs.declared.store.RecordStore.{RecordStore}
+use Rattle.cx_journal.specs.declared.store.RecordStore.TheVariants.{One, Two}
+use Rattle.cx_keeper.specs.Keeper.{KeeperChange}
 use Rattle.cx_keeper.specs.declared.keeper.KeepFault.{KeepFault}
 use Rattle.cx_keeper.specs.declared.keeper.KeepFault.TheVariants.{Failed, NoMemory}
 use Rattle.cx_node.specs.declared.guest.Guest.{Guest}
@@ -31,7 +31,7 @@ use Rattle.cx_node.specs.Hosting.{Ran, RunsBehind, RunsPartBehind}
 use Rattle.cx_node.specs.Doing.{Did, GuestFails, GuestsGrow, GuestsRest, Linked, Scene, StopsAt, course_in, scene}
 use Rattle.cx_node.specs.Doing.{with_actions}
 use Rattle.cx_course.specs.Alike.{AreDistinct}
-use Rattle.cx_node.specs.Guest.{Changed, FailsIn, Grows, Rests, hosted_in, hosted_of, keeper_of, who}
+use Rattle.cx_node.specs.Guest.{AreChangesMade, HasChangeFailedIn, Grows, Rests, hosted_in, hosted_of, keeper_of, who}
 use Rattle.cx_course.specs.Hosted.{name_of}
 use Rattle.cx_node.specs.Node.{Runs, RunsPart}
 use Rattle.cx_node.specs.Opening.{disks_in, lent_to}
@@ -87,18 +87,18 @@ places_by me None = []
 places_by me (Some false) = shelf me 0 ∷ []
 places_by me (Some true) = shelf me 0 ∷ shelf me 1 ∷ []
 
-places_so : {D : Type 0} (me : RoleId) (o : Option (Store D)) → places_of (disks_of me o) ≡ places_by me (option_map is_two o)
+places_so : {D : Type 0} (me : RoleId) (o : Option (RecordStore D)) → places_of (disks_of me o) ≡ places_by me (option_map is_two o)
 places_so me None = refl
 places_so me (Some (One j)) = refl
 places_so me (Some (Two t)) = refl
 
-first_places : {D : Type 0} (g : Guest (Store D)) (gs : List (Guest (Store D)))
+first_places : {D : Type 0} (g : Guest (RecordStore D)) (gs : List (Guest (RecordStore D)))
     → lent_to (g ∷ gs) ≡ places_by (who g) (option_map is_two (keeper_of g)) ++ lent_to gs
 first_places g gs =
     map-append (λ (l : Lent _). l.place) (disks_of (who g) (keeper_of g)) (disks_in gs)
     ∙ ap (λ l. l ++ lent_to gs) (places_so (who g) (keeper_of g))
 
-pub lent_steady : {D : Type 0} (old new : List (Guest (Store D))) → IsSteady is_two old new → lent_to new ≡ lent_to old
+pub lent_steady : {D : Type 0} (old new : List (Guest (RecordStore D))) → IsSteady is_two old new → lent_to new ≡ lent_to old
 lent_steady [] [] steady = refl
 lent_steady [] (h ∷ hs) steady = let n = steady.count in absurd (omega (arith, n))
 lent_steady (g ∷ gs) [] steady = let n = steady.count in absurd (omega (arith, n))
@@ -123,13 +123,13 @@ distinct_steady shape old new steady distinct i j a b here there same =
     ∙ (steady.each j p.0 h.0 p.1 h.1).0)
 
 module _ {K : Type 0} (gives : Changing K) (shape : K → Bool)
-    (stays : (a : K) (change : Change) (answer : Result (Unit {0}) KeepFault) (b : K) → gives a change answer b
+    (stays : (a : K) (change : KeeperChange) (answer : Result (Unit {0}) KeepFault) (b : K) → gives a change answer b
     → shape b ≡ shape a) where
-  changed_stays : (cs : List Change) (a b : K) → Changed gives cs a b → shape b ≡ shape a
+  changed_stays : (cs : List KeeperChange) (a b : K) → AreChangesMade gives cs a b → shape b ≡ shape a
   changed_stays [] a b p = ap shape p
   changed_stays (c ∷ cs) a b p = changed_stays cs p.0 b p.2 ∙ stays a c (Ok tt) p.0 p.1
 
-  grows_stays : (cs : List Change) (o p : Option K) → Grows gives cs o p → option_map shape p ≡ option_map shape o
+  grows_stays : (cs : List KeeperChange) (o p : Option K) → Grows gives cs o p → option_map shape p ≡ option_map shape o
   grows_stays cs None None g = refl
   grows_stays cs None (Some k) g = absurd g
   grows_stays cs (Some k) None g = absurd g
@@ -145,7 +145,7 @@ module _ {K : Type 0} (gives : Changing K) (shape : K → Bool)
   rests_stays (Some k) None g = absurd g
   rests_stays (Some j) (Some k) g = ap Some (refused_stays j k g)
 
-  fails_stays : (r : Option Change) (o p : Option K) → FailsIn gives r o p → option_map shape p ≡ option_map shape o
+  fails_stays : (r : Option KeeperChange) (o p : Option K) → HasChangeFailedIn gives r o p → option_map shape p ≡ option_map shape o
   fails_stays r None p g = absurd g
   fails_stays r (Some j) None g = absurd g
   fails_stays None (Some j) (Some k) g = absurd g
@@ -167,7 +167,7 @@ module _ {K : Type 0} (gives : Changing K) (shape : K → Bool)
     each = λ i g h a b. let one = rest.1 i g h a b in (one.0, rests_stays (keeper_of g) (keeper_of h) one.1);
   }
 
-  steady_fail : (role : RoleId) (r : Change) (old new : List (Guest K)) → GuestFails gives role r old new
+  steady_fail : (role : RoleId) (r : KeeperChange) (old new : List (Guest K)) → GuestFails gives role r old new
       → IsSteady shape old new
   steady_fail role r old new f = subst (λ gs. IsSteady shape old gs) (sym f.others) (record {
     count = length-set old f.place f.after;

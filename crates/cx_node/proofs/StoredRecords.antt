@@ -7,19 +7,19 @@ use Rattle.cx_base.specs.Faults.{Rises}
 use Rattle.cx_base.specs.declared.role.RoleId.{RoleId}
 use Rattle.cx_disk.specs.declared.disk.Disk.{Ghosts as DiskGhosts}
 use Rattle.cx_edge.specs.Shelf.{shelf}
-use Rattle.cx_keeper.specs.Keeper.{Append, Change, IsChange, Renewal, list_after}
+use Rattle.cx_keeper.specs.Keeper.{Append, KeeperChange, IsKeeperChange, Renewal, list_after}
 use Rattle.cx_keeper.specs.declared.keeper.KeepFault.{KeepFault}
 use Rattle.cx_keeper.specs.declared.keeper.KeepFault.TheVariants.{Failed, NoMemory}
 use Rattle.cx_journal.specs.Files.{files_records}
 use Rattle.cx_journal.specs.Store.{IsStoreChange, store_faults, store_told, store_whole}
 use Rattle.cx_journal.specs.StoreLaw.{store_change_is}
-use Rattle.cx_journal.specs.declared.store.Store.{Store}
-use Rattle.cx_journal.specs.declared.store.Store.TheVariants.{One, Two}
+use Rattle.cx_journal.specs.declared.store.RecordStore.{RecordStore}
+use Rattle.cx_journal.specs.declared.store.RecordStore.TheVariants.{One, Two}
 use Rattle.cx_journal.proofs.Stores.{store_whole_after}
 use Rattle.cx_msg.specs.declared.kept.Record.{Record}
 use Rattle.cx_course.specs.Changing.{lists_after}
 use Rattle.cx_node.specs.Changing.{Changing, Refuses}
-use Rattle.cx_node.specs.Guest.{Changed, Fails}
+use Rattle.cx_node.specs.Guest.{AreChangesMade, HasChangeFailed}
 use Rattle.cx_node.specs.Hosting.{store_gives}
 use Rattle.cx_node.specs.Stores.{Lent, NoneFailed, disks_of, is_two}
 
@@ -44,7 +44,7 @@ no_memory_is_no_fault : ◌≡◌ {A = Result (Unit {0}) KeepFault} (Err NoMemor
 no_memory_is_no_fault e = cc
 
 -- a disk of a store is its role's, and has not failed where none of them has
-pub role_of_disk : {S : Type 0} (me : RoleId) (o : Option (Store S)) (n : ℕ) (l : Lent S)
+pub role_of_disk : {S : Type 0} (me : RoleId) (o : Option (RecordStore S)) (n : ℕ) (l : Lent S)
     → slice_get (disks_of me o) n ≡ Some l → l.place.role ≡ me
 role_of_disk me None n l at = absurd (none-some l at)
 role_of_disk me (Some (One j)) zero l at = ap (λ (l : Lent _). l.place.role) (sym (same_Some _ l at))
@@ -53,7 +53,7 @@ role_of_disk me (Some (Two t)) zero l at = ap (λ (l : Lent _). l.place.role) (s
 role_of_disk me (Some (Two t)) (suc zero) l at = ap (λ (l : Lent _). l.place.role) (sym (same_Some _ l at))
 role_of_disk me (Some (Two t)) (suc (suc n)) l at = absurd (none-some l at)
 
-pub none_failed_at : {S : Type 0} (disk_faults : S → ℕ) (me : RoleId) (s : Store S) (n : ℕ) (l : Lent S)
+pub none_failed_at : {S : Type 0} (disk_faults : S → ℕ) (me : RoleId) (s : RecordStore S) (n : ℕ) (l : Lent S)
     → slice_get (disks_of me (Some s)) n ≡ Some l → NoneFailed disk_faults s → disk_faults l.disk ≡ 0
 none_failed_at faults me (One j) zero l at none = ap (λ (l : Lent _). faults l.disk) (sym (same_Some _ l at)) ∙ none
 none_failed_at faults me (One j) (suc n) l at none = absurd (none-some l at)
@@ -63,37 +63,37 @@ none_failed_at faults me (Two t) (suc zero) l at none =
 none_failed_at faults me (Two t) (suc (suc n)) l at none = absurd (none-some l at)
 
 module _ {D : Type 0} (by : DiskGhosts D) where
-  abbrev pub gives : Changing (Store D)
+  abbrev pub gives : Changing (RecordStore D)
   gives = store_gives by
 
-  abbrev pub kept : Store D → List Record
+  abbrev pub kept : RecordStore D → List Record
   kept s = files_records (store_told by.seen s)
 
-  abbrev pub tells : Store D → Bool
+  abbrev pub tells : RecordStore D → Bool
   tells s = is_some (store_told by.seen s)
 
-  pub change_is : (a : Store D) (change : Change) (answer : Result (Unit {0}) KeepFault) (b : Store D)
+  pub change_is : (a : RecordStore D) (change : KeeperChange) (answer : Result (Unit {0}) KeepFault) (b : RecordStore D)
       → gives a change answer b → IsStoreChange by a change answer b
   change_is a (Append r) answer b p = p
   change_is a (Renewal records) answer b p = p
 
-  keeps : (a : Store D) (change : Change) (answer : Result (Unit {0}) KeepFault) (b : Store D)
-      → gives a change answer b → IsChange tells kept store_faults a change answer b
+  keeps : (a : RecordStore D) (change : KeeperChange) (answer : Result (Unit {0}) KeepFault) (b : RecordStore D)
+      → gives a change answer b → IsKeeperChange tells kept store_faults a change answer b
   keeps a change answer b p = store_change_is by a change answer b (change_is a change answer b p)
 
-  two_stays : (a : Store D) (change : Change) (answer : Result (Unit {0}) KeepFault) (b : Store D)
+  two_stays : (a : RecordStore D) (change : KeeperChange) (answer : Result (Unit {0}) KeepFault) (b : RecordStore D)
       → IsStoreChange by a change answer b → is_two b ≡ is_two a
   two_stays (One a) change answer (One b) p = refl
   two_stays (Two a) change answer (Two b) p = refl
   two_stays (One a) change answer (Two b) p = absurd p
   two_stays (Two a) change answer (One b) p = absurd p
 
-  pub shape_stays : (a : Store D) (change : Change) (answer : Result (Unit {0}) KeepFault) (b : Store D)
+  pub shape_stays : (a : RecordStore D) (change : KeeperChange) (answer : Result (Unit {0}) KeepFault) (b : RecordStore D)
       → gives a change answer b → is_two b ≡ is_two a
   shape_stays a change answer b p = two_stays a change answer b (change_is a change answer b p)
 
   -- a change that doesn't fail raises no count
-  still : (a : Store D) (change : Change) (answer : Result (Unit {0}) KeepFault) (b : Store D)
+  still : (a : RecordStore D) (change : KeeperChange) (answer : Result (Unit {0}) KeepFault) (b : RecordStore D)
       → IsStoreChange by a change answer b → (answer ≡ Err Failed → ⊥) → NoneFailed by.faults a
       → NoneFailed by.faults b
   still (One a) (Append r) answer (One b) p ok none = p.disk_still ok ∙ none
@@ -103,70 +103,70 @@ module _ {D : Type 0} (by : DiskGhosts D) where
   still (One a) change answer (Two b) p ok none = absurd p
   still (Two a) change answer (One b) p ok none = absurd p
 
-  pub changed_whole : (cs : List Change) (a b : Store D) → store_whole a ≡ true → Changed gives cs a b
+  pub changed_whole : (cs : List KeeperChange) (a b : RecordStore D) → store_whole a ≡ true → AreChangesMade gives cs a b
       → store_whole b ≡ true
-  changed_whole [] a b whole p = subst (λ (x : Store D). store_whole x ≡ true) (sym p) whole
+  changed_whole [] a b whole p = subst (λ (x : RecordStore D). store_whole x ≡ true) (sym p) whole
   changed_whole (c ∷ cs) a b whole p =
       changed_whole cs p.0 b (store_whole_after by a c p.0 (change_is a c (Ok tt) p.0 p.1)) p.2
 
-  pub changed_tells : (cs : List Change) (a b : Store D) → tells a ≡ true → Changed gives cs a b → tells b ≡ true
-  changed_tells [] a b told p = subst (λ (x : Store D). tells x ≡ true) (sym p) told
-  changed_tells (c ∷ cs) a b told p = changed_tells cs p.0 b ((keeps a c (Ok tt) p.0 p.1).told ∙ told) p.2
+  pub changed_tells : (cs : List KeeperChange) (a b : RecordStore D) → tells a ≡ true → AreChangesMade gives cs a b → tells b ≡ true
+  changed_tells [] a b is_seen p = subst (λ (x : RecordStore D). tells x ≡ true) (sym p) is_seen
+  changed_tells (c ∷ cs) a b is_seen p = changed_tells cs p.0 b ((keeps a c (Ok tt) p.0 p.1).tells_same ∙ is_seen) p.2
 
-  pub changed_told : (cs : List Change) (a b : Store D) → tells a ≡ true → Changed gives cs a b
+  pub changed_told : (cs : List KeeperChange) (a b : RecordStore D) → tells a ≡ true → AreChangesMade gives cs a b
       → kept b ≡ lists_after (kept a) cs
-  changed_told [] a b told p = ap kept p
-  changed_told (c ∷ cs) a b told p =
+  changed_told [] a b is_seen p = ap kept p
+  changed_told (c ∷ cs) a b is_seen p =
       let first = keeps a c (Ok tt) p.0 p.1 in
-      changed_told cs p.0 b (first.told ∙ told) p.2 ∙ ap (λ l. lists_after l cs) (first.ok refl told)
+      changed_told cs p.0 b (first.tells_same ∙ is_seen) p.2 ∙ ap (λ l. lists_after l cs) (first.ok refl is_seen)
 
-  pub changed_two : (cs : List Change) (a b : Store D) → Changed gives cs a b → is_two b ≡ is_two a
+  pub changed_two : (cs : List KeeperChange) (a b : RecordStore D) → AreChangesMade gives cs a b → is_two b ≡ is_two a
   changed_two [] a b p = ap is_two p
   changed_two (c ∷ cs) a b p = changed_two cs p.0 b p.2 ∙ two_stays a c (Ok tt) p.0 (change_is a c (Ok tt) p.0 p.1)
 
-  pub changed_still : (cs : List Change) (a b : Store D) → Changed gives cs a b → NoneFailed by.faults a
+  pub changed_still : (cs : List KeeperChange) (a b : RecordStore D) → AreChangesMade gives cs a b → NoneFailed by.faults a
       → NoneFailed by.faults b
   changed_still [] a b p none = subst (NoneFailed by.faults) (sym p) none
   changed_still (c ∷ cs) a b p none =
       changed_still cs p.0 b p.2 (still a c (Ok tt) p.0 (change_is a c (Ok tt) p.0 p.1) ok_is_no_fault none)
 
   -- a store that keeps what it kept
-  pub refused_tells : (a b : Store D) → tells a ≡ true → Refuses gives a b → tells b ≡ true
-  refused_tells a b told (inl same) = ap tells same ∙ told
-  refused_tells a b told (inr p) = (keeps a p.0 (Err NoMemory) b p.1).told ∙ told
+  pub refused_tells : (a b : RecordStore D) → tells a ≡ true → Refuses gives a b → tells b ≡ true
+  refused_tells a b is_seen (inl same) = ap tells same ∙ is_seen
+  refused_tells a b is_seen (inr p) = (keeps a p.0 (Err NoMemory) b p.1).tells_same ∙ is_seen
 
-  pub refused_told : (a b : Store D) → Refuses gives a b → kept b ≡ kept a
+  pub refused_told : (a b : RecordStore D) → Refuses gives a b → kept b ≡ kept a
   refused_told a b (inl same) = ap kept same
   refused_told a b (inr p) = (keeps a p.0 (Err NoMemory) b p.1).no_memory refl
 
-  pub refused_two : (a b : Store D) → Refuses gives a b → is_two b ≡ is_two a
+  pub refused_two : (a b : RecordStore D) → Refuses gives a b → is_two b ≡ is_two a
   refused_two a b (inl same) = ap is_two same
   refused_two a b (inr p) = two_stays a p.0 (Err NoMemory) b (change_is a p.0 (Err NoMemory) b p.1)
 
-  pub refused_still : (a b : Store D) → Refuses gives a b → NoneFailed by.faults a → NoneFailed by.faults b
+  pub refused_still : (a b : RecordStore D) → Refuses gives a b → NoneFailed by.faults a → NoneFailed by.faults b
   refused_still a b (inl same) none = subst (NoneFailed by.faults) (sym same) none
   refused_still a b (inr p) none =
       still a p.0 (Err NoMemory) b (change_is a p.0 (Err NoMemory) b p.1) no_memory_is_no_fault none
 
   -- one whose change failed has the list from before it, or after it
-  pub failed_tells : (c : Change) (a b : Store D) → tells a ≡ true → Fails gives (Some c) a b → tells b ≡ true
-  failed_tells c a b told fails = (keeps a c (Err Failed) b fails).told ∙ told
+  pub failed_tells : (c : KeeperChange) (a b : RecordStore D) → tells a ≡ true → HasChangeFailed gives (Some c) a b → tells b ≡ true
+  failed_tells c a b is_seen fails = (keeps a c (Err Failed) b fails).tells_same ∙ is_seen
 
-  pub failed_told : (c : Change) (a b : Store D) → Fails gives (Some c) a b → (kept b ≡ kept a)
+  pub failed_told : (c : KeeperChange) (a b : RecordStore D) → HasChangeFailed gives (Some c) a b → (kept b ≡ kept a)
       ⊎ (kept b ≡ list_after (kept a) c)
   failed_told c a b fails = (keeps a c (Err Failed) b fails).failed refl
 
-  pub failed_two : (c : Change) (a b : Store D) → Fails gives (Some c) a b → is_two b ≡ is_two a
+  pub failed_two : (c : KeeperChange) (a b : RecordStore D) → HasChangeFailed gives (Some c) a b → is_two b ≡ is_two a
   failed_two c a b fails = two_stays a c (Err Failed) b (change_is a c (Err Failed) b fails)
 
   -- one of its disks has failed then
-  abbrev HasFailed : RoleId → Store D → Type 0
+  abbrev HasFailed : RoleId → RecordStore D → Type 0
   HasFailed me s = (n : ℕ) × (l : Lent D) × (slice_get (disks_of me (Some s)) n ≡ Some l) × Rises 0 (by.faults l.disk)
 
   from_zero : (a b : ℕ) → Rises a b → Rises 0 b
   from_zero a b rose = rises_later 0 a b (omega arith) rose
 
-  fails_so : (me : RoleId) (c : Change) (a b : Store D) → store_whole a ≡ true
+  fails_so : (me : RoleId) (c : KeeperChange) (a b : RecordStore D) → store_whole a ≡ true
       → ((records : List Record) → c ≡ Renewal records → is_two a ≡ true) → IsStoreChange by a c (Err Failed) b
       → HasFailed me b
   fails_so me (Append r) (One a) (One b) whole two p =
@@ -185,9 +185,9 @@ module _ {D : Type 0} (by : DiskGhosts D) where
   fails_so me c (One a) (Two b) whole two p = absurd p
   fails_so me c (Two a) (One b) whole two p = absurd p
 
-  pub fails_rises : (me : RoleId) (cs : List Change) (c : Change) (a mid b : Store D) → store_whole a ≡ true
+  pub fails_rises : (me : RoleId) (cs : List KeeperChange) (c : KeeperChange) (a mid b : RecordStore D) → store_whole a ≡ true
       → ((records : List Record) → c ≡ Renewal records → is_two mid ≡ true)
-      → Changed gives cs a mid → Fails gives (Some c) mid b
+      → AreChangesMade gives cs a mid → HasChangeFailed gives (Some c) mid b
       → (n : ℕ) × (l : Lent D) × (slice_get (disks_of me (Some b)) n ≡ Some l) × Rises 0 (by.faults l.disk)
   fails_rises me cs c a mid b whole two front fails =
       fails_so me c mid b (changed_whole cs a mid whole front) two (change_is mid c (Err Failed) b fails)

@@ -10,7 +10,7 @@ use Rattle.cx_node.specs.Stores.{Lent}
 -- what a depot shows: what it holds, whether that is known, and its counts
 pub record Shown (D S : Type 0) : Type 0 where
   pub tells : D → Bool
-  pub held : D → Shelf → List ℕ
+  pub stored : D → Shelf → List ℕ
   pub faults : D → RoleId → ℕ
   pub seen : S → Option (List ℕ)
   pub failures : S → ℕ
@@ -19,7 +19,7 @@ abbrev pub shown_by : {D S : Type 0} → DepotGhosts D S → DiskGhosts S → Sh
 shown_by by_depot by_disk =
     record {
       tells = by_depot.tells;
-      held = by_depot.held;
+      stored = by_depot.stored;
       faults = by_depot.faults;
       seen = by_disk.seen;
       failures = by_disk.faults;
@@ -27,9 +27,9 @@ shown_by by_depot by_disk =
 
 -- a disk was given back
 pub record IsGivenBack {D S : Type 0} (shown : Shown D S) (l : Lent S) (old new : D) : Type 0 where
-  pub told : shown.tells new ≡ shown.tells old
-  pub held : shown.tells old ≡ true → (file : List ℕ) → shown.seen l.disk ≡ Some file → shown.held new l.place ≡ file
-  pub others_held : (a : Shelf) → (a ≡ l.place → ⊥) → shown.held new a ≡ shown.held old a
+  pub tells_same : shown.tells new ≡ shown.tells old
+  pub stored : shown.tells old ≡ true → (file : List ℕ) → shown.seen l.disk ≡ Some file → shown.stored new l.place ≡ file
+  pub others_stored : (a : Shelf) → (a ≡ l.place → ⊥) → shown.stored new a ≡ shown.stored old a
   pub cause : Rises 0 (shown.failures l.disk) → Rises (shown.faults old l.place.role) (shown.faults new l.place.role)
   pub still : shown.failures l.disk ≡ 0 → shown.faults new l.place.role ≡ shown.faults old l.place.role
   pub others : (a : RoleId) → (a ≡ l.place.role → ⊥) → shown.faults new a ≡ shown.faults old a

@@ -1,63 +1,53 @@
 -- The parts of a tended turn, as acts.
-use Rattle.std.proofs.Common.{◌≡◌, ◌+◌, ◌<◌, ◌==◌, ◌&&◌, not, nat_lt, ◌/◌, ℕ, min, length, Bool, true, false, cond, List, [], ◌∷◌, map, Option, None, Some, option_map, Ok, Err, slice_get, if◌then◌else◌, refl, sym, ap, ap₂, ◌∙◌, subst, append-nil}
+use Rattle.std.proofs.Common.{◌≡◌, ◌+◌, not, ℕ, min, length, Bool, true, false, cond, List, [], ◌∷◌, map, Option, None, Some, option_map, Ok, Err, slice_get, if◌then◌else◌, refl, sym, ap, ap₂, ◌∙◌, subst, append-nil}
 use Rattle.std.specs.Prelude.{OnOk, filter, is_some}
 use Rattle.std.specs.List.{count_by, sum_by}
 use Rattle.std.specs.Option.{option_map_or}
 use Rattle.std.proofs.lemmas.List.Sums.{length-filter, sum-map, sum_by-cons}
-use Rattle.std.proofs.lemmas.Option.{none-some, same_Some, slice_get-map, slice_get_within}
+use Rattle.std.proofs.lemmas.Option.{none-some, same_Some}
 use Rattle.cx_base.specs.declared.cluster.Cluster.{Cluster}
-use Rattle.cx_base.specs.declared.event.Order.{Order}
-use Rattle.cx_base.specs.declared.event.Order.TheVariants as order
 use Rattle.cx_base.specs.declared.role.Kind.{Kind}
 use Rattle.cx_base.specs.declared.role.Kind.TheVariants as kind
 use Rattle.cx_base.specs.declared.role.RoleId.{RoleId}
-use Rattle.cx_base.specs.Role.{role, same_role}
-use Rattle.cx_edge.specs.Link.{LinkHistory}
-use Rattle.cx_leader.specs.Tending.{can_collect, is_new}
+use Rattle.cx_base.specs.Role.{role}
 use Rattle.cx_model.specs.Leader.{LeaderDurable, LeaderVolatile}
 use Rattle.cx_model.specs.Rules.{Running}
 use Rattle.cx_msg.specs.Letter.{Letter}
-use Rattle.cx_msg.specs.declared.input.Input.TheVariants as input
-use Rattle.cx_node.specs.Changing.{Changing}
 use Rattle.cx_node.specs.declared.come.Come.TheVariants as come
-use Rattle.cx_course.specs.declared.doing.Doing.TheVariants.{Give}
 use Rattle.cx_node.specs.declared.guest.Guest.{Guest}
-use Rattle.cx_node.specs.declared.node.Stop.{Stop}
-use Rattle.cx_node.specs.declared.node.Stop.TheVariants.{LinkFault, NoMemory, RecordFull, StoreFault, WriteFault}
 use Rattle.cx_course.specs.declared.standing.Standing.{Standing}
-use Rattle.cx_node.specs.Acts.{Acts, Receives, come_of, read_as}
-use Rattle.cx_node.specs.Doing.{Scene, course_in, scene}
-use Rattle.cx_node.specs.Guest.{AreReady, hosted_in, hosted_of}
+use Rattle.cx_node.specs.Acts.{come_of, read_as}
+use Rattle.cx_node.specs.Guest.{hosted_in, hosted_of}
 use Rattle.cx_course.specs.Hosted.{Hosted}
 use Rattle.cx_course.specs.Course.{Course, Moved, stays, took, then_do}
-use Rattle.cx_course.specs.Run.{at_place, brought, is_client, ordered, place_of, snaps}
-use Rattle.cx_course.specs.Tending.{Care, Tended, all_completed, asks_again, at_or_none, beat, beat_over, brings_heeded, clients_noted, clients_tended, collected, completed, completed_by, counted, first_leader, flushed, gets, heeded, held_by, held_of, hosted_as, in_turn, is_beat, is_of, is_overtaken, is_so, kind_ticks, leader_asked, leader_cared, leader_of, leader_tended, next_pass, others_tick, pass_begun, passes, reported, standing_of, tend_comes, tend_ordered, tend_prepared, tended_turn, those_tick, ticks_if, turn_ended, with_care, within, without_care}
-use Rattle.cx_record.specs.Numbers.{Numbered, Recorded, numbered}
-use Rattle.cx_node.specs.Tends.{TendsOnce, is_leader_so, tended}
-use Rattle.cx_node.proofs.Actions.{Done, acts_before, acts_cut, acts_none, acts_nothing, acts_then, acts_took, course}
-use Rattle.cx_node.proofs.Seated.{hosted_at}
+use Rattle.cx_course.specs.Run.{brought, is_client, hosted_place}
+use Rattle.cx_course.specs.Tending.{Care, Tended, all_completed, asks_again, at_or_none, beat, beat_over, brings_heeded, clients_noted, clients_tended, completed, completed_by, care_after_turn, first_leader, gets, heeded, held_by_role, held_of, hosted_as, in_turn, is_beat, is_of_kind, is_overtaken, kind_ticks, leader_asked, leader_cared, leader_of, leader_tended, next_pass, others_tick, pass_begun, passes, standing_of, tend_comes, those_tick, turn_ended, with_care, within}
+use Rattle.cx_record.specs.Numbers.{Numbered, numbered}
+use Rattle.cx_node.specs.Tends.{tended}
+use Rattle.cx_node.proofs.Actions.{Done}
+use Rattle.cx_node.proofs.SeatedActs.{hosted_at}
 
 -- ---- who is hosted
 
-hosted_none : {K : Type 0} (gs : List (Guest K)) (who : RoleId) → place_of who (hosted_in gs) ≡ None → hosted_as who (hosted_in gs) ≡ None
+hosted_none : {K : Type 0} (gs : List (Guest K)) (who : RoleId) → hosted_place who (hosted_in gs) ≡ None → hosted_as who (hosted_in gs) ≡ None
 hosted_none gs who none = ap (λ (o : Option ℕ). at_or_none o (hosted_in gs)) none
 
-hosted_some : {K : Type 0} (gs : List (Guest K)) (who : RoleId) (i : ℕ) (h : Guest K) → place_of who (hosted_in gs) ≡ Some i → slice_get gs i ≡ Some h → hosted_as who (hosted_in gs) ≡ Some (hosted_of h)
+hosted_some : {K : Type 0} (gs : List (Guest K)) (who : RoleId) (i : ℕ) (h : Guest K) → hosted_place who (hosted_in gs) ≡ Some i → slice_get gs i ≡ Some h → hosted_as who (hosted_in gs) ≡ Some (hosted_of h)
 hosted_some gs who i h found here = ap (λ (o : Option ℕ). at_or_none o (hosted_in gs)) found ∙ hosted_at gs i h here
 
-pub held_none : {K : Type 0} (gs : List (Guest K)) (who : RoleId) → place_of who (hosted_in gs) ≡ None → 0 ≡ held_by who (hosted_in gs)
-unfolding held_by
+pub held_none : {K : Type 0} (gs : List (Guest K)) (who : RoleId) → hosted_place who (hosted_in gs) ≡ None → 0 ≡ held_by_role who (hosted_in gs)
+unfolding held_by_role
 held_none gs who none = sym (ap (λ (o : Option Hosted). option_map_or held_of o 0) (hosted_none gs who none))
 
-pub held_some : {K : Type 0} (gs : List (Guest K)) (who : RoleId) (i : ℕ) (h : Guest K) → place_of who (hosted_in gs) ≡ Some i → slice_get gs i ≡ Some h → held_of (hosted_of h) ≡ held_by who (hosted_in gs)
-unfolding held_by
+pub held_some : {K : Type 0} (gs : List (Guest K)) (who : RoleId) (i : ℕ) (h : Guest K) → hosted_place who (hosted_in gs) ≡ Some i → slice_get gs i ≡ Some h → held_of (hosted_of h) ≡ held_by_role who (hosted_in gs)
+unfolding held_by_role
 held_some gs who i h found here = sym (ap (λ (o : Option Hosted). option_map_or held_of o 0) (hosted_some gs who i h found here))
 
-pub first_none : {K : Type 0} (gs : List (Guest K)) → place_of (role kind.Leader 0) (hosted_in gs) ≡ None → first_leader (hosted_in gs) ≡ None
+pub first_none : {K : Type 0} (gs : List (Guest K)) → hosted_place (role kind.Leader 0) (hosted_in gs) ≡ None → first_leader (hosted_in gs) ≡ None
 unfolding first_leader
 first_none gs none = rw (hosted_none gs (role kind.Leader 0) none)
 
-pub first_some : {K : Type 0} (gs : List (Guest K)) (i : ℕ) (h : Guest K) → place_of (role kind.Leader 0) (hosted_in gs) ≡ Some i → slice_get gs i ≡ Some h → first_leader (hosted_in gs) ≡ leader_of (hosted_of h)
+pub first_some : {K : Type 0} (gs : List (Guest K)) (i : ℕ) (h : Guest K) → hosted_place (role kind.Leader 0) (hosted_in gs) ≡ Some i → slice_get gs i ≡ Some h → first_leader (hosted_in gs) ≡ leader_of (hosted_of h)
 unfolding first_leader
 first_some gs i h found here = rw (hosted_some gs (role kind.Leader 0) i h found here)
 
@@ -94,34 +84,34 @@ read_nothing : (o : Option Numbered) → read_as o ≡ come.Nothing → ⊥
 read_nothing None is = cc
 read_nothing (Some x) is = cc
 
-letter_heeded : (what : Option (List ℕ)) (s : Course) (n : ℕ) (d : Letter) → come_of s.recorded what ≡ come.Letter n d → (tend_comes what s ≡ took what (heeded (numbered n d) s)) × (is_some what ≡ true)
+pub letter_heeded : (what : Option (List ℕ)) (s : Course) (n : ℕ) (d : Letter) → come_of s.recorded what ≡ come.Letter n d → (tend_comes what s ≡ took what (heeded (numbered n d) s)) × (is_some what ≡ true)
 unfolding tend_comes
 letter_heeded None s n d is = cc
 letter_heeded (Some bytes) s n d is = (ap (took (Some bytes)) (read_heeded (brought s.recorded bytes) s n d is), refl)
 
-foreign_heeded : (what : Option (List ℕ)) (s : Course) → come_of s.recorded what ≡ come.Foreign → (tend_comes what s ≡ took what (stays s)) × (is_some what ≡ true)
+pub foreign_heeded : (what : Option (List ℕ)) (s : Course) → come_of s.recorded what ≡ come.Foreign → (tend_comes what s ≡ took what (stays s)) × (is_some what ≡ true)
 unfolding tend_comes
 foreign_heeded None s is = cc
 foreign_heeded (Some bytes) s is = (ap (took (Some bytes)) (read_foreign (brought s.recorded bytes) s is), refl)
 
-nothing_heeded : (what : Option (List ℕ)) (s : Course) → come_of s.recorded what ≡ come.Nothing → (tend_comes what s ≡ took what (stays s)) × (is_some what ≡ false)
+pub nothing_heeded : (what : Option (List ℕ)) (s : Course) → come_of s.recorded what ≡ come.Nothing → (tend_comes what s ≡ took what (stays s)) × (is_some what ≡ false)
 unfolding tend_comes
 nothing_heeded None s is = (refl, refl)
 nothing_heeded (Some bytes) s is = absurd (read_nothing (brought s.recorded bytes) is)
 
 -- whatever a take gave, what comes of it comes after it
-abbrev what_heeded : Option (List ℕ) → Course → Moved Course
+abbrev pub what_heeded : Option (List ℕ) → Course → Moved Course
 what_heeded None s = stays s
 what_heeded (Some bytes) s = brings_heeded (brought s.recorded bytes) s
 
-all_heeded : (what : Option (List ℕ)) (s : Course) → tend_comes what s ≡ took what (what_heeded what s)
+pub all_heeded : (what : Option (List ℕ)) (s : Course) → tend_comes what s ≡ took what (what_heeded what s)
 unfolding tend_comes
 all_heeded None s = refl
 all_heeded (Some bytes) s = refl
 
 -- ---- acts
 
-then_stays : (m : Moved Course) → then_do m (λ s. stays s) ≡ m
+pub then_stays : (m : Moved Course) → then_do m (λ s. stays s) ≡ m
 then_stays m = λ i. record { next = m.next; actions = append-nil m.actions i }
 
 abbrev clients_pass : Care → Course → Moved Tended
@@ -170,13 +160,13 @@ abbrev ended : Cluster → ℕ → Care → Course → Moved Tended
 ended c most x s = if is_beat most x then beat c (tended (beat_over x) s) else stays (tended x s)
 
 -- a turn ends with a beat, or without one
-pub ended_beat : (c : Cluster) (k now begun : Care) (most : ℕ) (came : Bool) (s : Course) → now ≡ counted came k → is_beat most now ≡ true → begun ≡ beat_over now
+pub ended_beat : (c : Cluster) (k now begun : Care) (most : ℕ) (came : Bool) (s : Course) → now ≡ care_after_turn came k → is_beat most now ≡ true → begun ≡ beat_over now
     → turn_ended c most came (tended k s) ≡ beat c (tended begun s)
 unfolding turn_ended
 ended_beat c k now begun most came s is e over =
     ap (λ (x : Care). ended c most x s) (sym is) ∙ ap (λ (t : Bool). if t then beat c (tended (beat_over now) s) else stays (tended now s)) e ∙ ap (λ (x : Care). beat c (tended x s)) (sym over)
 
-pub ended_still : (c : Cluster) (k now : Care) (most : ℕ) (came : Bool) (s : Course) → now ≡ counted came k → is_beat most now ≡ false → turn_ended c most came (tended k s) ≡ stays (tended now s)
+pub ended_still : (c : Cluster) (k now : Care) (most : ℕ) (came : Bool) (s : Course) → now ≡ care_after_turn came k → is_beat most now ≡ false → turn_ended c most came (tended k s) ≡ stays (tended now s)
 unfolding turn_ended
 ended_still c k now most came s is e = ap (λ (x : Care). ended c most x s) (sym is) ∙ ap (λ (t : Bool). if t then beat c (tended (beat_over now) s) else stays (tended now s)) e
 
@@ -189,341 +179,14 @@ pub counts_as : (m n : Moved Tended) (r : Done) (k : Care) → m ≡ n → OnOk 
 counts_as m n r k is p = subst (λ (x : Moved Tended). OnOk r (k ≡ x.next.care)) (sym is) p
 
 -- the next pass begins with what is completed after it
-pub pass_counts : (now after : Care) (marks : List ℕ) (s last : Course) → last ≡ (in_turn (is_overtaken now.marks) now.queue s).next → marks ≡ completed_by last.hosted
-    → after ≡ pass_begun marks now → after ≡ (next_pass (tended now s)).next.care
-pass_counts now after marks s last there is begun = begun ∙ ap (λ (l : List ℕ). pass_begun l now) (is ∙ ap (λ (x : Course). completed_by x.hosted) there)
+pub pass_counts : (now after : Care) (counts : List ℕ) (s last : Course) → last ≡ (in_turn (is_overtaken now.counts) now.queue s).next → counts ≡ completed_by last.hosted
+    → after ≡ pass_begun counts now → after ≡ (next_pass (tended now s)).next.care
+pass_counts now after counts s last there is begun = begun ∙ ap (λ (l : List ℕ). pass_begun l now) (is ∙ ap (λ (x : Course). completed_by x.hosted) there)
 
-pub kind_is : (k : Kind) (s : Course) → kind_ticks k s ≡ those_tick (λ i h. is_of k h) s
+pub kind_is : (k : Kind) (s : Course) → kind_ticks k s ≡ those_tick (λ i h. is_of_kind k h) s
 unfolding kind_ticks
 kind_is k s = refl
 
 pub others_is : (s : Course) → others_tick s ≡ those_tick (λ i h. not (is_client h)) s
 unfolding others_tick
 others_is s = refl
-
--- ---- one after the other
-
--- of whom this is so, there is one
-pub so_within : (test : Hosted → Bool) (hs : List Hosted) (i : ℕ) → is_so test (slice_get hs i) ≡ true → i < length hs
-so_within test hs i e = go (slice_get hs i) refl e
-  where
-    go : (o : Option Hosted) → slice_get hs i ≡ o → is_so test o ≡ true → i < length hs
-    go None none so = cc
-    go (Some h) here so = slice_get_within hs i h here
-
--- whether it is so of the one at a place, where this list has the same
-pub so_at : {K : Type 0} (test : Hosted → Bool) (gs seats : List (Guest K)) (i : ℕ) (t : Bool) → seats ≡ gs → t ≡ is_so test (option_map hosted_of (slice_get seats i))
-    → is_so test (slice_get (hosted_in gs) i) ≡ t
-so_at {K} test gs seats i t same is =
-    ap (is_so test) (slice_get-map hosted_of gs i) ∙ ap (λ (l : List (Guest K)). is_so test (option_map hosted_of (slice_get l i))) (sym same) ∙ sym is
-
-module _ {K : Type 0} (gives : Changing K) (c : Cluster) where
-  pub act_as : (m n : Moved Course) (r : Done) (a b : Scene K) → m ≡ n → Acts gives c [] n r a b → Acts gives c [] m r a b
-  act_as m n r a b is p = subst (λ (x : Moved Course). Acts gives c [] x r a b) (sym is) p
-
-  -- what is asked where a test says so
-  pub due : (t : Bool) (m : Moved Course) (r : Done) (a b : Scene K) → t ≡ true → Acts gives c [] m r a b → Acts gives c [] (if t then m else stays (course_in a)) r a b
-  due t m r a b e p = subst (λ (x : Bool). Acts gives c [] (if x then m else stays (course_in a)) r a b) (sym e) p
-
-  pub not_due : (t : Bool) (m : Moved Course) (a : Scene K) → t ≡ false → AreReady c a.guests → Acts gives c [] (if t then m else stays (course_in a)) (Ok tt) a a
-  not_due t m a e ready = subst (λ (x : Bool). Acts gives c [] (if x then m else stays (course_in a)) (Ok tt) a a) (sym e) (acts_nothing gives c a ready)
-
-  -- it was done, and then memory ran out
-  pub then_stops : (m : Moved Course) (a b : Scene K) → Acts gives c [] m (Ok tt) a b → Acts gives c [] m (Err NoMemory) a b
-  then_stops m a b p =
-      subst (λ (x : Moved Course). Acts gives c [] x (Err NoMemory) a b) (then_stays m)
-      (acts_then gives c [] [] m (λ s. stays s) (Err NoMemory) a b b p (acts_none gives c [] (stays (course_in b)) b))
-
-  pub gets_some : (o : Option Order) (x : Order) (who : RoleId) (r : Done) (a b : Scene K) → o ≡ Some x → who ≡ role kind.Leader 0
-      → Acts gives c [] (at_place (place_of who (hosted_in a.guests)) (Give 0 (input.Order x)) (course_in a)) r a b → Acts gives c [] (gets o (course_in a)) r a b
-  gets_some o x who r a b is name p =
-      let s = course_in a in
-      subst (λ (q : Option Order). Acts gives c [] (gets q s) r a b) (sym is)
-      (subst (λ (w : RoleId). Acts gives c [] (at_place (place_of w s.hosted) (Give 0 (input.Order x)) s) r a b) name p)
-
-  pub gets_none : (o : Option Order) (a : Scene K) → o ≡ None → AreReady c a.guests → Acts gives c [] (gets o (course_in a)) (Ok tt) a a
-  gets_none o a is ready = subst (λ (q : Option Order). Acts gives c [] (gets q (course_in a)) (Ok tt) a a) (sym is) (acts_nothing gives c a ready)
-
-  -- The roles at these places are asked to tick, and so far this was done: what comes of those that are left comes of all.
-  abbrev pub Asked : (ℕ → Hosted → Bool) → List ℕ → List ℕ → Scene K → Scene K → Type 0
-  Asked test all left a b =
-      (r : Done) (d : Scene K) → Acts gives c [] (in_turn test left (course_in b)) r b d → Acts gives c [] (in_turn test all (course_in a)) r a d
-
-  pub none_asked : (test : ℕ → Hosted → Bool) (all left : List ℕ) (a : Scene K) → left ≡ all → Asked test all left a a
-  none_asked test all left a is r d q = subst (λ (l : List ℕ). Acts gives c [] (in_turn test l (course_in a)) r a d) is q
-
-  pub one_asked : (test : ℕ → Hosted → Bool) (all left rest : List ℕ) (i : ℕ) (a b d : Scene K) → left ≡ i ∷ rest → Asked test all left a b
-      → Acts gives c [] (ticks_if test i (course_in b)) (Ok tt) b d → Asked test all rest a d
-  one_asked test all left rest i a b d is before p r f q =
-      before r f
-      (subst (λ (l : List ℕ). Acts gives c [] (in_turn test l (course_in b)) r b f) (sym is)
-      (acts_then gives c [] [] (ticks_if test i (course_in b)) (λ after. in_turn test rest after) r b d f p q))
-
-  pub one_stopped : (test : ℕ → Hosted → Bool) (all left rest : List ℕ) (i : ℕ) (e : Stop) (a b d : Scene K) → left ≡ i ∷ rest → Asked test all left a b
-      → Acts gives c [] (ticks_if test i (course_in b)) (Err e) b d → Acts gives c [] (in_turn test all (course_in a)) (Err e) a d
-  one_stopped test all left rest i e a b d is before p =
-      before (Err e) d
-      (subst (λ (l : List ℕ). Acts gives c [] (in_turn test l (course_in b)) (Err e) b d) (sym is)
-      (acts_before gives c [] [] (ticks_if test i (course_in b)) (λ after. in_turn test rest after) e b d p))
-
-  pub all_asked : (test : ℕ → Hosted → Bool) (all left : List ℕ) (a b : Scene K) → left ≡ [] → Asked test all left a b → AreReady c b.guests
-      → Acts gives c [] (in_turn test all (course_in a)) (Ok tt) a b
-  all_asked test all left a b is before ready =
-      before (Ok tt) b (subst (λ (l : List ℕ). Acts gives c [] (in_turn test l (course_in b)) (Ok tt) b b) (sym is) (acts_nothing gives c b ready))
-
-  -- ---- the parts of a turn
-
-  pub order_waits : (n : ℕ) (a : Scene K) → ((n == 1) && not (is_leader_so (λ l. is_new l.durable) (first_leader (hosted_in a.guests)))) ≡ true → AreReady c a.guests
-      → Acts gives c [] (tend_ordered c n (course_in a)) (Ok tt) a a
-  unfolding tend_ordered
-  order_waits n a e ready =
-      let s = course_in a in
-      subst (λ (x : Bool). Acts gives c [] (if x then stays s else ordered c n s) (Ok tt) a a) (sym e) (acts_nothing gives c a ready)
-
-  pub order_comes : (n : ℕ) (r : Done) (a b : Scene K) → ((n == 1) && not (is_leader_so (λ l. is_new l.durable) (first_leader (hosted_in a.guests)))) ≡ false
-      → Acts gives c [] (ordered c n (course_in a)) r a b → Acts gives c [] (tend_ordered c n (course_in a)) r a b
-  unfolding tend_ordered
-  order_comes n r a b e p =
-      let s = course_in a in
-      subst (λ (x : Bool). Acts gives c [] (if x then stays s else ordered c n s) r a b) (sym e) p
-
-  pub report_due : (who : RoleId) (before : ℕ) (r : Done) (a b : Scene K) → nat_lt (before / 8) (held_by who (hosted_in a.guests) / 8) ≡ true
-      → Acts gives c [] (at_place (place_of who (hosted_in a.guests)) (Give 0 input.Tick) (course_in a)) r a b → Acts gives c [] (reported who before (course_in a)) r a b
-  unfolding reported
-  report_due who before r a b e p = due (nat_lt (before / 8) (held_by who (hosted_in a.guests) / 8)) (at_place (place_of who (hosted_in a.guests)) (Give 0 input.Tick) (course_in a)) r a b e p
-
-  pub report_none : (who : RoleId) (before : ℕ) (a : Scene K) → nat_lt (before / 8) (held_by who (hosted_in a.guests) / 8) ≡ false → AreReady c a.guests
-      → Acts gives c [] (reported who before (course_in a)) (Ok tt) a a
-  unfolding reported
-  report_none who before a e ready = not_due (nat_lt (before / 8) (held_by who (hosted_in a.guests) / 8)) (at_place (place_of who (hosted_in a.guests)) (Give 0 input.Tick) (course_in a)) a e ready
-
-  pub collect_due : (r : Done) (a b : Scene K) → is_leader_so (λ l. can_collect l.volatile) (first_leader (hosted_in a.guests)) ≡ true
-      → Acts gives c [] (gets (Some order.Collect) (course_in a)) r a b → Acts gives c [] (collected (course_in a)) r a b
-  unfolding collected
-  collect_due r a b e p = subst (λ (x : Bool). Acts gives c [] (gets (if x then Some order.Collect else None) (course_in a)) r a b) (sym e) p
-
-  pub collect_none : (a : Scene K) → is_leader_so (λ l. can_collect l.volatile) (first_leader (hosted_in a.guests)) ≡ false → AreReady c a.guests → Acts gives c [] (collected (course_in a)) (Ok tt) a a
-  unfolding collected
-  collect_none a e ready = subst (λ (x : Bool). Acts gives c [] (gets (if x then Some order.Collect else None) (course_in a)) (Ok tt) a a) (sym e) (acts_nothing gives c a ready)
-
-  -- what leader 0 does where it took something
-  abbrev for_leader : RoleId → Course → Moved Course
-  for_leader to s = if same_role to (role kind.Leader 0) then collected s else stays s
-
-  abbrev taken_by : ℕ → Letter → Course → Moved Course
-  taken_by n d s = at_place (place_of d.to s.hosted) (Give n (input.Take d)) s
-
-  pub heed_take : (n : ℕ) (d : Letter) (e : Stop) (a b : Scene K) → Acts gives c [] (at_place (place_of d.to (hosted_in a.guests)) (Give n (input.Take d)) (course_in a)) (Err e) a b → Acts gives c [] (heeded (numbered n d) (course_in a)) (Err e) a b
-  unfolding heeded
-  heed_take n d e a b p =
-      let s = course_in a in
-      acts_before gives c [] [] (taken_by n d s) (λ after. then_do (reported d.to (held_by d.to s.hosted) after) (λ last. for_leader d.to last)) e a b p
-
-  pub heed_report : (n : ℕ) (d : Letter) (e : Stop) (a b f : Scene K) → Acts gives c [] (at_place (place_of d.to (hosted_in a.guests)) (Give n (input.Take d)) (course_in a)) (Ok tt) a b
-      → Acts gives c [] (reported d.to (held_by d.to (hosted_in a.guests)) (course_in b)) (Err e) b f → Acts gives c [] (heeded (numbered n d) (course_in a)) (Err e) a f
-  unfolding heeded
-  heed_report n d e a b f p q =
-      let s = course_in a in
-      acts_then gives c [] [] (taken_by n d s) (λ after. then_do (reported d.to (held_by d.to s.hosted) after) (λ last. for_leader d.to last)) (Err e) a b f p
-      (acts_before gives c [] [] (reported d.to (held_by d.to s.hosted) (course_in b)) (λ last. for_leader d.to last) e b f q)
-
-  pub heed_collect : (n : ℕ) (d : Letter) (r : Done) (a b f h : Scene K) → Acts gives c [] (at_place (place_of d.to (hosted_in a.guests)) (Give n (input.Take d)) (course_in a)) (Ok tt) a b
-      → Acts gives c [] (reported d.to (held_by d.to (hosted_in a.guests)) (course_in b)) (Ok tt) b f
-      → Acts gives c [] (if same_role d.to (role kind.Leader 0) then collected (course_in f) else stays (course_in f)) r f h → Acts gives c [] (heeded (numbered n d) (course_in a)) r a h
-  unfolding heeded
-  heed_collect n d r a b f h p q t =
-      let s = course_in a in
-      acts_then gives c [] [] (taken_by n d s) (λ after. then_do (reported d.to (held_by d.to s.hosted) after) (λ last. for_leader d.to last)) r a b h p
-      (acts_then gives c [] [] (reported d.to (held_by d.to s.hosted) (course_in b)) (λ last. for_leader d.to last) r b f h q t)
-
-  -- what a take of the link gave, and what came of it
-  pub took_letter : (n : ℕ) (d : Letter) (gs : List (Guest K)) (known : Option Recorded) (link mid : Option LinkHistory) (out : Option (List ℕ)) (r : Done) (b : Scene K) → AreReady c gs → Receives known link mid (Ok (come.Letter n d))
-      → Acts gives c [] (heeded (numbered n d) (course gs known)) r (scene gs known mid out) b
-      → (what : Option (List ℕ)) × Acts gives c (what ∷ []) (tend_comes what (course gs known)) r (scene gs known link out) b × (true ≡ is_some what)
-  took_letter n d gs known link mid out r b ready got p =
-      let s = course gs known in
-      let what = got.0 in
-      let is = letter_heeded what s n d got.2 in (
-        what,
-        subst (λ (m : Moved Course). Acts gives c (what ∷ []) m r (scene gs known link out) b) (sym is.0)
-            (acts_then gives c (what ∷ []) [] (took what (stays s)) (λ after. heeded (numbered n d) after) r (scene gs known link out) (scene gs known mid out) b (acts_took gives c what gs known link mid out got.1 ready) p),
-        sym is.1,
-      )
-
-  pub took_foreign : (gs : List (Guest K)) (known : Option Recorded) (link mid : Option LinkHistory) (out : Option (List ℕ)) → AreReady c gs → Receives known link mid (Ok come.Foreign)
-      → (what : Option (List ℕ)) × Acts gives c (what ∷ []) (tend_comes what (course gs known)) (Ok tt) (scene gs known link out) (scene gs known mid out) × (true ≡ is_some what)
-  took_foreign gs known link mid out ready got =
-      let s = course gs known in
-      let what = got.0 in
-      let is = foreign_heeded what s got.2 in (
-        what,
-        subst (λ (m : Moved Course). Acts gives c (what ∷ []) m (Ok tt) (scene gs known link out) (scene gs known mid out)) (sym is.0) (acts_took gives c what gs known link mid out got.1 ready),
-        sym is.1,
-      )
-
-  pub took_nothing : (gs : List (Guest K)) (known : Option Recorded) (link mid : Option LinkHistory) (out : Option (List ℕ)) → AreReady c gs → Receives known link mid (Ok come.Nothing)
-      → (what : Option (List ℕ)) × Acts gives c (what ∷ []) (tend_comes what (course gs known)) (Ok tt) (scene gs known link out) (scene gs known mid out) × (false ≡ is_some what)
-  took_nothing gs known link mid out ready got =
-      let s = course gs known in
-      let what = got.0 in
-      let is = nothing_heeded what s got.2 in (
-        what,
-        subst (λ (m : Moved Course). Acts gives c (what ∷ []) m (Ok tt) (scene gs known link out) (scene gs known mid out)) (sym is.0) (acts_took gives c what gs known link mid out got.1 ready),
-        sym is.1,
-      )
-
-  pub took_fault : (gs : List (Guest K)) (known : Option Recorded) (link mid : Option LinkHistory) (out : Option (List ℕ)) (e : Stop) → AreReady c gs → Receives known link mid (Err e)
-      → (what : Option (List ℕ)) × Acts gives c (what ∷ []) (tend_comes what (course gs known)) (Err e) (scene gs known link out) (scene gs known mid out)
-  took_fault gs known link mid out LinkFault ready got = (
-    None,
-    subst (λ k. Acts gives c (None ∷ []) (tend_comes None (course gs known)) (Err LinkFault) (scene gs known link out) (scene gs known k out)) (sym got)
-        (subst (λ (m : Moved Course). Acts gives c (None ∷ []) m (Err LinkFault) (scene gs known link out) (scene gs known link out)) (sym (all_heeded None (course gs known)))
-        (acts_cut gives c (None ∷ []) (stays (course gs known)) (scene gs known link out))),
-  )
-  took_fault gs known link mid out NoMemory ready got =
-      let what = got.0 in (
-        what,
-        subst (λ (m : Moved Course). Acts gives c (what ∷ []) m (Err NoMemory) (scene gs known link out) (scene gs known mid out)) (sym (all_heeded what (course gs known)))
-            (acts_then gives c (what ∷ []) [] (took what (stays (course gs known))) (λ after. what_heeded what after) (Err NoMemory) (scene gs known link out) (scene gs known mid out) (scene gs known mid out)
-            (acts_took gives c what gs known link mid out got.1 ready) (acts_none gives c [] (what_heeded what (course gs known)) (scene gs known mid out))),
-      )
-  took_fault gs known link mid out WriteFault ready got = absurd got
-  took_fault gs known link mid out RecordFull ready got = absurd got
-  took_fault gs known link mid out (StoreFault role) ready got = absurd got
-
-  pub flush_due : (k : Care) (came : Bool) (r : Done) (a b : Scene K) → (k.came && not came) ≡ true
-      → Acts gives c [] (kind_ticks kind.Batcher (course_in a)) r a b → Acts gives c [] (flushed k came (course_in a)) r a b
-  unfolding flushed
-  flush_due k came r a b e p = due (k.came && not came) (kind_ticks kind.Batcher (course_in a)) r a b e p
-
-  pub flush_none : (k : Care) (came : Bool) (a : Scene K) → (k.came && not came) ≡ false → AreReady c a.guests → Acts gives c [] (flushed k came (course_in a)) (Ok tt) a a
-  unfolding flushed
-  flush_none k came a e ready = not_due (k.came && not came) (kind_ticks kind.Batcher (course_in a)) a e ready
-
-  -- ---- what comes to the same
-
-  pub moved_as : (m n : Moved Tended) (r : Done) (a b : Scene K) → m ≡ n → Acts gives c [] (without_care n) r a b → Acts gives c [] (without_care m) r a b
-  moved_as m n r a b is p = subst (λ (x : Moved Tended). Acts gives c [] (without_care x) r a b) (sym is) p
-
-  -- ---- a beat
-
-  abbrev leader_part : Care → Course → Moved Tended
-  leader_part k s = leader_tended c (first_leader s.hosted) (tended k s)
-
-  -- one part of a beat after another
-  abbrev rest_of_beat : Care → Course → Moved Course
-  rest_of_beat k s = then_do (without_care (leader_part k s)) (λ last. without_care (clients_tended (tended (leader_part k s).next.care last)))
-
-  pub beat_others : (k : Care) (e : Stop) (a b : Scene K) → Acts gives c [] (others_tick (course_in a)) (Err e) a b → Acts gives c [] (without_care (beat c (tended k (course_in a)))) (Err e) a b
-  unfolding beat
-  beat_others k e a b p = acts_before gives c [] [] (others_tick (course_in a)) (rest_of_beat k) e a b p
-
-  pub beat_leader : (k : Care) (e : Stop) (a b d : Scene K) → Acts gives c [] (others_tick (course_in a)) (Ok tt) a b
-      → Acts gives c [] (without_care (leader_tended c (first_leader (hosted_in b.guests)) (tended k (course_in b)))) (Err e) b d
-      → Acts gives c [] (without_care (beat c (tended k (course_in a)))) (Err e) a d
-  unfolding beat
-  beat_leader k e a b d p q =
-      let s = course_in b in
-      acts_then gives c [] [] (others_tick (course_in a)) (rest_of_beat k) (Err e) a b d p
-      (acts_before gives c [] [] (without_care (leader_part k s)) (λ last. without_care (clients_tended (tended (leader_part k s).next.care last))) e b d q)
-
-  pub beat_clients : (k now : Care) (r : Done) (a b d f : Scene K) → Acts gives c [] (others_tick (course_in a)) (Ok tt) a b
-      → Acts gives c [] (without_care (leader_tended c (first_leader (hosted_in b.guests)) (tended k (course_in b)))) (Ok tt) b d
-      → now ≡ (leader_tended c (first_leader (hosted_in b.guests)) (tended k (course_in b))).next.care
-      → Acts gives c [] (without_care (clients_tended (tended now (course_in d)))) r d f
-      → Acts gives c [] (without_care (beat c (tended k (course_in a)))) r a f
-  unfolding beat
-  beat_clients k now r a b d f p q is t =
-      let s = course_in b in
-      acts_then gives c [] [] (others_tick (course_in a)) (rest_of_beat k) r a b f p
-      (acts_then gives c [] [] (without_care (leader_part k s)) (λ last. without_care (clients_tended (tended (leader_part k s).next.care last))) r b d f q
-      (subst (λ (x : Care). Acts gives c [] (without_care (clients_tended (tended x (course_in d)))) r d f) is t))
-
-  -- what a beat leaves counted
-  pub beat_counts : (k now last : Care) (r : Done) (a b d : Scene K) → Acts gives c [] (others_tick (course_in a)) (Ok tt) a b
-      → Acts gives c [] (without_care (leader_tended c (first_leader (hosted_in b.guests)) (tended k (course_in b)))) (Ok tt) b d
-      → now ≡ (leader_tended c (first_leader (hosted_in b.guests)) (tended k (course_in b))).next.care
-      → OnOk r (last ≡ (clients_tended (tended now (course_in d))).next.care)
-      → OnOk r (last ≡ (beat c (tended k (course_in a))).next.care)
-  unfolding beat
-  beat_counts k now last (Ok u) a b d p q is t =
-      let s = course_in b in
-      let there : tended now (course_in d) ≡ (leader_part k s).next = λ i. record { care = is i; course = q.done.course i } in
-      t ∙ ap (λ (x : Tended). (clients_tended x).next.care) there ∙ ap (λ (x : Course). (clients_tended (leader_part k x).next).next.care) p.done.course
-  beat_counts k now last (Err e) a b d p q is t = tt
-
-  -- one part of a turn after another
-  abbrev rest_of_turn : ℕ → Option (List ℕ) → Care → Course → Moved Course
-  rest_of_turn most what k s = then_do (flushed k (is_some what) s) (λ last. without_care (turn_ended c most (is_some what) (tended k last)))
-
-  pub tend_prepare_order : (n : ℕ) (e : Stop) (a b : Scene K) → Acts gives c [] (tend_ordered c n (course_in a)) (Err e) a b
-      → Acts gives c [] (tend_prepared c n (course_in a)) (Err e) a b
-  unfolding tend_prepared
-  tend_prepare_order n e a b p = acts_before gives c [] [] (tend_ordered c n (course_in a)) (λ led. snaps n led) e a b p
-
-  pub tend_prepare_snap : (n : ℕ) (r : Done) (a b d : Scene K) → Acts gives c [] (tend_ordered c n (course_in a)) (Ok tt) a b
-      → Acts gives c [] (snaps n (course_in b)) r b d → Acts gives c [] (tend_prepared c n (course_in a)) r a d
-  unfolding tend_prepared
-  tend_prepare_snap n r a b d p q = acts_then gives c [] [] (tend_ordered c n (course_in a)) (λ led. snaps n led) r a b d p q
-
-  pub turn_prepare : (most n : ℕ) (k now : Care) (e : Stop) (a b : Scene K) → Acts gives c [] (tend_prepared c n (course_in a)) (Err e) a b
-      → TendsOnce gives c (λ what. tended_turn c most n what (tended k (course_in a))) (Err e) a b now
-  unfolding tended_turn
-  turn_prepare most n k now e a b p = (None, acts_before gives c [] (None ∷ []) (tend_prepared c n (course_in a)) (λ after. then_do (tend_comes None after) (rest_of_turn most None k)) e a b p, tt)
-
-  pub turn_take : (most n : ℕ) (k now : Care) (e : Stop) (a b d : Scene K) → Acts gives c [] (tend_prepared c n (course_in a)) (Ok tt) a b
-      → (q : (what : Option (List ℕ)) × Acts gives c (what ∷ []) (tend_comes what (course_in b)) (Err e) b d)
-      → TendsOnce gives c (λ what. tended_turn c most n what (tended k (course_in a))) (Err e) a d now
-  unfolding tended_turn
-  turn_take most n k now e a b d p q =
-      let what = q.0 in (
-        what,
-        acts_then gives c [] (what ∷ []) (tend_prepared c n (course_in a)) (λ after. then_do (tend_comes what after) (rest_of_turn most what k)) (Err e) a b d p
-            (acts_before gives c (what ∷ []) [] (tend_comes what (course_in b)) (rest_of_turn most what k) e b d q.1),
-        tt,
-      )
-
-  pub turn_flush : (most n : ℕ) (k now : Care) (came : Bool) (e : Stop) (a b d f : Scene K) → Acts gives c [] (tend_prepared c n (course_in a)) (Ok tt) a b
-      → (q : (what : Option (List ℕ)) × Acts gives c (what ∷ []) (tend_comes what (course_in b)) (Ok tt) b d × (came ≡ is_some what))
-      → Acts gives c [] (flushed k came (course_in d)) (Err e) d f
-      → TendsOnce gives c (λ what. tended_turn c most n what (tended k (course_in a))) (Err e) a f now
-  unfolding tended_turn
-  turn_flush most n k now came e a b d f p q t =
-      let what = q.0 in
-      let flushing = subst (λ (x : Bool). Acts gives c [] (flushed k x (course_in d)) (Err e) d f) q.2 t in (
-        what,
-        acts_then gives c [] (what ∷ []) (tend_prepared c n (course_in a)) (λ after. then_do (tend_comes what after) (rest_of_turn most what k)) (Err e) a b f p
-            (acts_then gives c (what ∷ []) [] (tend_comes what (course_in b)) (rest_of_turn most what k) (Err e) b d f q.1
-            (acts_before gives c [] [] (flushed k (is_some what) (course_in d)) (λ last. without_care (turn_ended c most (is_some what) (tended k last))) e d f flushing)),
-        tt,
-      )
-
-  -- what a turn leaves counted
-  turn_counts : (most n : ℕ) (k now : Care) (what : Option (List ℕ)) (r : Done) (a b d f : Scene K) → Acts gives c [] (tend_prepared c n (course_in a)) (Ok tt) a b
-      → Acts gives c (what ∷ []) (tend_comes what (course_in b)) (Ok tt) b d → Acts gives c [] (flushed k (is_some what) (course_in d)) (Ok tt) d f
-      → OnOk r (now ≡ (turn_ended c most (is_some what) (tended k (course_in f))).next.care)
-      → OnOk r (now ≡ (tended_turn c most n what (tended k (course_in a))).next.care)
-  unfolding tended_turn
-  turn_counts most n k now what (Ok u) a b d f p q t is =
-      let last = λ (x : Course). (turn_ended c most (is_some what) (tended k x)).next.care in
-      is ∙ ap last t.done.course ∙ ap (λ (x : Course). last (flushed k (is_some what) x).next) q.done.course ∙ ap (λ (x : Course). last (flushed k (is_some what) (tend_comes what x).next).next) p.done.course
-  turn_counts most n k now what (Err e) a b d f p q t is = tt
-
-  pub turn_end : (most n : ℕ) (k now : Care) (came : Bool) (r : Done) (a b d f h : Scene K) → Acts gives c [] (tend_prepared c n (course_in a)) (Ok tt) a b
-      → (q : (what : Option (List ℕ)) × Acts gives c (what ∷ []) (tend_comes what (course_in b)) (Ok tt) b d × (came ≡ is_some what))
-      → Acts gives c [] (flushed k came (course_in d)) (Ok tt) d f
-      → Acts gives c [] (without_care (turn_ended c most came (tended k (course_in f)))) r f h
-      → OnOk r (now ≡ (turn_ended c most came (tended k (course_in f))).next.care)
-      → TendsOnce gives c (λ what. tended_turn c most n what (tended k (course_in a))) r a h now
-  unfolding tended_turn
-  turn_end most n k now came r a b d f h p q t u is =
-      let what = q.0 in
-      let flushing = subst (λ (x : Bool). Acts gives c [] (flushed k x (course_in d)) (Ok tt) d f) q.2 t in
-      let ending = subst (λ (x : Bool). Acts gives c [] (without_care (turn_ended c most x (tended k (course_in f)))) r f h) q.2 u in
-      let counts = subst (λ (x : Bool). OnOk r (now ≡ (turn_ended c most x (tended k (course_in f))).next.care)) q.2 is in (
-        what,
-        acts_then gives c [] (what ∷ []) (tend_prepared c n (course_in a)) (λ after. then_do (tend_comes what after) (rest_of_turn most what k)) r a b h p
-            (acts_then gives c (what ∷ []) [] (tend_comes what (course_in b)) (rest_of_turn most what k) r b d h q.1
-            (acts_then gives c [] [] (flushed k (is_some what) (course_in d)) (λ last. without_care (turn_ended c most (is_some what) (tended k last))) r d f h flushing ending)),
-        turn_counts most n k now what r a b d f p q.1 flushing counts,
-      )

@@ -13,10 +13,10 @@ use Rattle.cx_node.specs.declared.node.Stop.TheVariants.{NoMemory}
 use Rattle.cx_node.specs.Acts.{Acts, ActsLong, ActsOnce}
 use Rattle.cx_node.specs.Doing.{Scene, course_in}
 use Rattle.cx_node.specs.Guest.{hosted_in}
-use Rattle.cx_course.specs.Run.{Takes}
+use Rattle.cx_course.specs.Run.{TakeResults}
 use Rattle.cx_node.specs.Node.{IsUnderway, RunsPart}
 use Rattle.cx_course.specs.Course.{Course, Moved, stays, then_do}
-use Rattle.cx_course.specs.Run.{all_do, all_finished, turn, turns_from}
+use Rattle.cx_course.specs.Run.{all_do, all_finished, node_turn, turns_from}
 use Rattle.cx_course.specs.Tending.{Care, Tended, any_turn, first_care, no_care, node_run, within, without_care}
 use Rattle.cx_node.specs.Tends.{TendsOnce, tended}
 use Rattle.cx_node.proofs.Actions.{acts_before, acts_none, acts_nothing, acts_then}
@@ -31,7 +31,7 @@ then_stays : {S : Type 0} (m : Moved S) → then_do m (λ s. stays s) ≡ m
 then_stays m = λ i. record { next = m.next; actions = append-nil m.actions i }
 
 -- one turn more
-turns_more : {S : Type 0} (step : ℕ → Option (List ℕ) → S → Moved S) (n : ℕ) (ts : Takes) (what : Option (List ℕ))
+turns_more : {S : Type 0} (step : ℕ → Option (List ℕ) → S → Moved S) (n : ℕ) (ts : TakeResults) (what : Option (List ℕ))
     (s : S) → turns_from step n (ts ++ what ∷ []) s ≡ then_do (turns_from step n ts s)
     (λ after. step (n + length ts) what after)
 turns_more step n [] what s = then_stays (step n what s) ∙ ap (λ k. step k what s) (sym (add-zero n))
@@ -43,12 +43,12 @@ turns_more step n (t ∷ ts) what s =
     ∙ with_next_again m rest (step (n + suc (length ts)) what rest.next)
 
 -- a run with what is counted in it
-abbrev whole : Option ℕ → Cluster → Takes → Course → Moved Tended
+abbrev whole : Option ℕ → Cluster → TakeResults → Course → Moved Tended
 whole tend c ts s =
     then_do (within (all_do Begin) (tended (first_care tend s.hosted) s))
     (λ after. turns_from (any_turn tend c) 1 ts after)
 
-whole_more : (tend : Option ℕ) (c : Cluster) (ts : Takes) (what : Option (List ℕ)) (s : Course)
+whole_more : (tend : Option ℕ) (c : Cluster) (ts : TakeResults) (what : Option (List ℕ)) (s : Course)
     → whole tend c (ts ++ what ∷ []) s ≡ then_do (whole tend c ts s)
     (λ after. any_turn tend c (length ts + 1) what after)
 whole_more tend c ts what s =
@@ -60,13 +60,13 @@ whole_more tend c ts what s =
     ∙ with_next_again m rest (any_turn tend c (length ts + 1) what rest.next)
 
 -- a node that doesn't tend counts nothing
-untended_turns : (c : Cluster) (n : ℕ) (ts : Takes) (t : Tended)
-    → without_care (turns_from (any_turn None c) n ts t) ≡ turns_from (turn c) n ts t.course
+untended_turns : (c : Cluster) (n : ℕ) (ts : TakeResults) (t : Tended)
+    → without_care (turns_from (any_turn None c) n ts t) ≡ turns_from (node_turn c) n ts t.course
 untended_turns c n [] t = refl
 untended_turns c n (what ∷ ts) t =
-    let m = turn c n what t.course in ap (with_next m) (untended_turns c (n + 1) ts (tended t.care m.next))
+    let m = node_turn c n what t.course in ap (with_next m) (untended_turns c (n + 1) ts (tended t.care m.next))
 
-run_is : (tend : Option ℕ) (c : Cluster) (ts : Takes) (s : Course)
+run_is : (tend : Option ℕ) (c : Cluster) (ts : TakeResults) (s : Course)
     → node_run tend c ts s ≡ without_care (whole tend c ts s)
 unfolding node_run
 run_is None c ts s =
@@ -79,17 +79,17 @@ on_ok (Err e) k = tt
 
 -- a turn in which nothing is counted
 pub once_untended : {K : Type 0} (gives : Changing K) (c : Cluster) (n : ℕ) (r : Result (Unit {0}) Stop)
-    (a b : Scene K) (k : Care) → ActsOnce gives c (λ what. turn c n what (course_in a)) r a b
+    (a b : Scene K) (k : Care) → ActsOnce gives c (λ what. node_turn c n what (course_in a)) r a b
     → TendsOnce gives c (λ what. any_turn None c n what (tended k (course_in a))) r a b k
 once_untended gives c n r a b k q = (q.0, q.1, on_ok r k)
 
-abbrev pub care_after : Option ℕ → Cluster → Takes → Course → Care
+abbrev pub care_after : Option ℕ → Cluster → TakeResults → Course → Care
 care_after tend c ts s = (whole tend c ts s).next.care
 
 abbrev turn_on : Option ℕ → Cluster → ℕ → Option (List ℕ) → Care → Course → Moved Course
 turn_on tend c n what k s = without_care (any_turn tend c n what (tended k s))
 
-run_more : (tend : Option ℕ) (c : Cluster) (ts : Takes) (what : Option (List ℕ)) (s : Course)
+run_more : (tend : Option ℕ) (c : Cluster) (ts : TakeResults) (what : Option (List ℕ)) (s : Course)
     → node_run tend c (ts ++ what ∷ []) s ≡ then_do (node_run tend c ts s)
     (λ after. turn_on tend c (length ts + 1) what (care_after tend c ts s) after)
 run_more tend c ts what s =
@@ -97,7 +97,7 @@ run_more tend c ts what s =
     ∙ ap (λ (m : Moved Course). then_do m
     (λ after. turn_on tend c (length ts + 1) what (care_after tend c ts s) after)) (sym (run_is tend c ts s))
 
-care_more : (tend : Option ℕ) (c : Cluster) (ts : Takes) (what : Option (List ℕ)) (s : Course)
+care_more : (tend : Option ℕ) (c : Cluster) (ts : TakeResults) (what : Option (List ℕ)) (s : Course)
     → care_after tend c (ts ++ what ∷ []) s ≡ (any_turn tend c (length ts + 1) what (tended (care_after tend c ts s)
     ((node_run tend c ts s).next))).next.care
 care_more tend c ts what s =
@@ -110,7 +110,7 @@ no_end tend c limit s =
     record { most = omega arith; not_before = λ k short. let none : ⊥ = omega (arith, short) in absurd none }
 
 -- another turn was made, since the run wasn't at its end
-ends_more : (tend : Option ℕ) (c : Cluster) (limit : ℕ) (s : Course) (ts : Takes) (what : Option (List ℕ))
+ends_more : (tend : Option ℕ) (c : Cluster) (limit : ℕ) (s : Course) (ts : TakeResults) (what : Option (List ℕ))
     → length ts < limit → all_finished ((node_run tend c ts s).next.hosted) ≡ false
     → IsUnderway tend c limit s ts → IsUnderway tend c limit s (ts ++ what ∷ [])
 ends_more tend c limit s ts what more not_yet e =
@@ -134,7 +134,7 @@ module _ {K : Type 0} (gives : Changing K) (tend : Option ℕ) (c : Cluster) (li
   -- a run with this many turns was made, and this is counted after it
   abbrev pub Underway : ℕ → Scene K → Scene K → Care → Type 0
   Underway made a b k =
-      (ts : Takes) × Acts gives c ts (node_run tend c ts (course_in a)) (Ok tt) a b
+      (ts : TakeResults) × Acts gives c ts (node_run tend c ts (course_in a)) (Ok tt) a b
       × IsUnderway tend c limit (course_in a) ts × (length ts ≡ made)
       × (k ≡ care_after tend c ts (course_in a))
 

@@ -18,7 +18,7 @@ use Rattle.cx_field.specs.declared.parts.Entry.{Entry}
 use Rattle.cx_model.specs.Collection.{is_off, is_retired}
 use Rattle.cx_model.specs.Leader.{LeaderDurable, LeaderVolatile, begin_in, change_row, collect_in, collect_row, is_idle, is_leading, is_settled, lead_row, round_of}
 use Rattle.cx_model.specs.Names.{names_grid}
-use Rattle.cx_model.specs.Outcome.{answered}
+use Rattle.cx_model.specs.Outcome.{only_word}
 use Rattle.cx_leader.specs.Tending.{can_collect, has_heard, has_open, is_spent}
 use Rattle.cx_node.specs.Orders.{IsApt, NoVainOrder, begins, retires}
 use Rattle.cx_course.specs.Run.{grid_of}
@@ -61,14 +61,14 @@ leads : (c : Cluster) (me : RoleId) (d : LeaderDurable) (v : LeaderVolatile) →
 leads c me d v =
     let g = grid_of c in
     let next = lead_after (round_of d.own) v.seen me.index in
-    subst (λ (t : Bool). begins (if t then begin_in c me v g next else answered why.Stranger v).why ≡ true) (sym (grid_named c)) (begun c me v g next)
+    subst (λ (t : Bool). begins (if t then begin_in c me v g next else only_word why.Stranger v).why ≡ true) (sym (grid_named c)) (begun c me v g next)
 
 changes : (c : Cluster) (me : RoleId) (d : LeaderDurable) (v : LeaderVolatile) → is_leading v.mode ≡ true → begins (change_row c me d v (grid_of c)).why ≡ true
 changes c me d v leading =
     let g = grid_of c in
     let next = change_after (round_of d.own) in
-    subst (λ (t : Bool). begins (if not t then answered why.Stranger v else if not (is_leading v.mode) then answered why.Idle v else begin_in c me v g next).why ≡ true) (sym (grid_named c))
-    (subst (λ (t : Bool). begins (if not t then answered why.Idle v else begin_in c me v g next).why ≡ true) (sym leading) (begun c me v g next))
+    subst (λ (t : Bool). begins (if not t then only_word why.Stranger v else if not (is_leading v.mode) then only_word why.Idle v else begin_in c me v g next).why ≡ true) (sym (grid_named c))
+    (subst (λ (t : Bool). begins (if not t then only_word why.Idle v else begin_in c me v g next).why ≡ true) (sym leading) (begun c me v g next))
 
 retiring : (c : Cluster) (me : RoleId) (v : LeaderVolatile) (own : Option Entry) → is_some own ≡ true → is_off v.collection.stage ≡ true → is_settled v ≡ true → retires (collect_in c me v own).why ≡ true
 retiring c me v None has off settled = cc
@@ -78,7 +78,7 @@ collects : (c : Cluster) (me : RoleId) (d : LeaderDurable) (v : LeaderVolatile) 
 collects c me d v has can =
     let p = both (is_leading v.mode && is_off v.collection.stage) (is_settled v) can in
     let q = both (is_leading v.mode) (is_off v.collection.stage) p.0 in
-    subst (λ (t : Bool). retires (if t then collect_in c me v d.own else answered why.Idle v).why ≡ true) (sym q.0) (retiring c me v d.own (has q.0) q.1 p.1)
+    subst (λ (t : Bool). retires (if t then collect_in c me v d.own else only_word why.Idle v).why ≡ true) (sym q.0) (retiring c me v d.own (has q.0) q.1 p.1)
 
 -- a spent leader leads, and has retired the earlier rounds
 spent : (v : LeaderVolatile) → is_spent v ≡ true → (is_leading v.mode ≡ true) × (is_retired v.collection.stage ≡ true)

@@ -14,11 +14,11 @@ use Rattle.cx_base.specs.declared.role.RoleId.{RoleId}
 use Rattle.cx_course.specs.Action.{Action, Took}
 use Rattle.cx_course.specs.Course.{Course, Moved, does_at, stays, then_do, took}
 use Rattle.cx_course.specs.Hosted.{Hosted}
-use Rattle.cx_course.specs.Run.{Takes, all_do, at_place, brings, brought, comes, first_do, grid_of, idle_at, is_client, lead_at, ordered, place_of, prepared, snaps, ticked, turn, turns_from, untended_run}
-use Rattle.cx_course.specs.Tending.{Care, Tended, all_completed, asks_again, beat, beat_over, brings_heeded, clients_noted, clients_tended, collected, counted, first_leader, flushed, gets, heeded, held_by, in_turn, is_beat, is_of, is_overtaken, is_so, kind_ticks, leader_asked, leader_cared, leader_tended, next_pass, node_run, others_tick, passes, reported, standing_of, tend_comes, tend_ordered, tend_prepared, tended_turn, those_tick, ticks_if, turn_ended, untended, within}
+use Rattle.cx_course.specs.Run.{TakeResults, all_do, at_place, brings, brought, comes, first_do, grid_of, idle_at, is_client, lead_at, ordered, hosted_place, prepared, snaps, ticked, node_turn, turns_from, untended_run}
+use Rattle.cx_course.specs.Tending.{Care, Tended, all_completed, asks_again, beat, beat_over, brings_heeded, clients_noted, clients_tended, collected, care_after_turn, first_leader, flushed, gets, heeded, held_by_role, in_turn, is_beat, is_of_kind, is_overtaken, is_so, kind_ticks, leader_asked, leader_cared, leader_tended, next_pass, node_run, others_tick, passes, reported, standing_of, tend_comes, tend_ordered, tend_prepared, tended_turn, those_tick, ticks_if, turn_ended, untended, within}
 use Rattle.cx_course.specs.declared.doing.Doing.{Doing}
 use Rattle.cx_course.specs.declared.doing.Doing.TheVariants.{Begin, Give, Snap}
-use Rattle.cx_leader.specs.Tending.{can_collect, is_new}
+use Rattle.cx_leader.specs.Tending.{can_collect, is_new_leader}
 use Rattle.cx_model.specs.Leader.{LeaderDurable, LeaderVolatile}
 use Rattle.cx_model.specs.Rules.{Running}
 use Rattle.cx_msg.specs.declared.input.Input.TheVariants as input
@@ -27,16 +27,16 @@ use Rattle.cx_record.specs.Numbers.{Numbered, numbered}
 -- what the role at a place may be asked in a run: a datagram is for it, and one that bytes bring
 abbrev pub MayDo : Course → ℕ → Doing → Type 0
 MayDo s i (Give number (input.Take d)) =
-    (place_of d.to s.hosted ≡ Some i) × (bytes : List ℕ) × (brought s.recorded bytes ≡ Some (numbered number d))
+    (hosted_place d.to s.hosted ≡ Some i) × (bytes : List ℕ) × (brought s.recorded bytes ≡ Some (numbered number d))
 MayDo s i other = Unit {0}
 
--- what is said of hosted roles and of all that was done by then is kept by a step, and by a take
-pub record IsKept (Holds : Course → List Action → Type 0) : Type 0 where
+-- what is said of hosted roles and of all that was done by then is preserved by a step, and by a take
+pub record IsPreserved (Holds : Course → List Action → Type 0) : Type 0 where
   pub step : (s : Course) (done : List Action) (i : ℕ) (what : Doing) → MayDo s i what → Holds s done
       → Holds (does_at i what s).next (done ++ (does_at i what s).actions)
   pub take : (s : Course) (done : List Action) (what : Option (List ℕ)) → Holds s done → Holds s (done ++ Took what ∷ [])
 
-module _ (Holds : Course → List Action → Type 0) (kept : IsKept Holds) where
+module _ (Holds : Course → List Action → Type 0) (preserves : IsPreserved Holds) where
   -- it holds behind a part
   abbrev After : List Action → Moved Course → Type 0
   After done m = Holds m.next (done ++ m.actions)
@@ -78,7 +78,7 @@ module _ (Holds : Course → List Action → Type 0) (kept : IsKept Holds) where
   first zero what may s done h = nothing s done h
   first (suc n) what may s done h =
       then_one done (first_do n what s) (λ after. does_at n what after) (first n what may s done h)
-      (λ g. kept.step ((first_do n what s).next) (done ++ (first_do n what s).actions) n what (may _ n) g)
+      (λ g. preserves.step ((first_do n what s).next) (done ++ (first_do n what s).actions) n what (may _ n) g)
 
   begin_all : (s : Course) (done : List Action) → Holds s done → After done (all_do Begin s)
   begin_all s done h = first (length s.hosted) Begin (λ s i. tt) s done h
@@ -93,7 +93,7 @@ module _ (Holds : Course → List Action → Type 0) (kept : IsKept Holds) where
   named : (o : Option ℕ) (what : Doing) (s : Course) (done : List Action) → ((i : ℕ) → o ≡ Some i → MayDo s i what) → Holds s done
       → After done (at_place o what s)
   named None what s done may h = nothing s done h
-  named (Some i) what s done may h = kept.step s done i what (may i refl) h
+  named (Some i) what s done may h = preserves.step s done i what (may i refl) h
 
   -- ---- the parts of a turn
 
@@ -101,12 +101,12 @@ module _ (Holds : Course → List Action → Type 0) (kept : IsKept Holds) where
   lead c None s done h = nothing s done h
   lead c (Some i) s done h =
       let what = Give 0 (input.Order (order.Lead (grid_of c))) in
-      either (idle_at (slice_get s.hosted i)) done (does_at i what s) (stays s) (kept.step s done i what tt h) (nothing s done h)
+      either (idle_at (slice_get s.hosted i)) done (does_at i what s) (stays s) (preserves.step s done i what tt h) (nothing s done h)
 
   order_one : (c : Cluster) (n : ℕ) (s : Course) (done : List Action) → Holds s done → After done (ordered c n s)
   unfolding ordered
   order_one c n s done h =
-      let o = place_of (role kind.Leader 0) s.hosted in
+      let o = hosted_place (role kind.Leader 0) s.hosted in
       either ((n == 1) || (n % 4096 == 0)) done (lead_at c o s) (stays s) (lead c o s done h) (nothing s done h)
 
   snap_some : (n : ℕ) (s : Course) (done : List Action) → Holds s done → After done (snaps n s)
@@ -122,13 +122,13 @@ module _ (Holds : Course → List Action → Type 0) (kept : IsKept Holds) where
   took_first : (what : Option (List ℕ)) (s : Course) (done : List Action) (m : Moved Course)
       → (Holds s (done ++ Took what ∷ []) → After (done ++ Took what ∷ []) m) → Holds s done → After done (took what m)
   took_first what s done m next h =
-      subst (Holds m.next) (append_assoc done (Took what ∷ []) m.actions) (next (kept.take s done what h))
+      subst (Holds m.next) (append_assoc done (Took what ∷ []) m.actions) (next (preserves.take s done what h))
 
   bring : (bytes : List ℕ) (o : Option Numbered) (s : Course) (done : List Action) → brought s.recorded bytes ≡ o → Holds s done
       → After done (brings o s)
   bring bytes None s done is h = nothing s done h
   bring bytes (Some x) s done is h =
-      named (place_of x.letter.to s.hosted) (Give x.number (input.Take x.letter)) s done (λ i here. (here, bytes, is)) h
+      named (hosted_place x.letter.to s.hosted) (Give x.number (input.Take x.letter)) s done (λ i here. (here, bytes, is)) h
 
   come : (what : Option (List ℕ)) (s : Course) (done : List Action) → Holds s done → After done (comes what s)
   unfolding comes
@@ -143,8 +143,8 @@ module _ (Holds : Course → List Action → Type 0) (kept : IsKept Holds) where
       either (n % 64 == 0) done (all_do (Give 0 input.Tick) s) (stays s) (tick_all s done h) (nothing s done h)
 
   turn_one : (c : Cluster) (n : ℕ) (what : Option (List ℕ)) (s : Course) (done : List Action) → Holds s done
-      → After done (turn c n what s)
-  unfolding turn
+      → After done (node_turn c n what s)
+  unfolding node_turn
   turn_one c n what s done h =
       let a = prepared c n s in
       let b = comes what a.next in
@@ -152,19 +152,19 @@ module _ (Holds : Course → List Action → Type 0) (kept : IsKept Holds) where
       (λ g. then_one (done ++ a.actions) b (λ last. ticked n last) (come what a.next (done ++ a.actions) g)
       (λ k. tick_some n b.next ((done ++ a.actions) ++ b.actions) k))
 
-  turns : (c : Cluster) (n : ℕ) (takes : Takes) (s : Course) (done : List Action) → Holds s done
-      → After done (turns_from (turn c) n takes s)
+  turns : (c : Cluster) (n : ℕ) (takes : TakeResults) (s : Course) (done : List Action) → Holds s done
+      → After done (turns_from (node_turn c) n takes s)
   turns c n [] s done h = nothing s done h
   turns c n (what ∷ rest) s done h =
-      let a = turn c n what s in
-      then_one done a (λ after. turns_from (turn c) (n + 1) rest after) (turn_one c n what s done h)
+      let a = node_turn c n what s in
+      then_one done a (λ after. turns_from (node_turn c) (n + 1) rest after) (turn_one c n what s done h)
       (λ g. turns c (n + 1) rest a.next (done ++ a.actions) g)
 
-  untended_all : (c : Cluster) (takes : Takes) (s : Course) (done : List Action) → Holds s done
+  untended_all : (c : Cluster) (takes : TakeResults) (s : Course) (done : List Action) → Holds s done
       → After done (untended_run c takes s)
   untended_all c takes s done h =
       let a = all_do Begin s in
-      then_one done a (λ after. turns_from (turn c) 1 takes after) (begin_all s done h)
+      then_one done a (λ after. turns_from (node_turn c) 1 takes after) (begin_all s done h)
       (λ g. turns c 1 takes a.next (done ++ a.actions) g)
 
   -- ---- the parts of a turn of a tended node
@@ -172,7 +172,7 @@ module _ (Holds : Course → List Action → Type 0) (kept : IsKept Holds) where
   tick_if : (test : ℕ → Hosted → Bool) (i : ℕ) (s : Course) (done : List Action) → Holds s done → After done (ticks_if test i s)
   tick_if test i s done h =
       either (is_so (test i) (slice_get s.hosted i)) done (does_at i (Give 0 input.Tick) s) (stays s)
-      (kept.step s done i (Give 0 input.Tick) tt h) (nothing s done h)
+      (preserves.step s done i (Give 0 input.Tick) tt h) (nothing s done h)
 
   tick_turn : (test : ℕ → Hosted → Bool) (places : List ℕ) (s : Course) (done : List Action) → Holds s done
       → After done (in_turn test places s)
@@ -187,16 +187,16 @@ module _ (Holds : Course → List Action → Type 0) (kept : IsKept Holds) where
 
   tick_kind : (k : Kind) (s : Course) (done : List Action) → Holds s done → After done (kind_ticks k s)
   unfolding kind_ticks
-  tick_kind k s done h = tick_those (λ i x. is_of k x) s done h
+  tick_kind k s done h = tick_those (λ i x. is_of_kind k x) s done h
 
   get : (o : Option Order) (s : Course) (done : List Action) → Holds s done → After done (gets o s)
   get None s done h = nothing s done h
-  get (Some x) s done h = named (place_of (role kind.Leader 0) s.hosted) (Give 0 (input.Order x)) s done (λ i here. tt) h
+  get (Some x) s done h = named (hosted_place (role kind.Leader 0) s.hosted) (Give 0 (input.Order x)) s done (λ i here. tt) h
 
   tend_order : (c : Cluster) (n : ℕ) (s : Course) (done : List Action) → Holds s done → After done (tend_ordered c n s)
   unfolding tend_ordered
   tend_order c n s done h =
-      either ((n == 1) && not (option_map_or (λ (l : Running LeaderDurable LeaderVolatile). is_new l.durable) (first_leader s.hosted) false))
+      either ((n == 1) && not (option_map_or (λ (l : Running LeaderDurable LeaderVolatile). is_new_leader l.durable) (first_leader s.hosted) false))
       done (stays s) (ordered c n s) (nothing s done h) (order_one c n s done h)
 
   tend_prepare : (c : Cluster) (n : ℕ) (s : Course) (done : List Action) → Holds s done → After done (tend_prepared c n s)
@@ -208,8 +208,8 @@ module _ (Holds : Course → List Action → Type 0) (kept : IsKept Holds) where
   report : (who : RoleId) (was : ℕ) (s : Course) (done : List Action) → Holds s done → After done (reported who was s)
   unfolding reported
   report who was s done h =
-      let o = place_of who s.hosted in
-      either (nat_lt (was / 8) (held_by who s.hosted / 8)) done (at_place o (Give 0 input.Tick) s) (stays s)
+      let o = hosted_place who s.hosted in
+      either (nat_lt (was / 8) (held_by_role who s.hosted / 8)) done (at_place o (Give 0 input.Tick) s) (stays s)
       (named o (Give 0 input.Tick) s done (λ i here. tt) h) (nothing s done h)
 
   collect : (s : Course) (done : List Action) → Holds s done → After done (collected s)
@@ -223,8 +223,8 @@ module _ (Holds : Course → List Action → Type 0) (kept : IsKept Holds) where
   unfolding heeded
   heed bytes x s done is h =
       let to = x.letter.to in
-      let was = held_by to s.hosted in
-      let a = at_place (place_of to s.hosted) (Give x.number (input.Take x.letter)) s in
+      let was = held_by_role to s.hosted in
+      let a = at_place (hosted_place to s.hosted) (Give x.number (input.Take x.letter)) s in
       let b = reported to was a.next in
       then_one done a (λ after. then_do (reported to was after) (λ last. if same_role to (role kind.Leader 0) then collected last else stays last))
       (bring bytes (Some x) s done is h)
@@ -261,7 +261,7 @@ module _ (Holds : Course → List Action → Type 0) (kept : IsKept Holds) where
       get (leader_asked c (standing_of l) (leader_cared (standing_of l) t.care)) t.course done h
 
   pass : (t : Tended) (done : List Action) → Holds t.course done → AfterTended done (next_pass t)
-  pass t done h = tick_turn (is_overtaken t.care.marks) t.care.queue t.course done h
+  pass t done h = tick_turn (is_overtaken t.care.counts) t.care.queue t.course done h
 
   tend_clients : (t : Tended) (done : List Action) → Holds t.course done → AfterTended done (clients_tended t)
   unfolding clients_tended
@@ -288,7 +288,7 @@ module _ (Holds : Course → List Action → Type 0) (kept : IsKept Holds) where
       → AfterTended done (turn_ended c m came t)
   unfolding turn_ended
   end_turn c m came t done h =
-      let k = counted came t.care in
+      let k = care_after_turn came t.care in
       let rested : Tended = record { care = beat_over k; course = t.course } in
       let noted : Tended = record { care = k; course = t.course } in
       either_tended (is_beat m k) done (beat c rested) (stays noted) (beat_one c rested done h) (nothing t.course done h)
@@ -310,7 +310,7 @@ module _ (Holds : Course → List Action → Type 0) (kept : IsKept Holds) where
       then_tended so_far d (λ z. turn_ended c m (is_some what) z) (flush b.next.care (is_some what) b.next.course so_far k)
       (λ l. end_turn c m (is_some what) d.next (so_far ++ d.actions) l)))
 
-  tended_turns : (c : Cluster) (m n : ℕ) (takes : Takes) (t : Tended) (done : List Action) → Holds t.course done
+  tended_turns : (c : Cluster) (m n : ℕ) (takes : TakeResults) (t : Tended) (done : List Action) → Holds t.course done
       → AfterTended done (turns_from (tended_turn c m) n takes t)
   tended_turns c m n [] t done h = nothing t.course done h
   tended_turns c m n (what ∷ rest) t done h =
@@ -319,7 +319,7 @@ module _ (Holds : Course → List Action → Type 0) (kept : IsKept Holds) where
       (λ g. tended_turns c m (n + 1) rest a.next (done ++ a.actions) g)
 
   -- behind the run
-  pub walk : (tend : Option ℕ) (c : Cluster) (takes : Takes) (s : Course) (done : List Action) → Holds s done
+  pub walk : (tend : Option ℕ) (c : Cluster) (takes : TakeResults) (s : Course) (done : List Action) → Holds s done
       → Holds (node_run tend c takes s).next (done ++ (node_run tend c takes s).actions)
   unfolding node_run
   walk None c takes s done h = untended_all c takes s done h

@@ -22,25 +22,25 @@ use Rattle.cx_node.proofs.Lent.{two_files}
 
 -- a record of two files that is refused, or the end of records that end too early
 pub bad_place : {D V : Type 0} (rules : Rules D V) (c : Cluster) (me : RoleId) (a b : List ℕ)
-    (records told : List Record) (index at : ℕ) (gen : Option ℕ) (k : Kind)
+    (records recovered : List Record) (index at : ℕ) (gen : Option ℕ) (k : Kind)
     → me.kind ≡ k → pair_image (Some k) a b ≡ Ok records → refused rules c me records ≡ Some index
-    → told ≡ records → front_of gen ≡ front_in (TwoFiles a b)
-    → at ≡ length (front_of gen ++ frames (payloads (take index told))) → IsBadStore rules c me (TwoFiles a b) at
-bad_place rules c me a b records told index at gen k kind read refused kept front place =
+    → recovered ≡ records → front_of gen ≡ front_in (TwoFiles a b)
+    → at ≡ length (front_of gen ++ frames (payloads (take index recovered))) → IsBadStore rules c me (TwoFiles a b) at
+bad_place rules c me a b records recovered index at gen k kind read refused same front place =
     inr (
       records,
       ap (λ (k : Kind). pair_image (Some k) a b) kind ∙ read,
       index,
       refused,
-      place ∙ ap (λ (bytes : List ℕ). length (bytes ++ frames (payloads (take index told)))) front
-          ∙ ap (λ (rs : List Record). length (front_in (TwoFiles a b) ++ frames (payloads (take index rs)))) kept,
+      place ∙ ap (λ (bytes : List ℕ). length (bytes ++ frames (payloads (take index recovered)))) front
+          ∙ ap (λ (rs : List Record). length (front_in (TwoFiles a b) ++ frames (payloads (take index rs)))) same,
     )
 
 -- the same of what a depot holds
-pub bad_two : {D V : Type 0} (rules : Rules D V) (c : Cluster) (held : Shelf → List ℕ) (me : RoleId) (at : ℕ)
-    → has_second me.kind ≡ true → IsBadStore rules c me (TwoFiles (held (shelf me 0)) (held (shelf me 1))) at
-    → IsBadStore rules c me (files_of held me) at
-bad_two rules c held me at two bad = subst (λ files. IsBadStore rules c me files at) (sym (two_files held me two)) bad
+pub bad_two : {D V : Type 0} (rules : Rules D V) (c : Cluster) (stored : Shelf → List ℕ) (me : RoleId) (at : ℕ)
+    → has_second me.kind ≡ true → IsBadStore rules c me (TwoFiles (stored (shelf me 0)) (stored (shelf me 1))) at
+    → IsBadStore rules c me (files_of stored me) at
+bad_two rules c stored me at two bad = subst (λ files. IsBadStore rules c me files at) (sym (two_files stored me two)) bad
 
 -- a store is said to be bad where its role's own is
 pub unwoken_bad : (me : RoleId) (stop : WakeStop) (role : RoleId) (at : ℕ)

@@ -10,13 +10,13 @@ use Rattle.cx_node.specs.declared.come.Come.{Come}
 use Rattle.cx_node.specs.declared.come.Come.TheVariants as come
 use Rattle.cx_node.specs.declared.node.Stop.{Stop}
 use Rattle.cx_node.specs.declared.node.Stop.TheVariants.{LinkFault, NoMemory, RecordFull, StoreFault, WriteFault}
-use Rattle.cx_course.specs.Action.{HasTaken}
+use Rattle.cx_course.specs.Action.{AreTakesOf}
 use Rattle.cx_node.specs.Changing.{Changing}
 use Rattle.cx_node.specs.Doing.{DidPart, Does, Scene, course_in, scene}
 use Rattle.cx_node.specs.Guest.{AreReady}
 use Rattle.cx_node.specs.Node.{IsUnderway, NodeState}
 use Rattle.cx_course.specs.Course.{Course, Moved}
-use Rattle.cx_course.specs.Run.{Takes, all_finished, brought}
+use Rattle.cx_course.specs.Run.{TakeResults, all_finished, brought}
 use Rattle.cx_record.specs.Numbers.{Numbered, Recorded}
 use Rattle.cx_course.specs.Tending.{node_run}
 
@@ -39,7 +39,7 @@ pub record Blames (result : Result (Unit {0}) Stop) (old new : Failures) : Type 
 
 -- what is seen of a node's roles, its link and its output
 abbrev pub scene_of : {K L W : Type 0} → LinkGhosts L → SinkGhosts W → NodeState K → L → W → Scene K
-scene_of by_link by_out node link out = scene node.guests node.recorded (by_link.told link) (by_out.taken out)
+scene_of by_link by_out node link out = scene node.guests node.recorded (by_link.history link) (by_out.taken out)
 
 abbrev pub failed : {L W : Type 0} → LinkGhosts L → SinkGhosts W → L → W → Failures
 failed by_link by_out link out = failures (by_link.faults link) (by_out.faults out)
@@ -48,10 +48,10 @@ failed by_link by_out link out = failures (by_link.faults link) (by_out.faults o
 
 -- What is to be done is done, with these takes, and all roles may go on; or the first of its actions are done, and
 -- then it stopped.
-pub record Acts {K : Type 0} (gives : Changing K) (c : Cluster) (takes : Takes) (m : Moved Course)
+pub record Acts {K : Type 0} (gives : Changing K) (c : Cluster) (takes : TakeResults) (m : Moved Course)
     (result : Result (Unit {0}) Stop) (old new : Scene K) : Type 0 where
   pub done : OnOk result (Does gives c m old new)
-  pub taken : OnOk result (HasTaken takes m.actions)
+  pub taken : OnOk result (AreTakesOf takes m.actions)
   pub ready : OnOk result (AreReady c new.guests)
   pub part : IfErr result (λ e. DidPart gives c m.actions e old new)
 
@@ -73,7 +73,7 @@ ActsTaking gives c part result old new = ActsOnce gives c (λ what. part what (c
 abbrev pub ActsLong : {K : Type 0} → Changing K → Option ℕ → Cluster → ℕ → Result (Unit {0}) Stop
     → Scene K → Scene K → Type 0
 ActsLong gives tend c limit result old new =
-    (takes : Takes) × Acts gives c takes (node_run tend c takes (course_in old)) result old new
+    (takes : TakeResults) × Acts gives c takes (node_run tend c takes (course_in old)) result old new
     × IsUnderway tend c limit (course_in old) takes
     × OnOk result ((all_finished ((node_run tend c takes (course_in old)).next.hosted) ≡ true) ⊎ (length takes ≡ limit))
 

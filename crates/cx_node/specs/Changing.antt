@@ -1,6 +1,6 @@
 -- What the store of a hosted role is asked to do with its list, and what it answers.
 use Rattle.std.specs.Prelude.{◌≡◌, ◌⊎◌, Result, Err}
-use Rattle.cx_keeper.specs.Keeper.{Change, Append, Renewal}
+use Rattle.cx_keeper.specs.Keeper.{KeeperChange, Append, Renewal}
 use Rattle.cx_keeper.specs.declared.keeper.KeepFault.{KeepFault}
 use Rattle.cx_keeper.specs.declared.keeper.KeepFault.TheVariants.{NoMemory}
 use Rattle.cx_role.specs.Role.{Appending}
@@ -8,7 +8,7 @@ use Rattle.cx_role.specs.Snap.{Renewing}
 
 -- what a change may answer, and leave
 abbrev pub Changing : Type 0 → Type 1
-Changing K = K → Change → Result (Unit {0}) KeepFault → K → Type 0
+Changing K = K → KeeperChange → Result (Unit {0}) KeepFault → K → Type 0
 
 -- an append or a renewal
 abbrev pub changing : {K : Type 0} → Appending K → Renewing K → Changing K
@@ -17,4 +17,4 @@ changing append_gives renew_gives old (Renewal records) answer new = renew_gives
 
 -- no change was asked for, or one was refused when out of memory
 abbrev pub Refuses : {K : Type 0} → Changing K → K → K → Type 0
-Refuses gives old new = (new ≡ old) ⊎ ((change : Change) × gives old change (Err NoMemory) new)
+Refuses gives old new = (new ≡ old) ⊎ ((change : KeeperChange) × gives old change (Err NoMemory) new)

@@ -7,7 +7,7 @@ use Rattle.cx_base.specs.declared.role.Kind.TheVariants as kind
 use Rattle.cx_base.specs.declared.role.RoleId.{RoleId}
 use Rattle.cx_edge.specs.Link.{LinkHistory}
 use Rattle.cx_msg.specs.Letter.{Letter}
-use Rattle.cx_keeper.specs.Keeper.{Change, Renewal}
+use Rattle.cx_keeper.specs.Keeper.{KeeperChange, Renewal}
 use Rattle.cx_msg.specs.declared.kept.Record.{Record}
 use Rattle.cx_node.specs.declared.guest.Guest.{Guest}
 use Rattle.cx_node.specs.declared.node.Stop.{Stop}
@@ -15,7 +15,7 @@ use Rattle.cx_node.specs.declared.node.Stop.TheVariants as stop
 use Rattle.cx_course.specs.Action.{Action, Filled, Kept, Took, bound_in, is_filled, kept_in, printed_in, sent_in, taken_in}
 use Rattle.cx_course.specs.Changing.{StoreChange}
 use Rattle.cx_node.specs.Changing.{Changing}
-use Rattle.cx_node.specs.Guest.{FailsIn, GuestGrows, Rests, hosted_in, keeper_of, who}
+use Rattle.cx_node.specs.Guest.{HasChangeFailedIn, GuestGrows, Rests, hosted_in, keeper_of, who}
 use Rattle.cx_node.specs.Ports.{bind_of, sendings}
 use Rattle.cx_course.specs.Course.{Course, Moved}
 use Rattle.cx_record.specs.Numbers.{Recorded}
@@ -35,15 +35,15 @@ abbrev pub course_in : {K : Type 0} → Scene K → Course
 course_in s = record { hosted = hosted_in s.guests; recorded = s.recorded }
 
 -- Where the link's history is still known, it has these datagrams besides, as sent.
-abbrev pub Asks : Cluster → List Letter → Option LinkHistory → Option LinkHistory → Type 0
-Asks c letters old new =
+abbrev pub HasLinkSent : Cluster → List Letter → Option LinkHistory → Option LinkHistory → Type 0
+HasLinkSent c letters old new =
     (after : LinkHistory) → new ≡ Some after
     → (before : LinkHistory) × (old ≡ Some before)
     × (after ≡ record before { sent = before.sent ++ sendings c letters })
 
 -- the same with the first of these datagrams
-abbrev pub AsksPart : Cluster → List Letter → Option LinkHistory → Option LinkHistory → Type 0
-AsksPart c letters old new = (count : ℕ) × Asks c (take count letters) old new
+abbrev pub HasLinkSentPart : Cluster → List Letter → Option LinkHistory → Option LinkHistory → Type 0
+HasLinkSentPart c letters old new = (count : ℕ) × HasLinkSent c (take count letters) old new
 
 -- the history of a link after these actions
 abbrev pub with_actions : Cluster → List Action → LinkHistory → LinkHistory
@@ -91,7 +91,7 @@ GuestsRest {K} gives old new =
 
 -- this change failed, of the store of the role of this name, and only a replica puts its list anew; the other roles are
 -- as they were
-pub record GuestFails {K : Type 0} (gives : Changing K) (role : RoleId) (change : Change)
+pub record GuestFails {K : Type 0} (gives : Changing K) (role : RoleId) (change : KeeperChange)
     (old new : List (Guest K)) : Type 0 where
   pub place : ℕ
   pub guest : Guest K
@@ -100,7 +100,7 @@ pub record GuestFails {K : Type 0} (gives : Changing K) (role : RoleId) (change 
   pub others : new ≡ slice_set old place after
   pub name : who guest ≡ role
   pub same : who after ≡ who guest
-  pub fails : FailsIn gives (Some change) (keeper_of guest) (keeper_of after)
+  pub fails : HasChangeFailedIn gives (Some change) (keeper_of guest) (keeper_of after)
   pub renews : (records : List Record) → change ≡ Renewal records → role.kind ≡ kind.Replica
 
 -- What stopped a run, by the action that was next: a take of the link failed, or the change of a role's store, which
@@ -112,7 +112,7 @@ StopsAt gives stop.LinkFault next old new =
     ((what : Option (List ℕ)) × (next ≡ Some (Took what))) × GuestsRest gives old new
 StopsAt gives stop.RecordFull next old new = (next ≡ Some Filled) × GuestsRest gives old new
 StopsAt gives (stop.StoreFault role) next old new =
-    (change : Change) × (next ≡ Some (Kept (record { role = role; change = change }))) × GuestFails gives role change old new
+    (change : KeeperChange) × (next ≡ Some (Kept (record { role = role; change = change }))) × GuestFails gives role change old new
 
 -- The first of these actions were done, and no others, when this stopped the run.
 pub record DidPart {K : Type 0} (gives : Changing K) (c : Cluster) (actions : List Action) (e : Stop)

@@ -12,8 +12,8 @@ use Rattle.cx_edge.specs.declared.depot.Depot.{Ghosts as DepotGhosts}
 use Rattle.cx_edge.specs.Link.{Bind, LinkHistory}
 use Rattle.cx_edge.specs.declared.shelf.Shelf.{Shelf}
 use Rattle.cx_journal.specs.Store.{IsStoreChange}
-use Rattle.cx_journal.specs.declared.store.Store.{Store}
-use Rattle.cx_keeper.specs.Keeper.{Append, Change, Renewal}
+use Rattle.cx_journal.specs.declared.store.RecordStore.{RecordStore}
+use Rattle.cx_keeper.specs.Keeper.{Append, KeeperChange, Renewal}
 use Rattle.cx_msg.specs.declared.kept.Record.{Record}
 use Rattle.cx_node.specs.declared.guest.Guest.{Guest}
 use Rattle.cx_node.specs.declared.node.RunEnd.{RunEnd}
@@ -25,12 +25,12 @@ use Rattle.cx_node.specs.declared.opening.OpenStop.TheVariants as open_stop
 use Rattle.cx_node.specs.Acts.{Failures}
 use Rattle.cx_node.specs.Changing.{Changing, changing}
 use Rattle.cx_node.specs.Doing.{Did, DidPart, Scene, course_in}
-use Rattle.cx_course.specs.Action.{Action, Bound, Filled, HasTaken, Kept, Printed, Took}
-use Rattle.cx_course.specs.Run.{Takes}
+use Rattle.cx_course.specs.Action.{Action, Bound, Filled, AreTakesOf, Kept, Printed, Took}
+use Rattle.cx_course.specs.Run.{TakeResults}
 use Rattle.cx_course.specs.Tending.{node_run}
 use Rattle.cx_record.specs.Numbers.{Recorded, blank}
 use Rattle.cx_node.specs.Node.{IsEnd, IsUnderway, NodeState}
-use Rattle.cx_node.specs.Opening.{IsBadAs, IsFirstBad, IsFirstUsed, disks_in, is_used}
+use Rattle.cx_node.specs.Opening.{IsBadAs, IsFirstBad, IsFirstUsed, disks_in, is_store_used}
 use Rattle.cx_node.specs.Ports.{bind_of}
 use Rattle.cx_node.specs.Serving.{Did as DidOutside, Outside, Served, ServedPart, begun_with, whole_run}
 use Rattle.cx_node.specs.Stores.{Lent}
@@ -62,16 +62,16 @@ with_binds binds h = record h { binds = h.binds ++ binds }
 
 -- the same with these roles bound to their ports, where the history is known
 abbrev pub with_bound : Cluster → List RoleId → Option LinkHistory → Option LinkHistory
-with_bound c roles told = option_map (with_binds (map (bind_of c) roles)) told
+with_bound c roles history = option_map (with_binds (map (bind_of c) roles)) history
 
--- These disks were given back: the depot holds at its place what each holds, elsewhere what it held, and each fault of
+-- These disks were given back: the depot holds at its place what each holds, elsewhere what it had, and each fault of
 -- one, and nothing else, has raised its role's count.
 pub record GivesBack {D : Type 0} (seen : D → Option (List ℕ)) (disk_faults : D → ℕ) (lent : List (Lent D))
-    (tells : Bool) (held held_after : Shelf → List ℕ) (faults faults_after : RoleId → ℕ) : Type 0 where
+    (tells : Bool) (stored stored_after : Shelf → List ℕ) (faults faults_after : RoleId → ℕ) : Type 0 where
   pub holds : tells ≡ true → (i : ℕ) (l : Lent D) (file : List ℕ) → slice_get lent i ≡ Some l
-      → seen l.disk ≡ Some file → held_after l.place ≡ file
+      → seen l.disk ≡ Some file → stored_after l.place ≡ file
   pub others : (place : Shelf) → ((i : ℕ) (l : Lent D) → slice_get lent i ≡ Some l → l.place ≡ place → ⊥)
-      → held_after place ≡ held place
+      → stored_after place ≡ stored place
   pub failed : (i : ℕ) (l : Lent D) → slice_get lent i ≡ Some l → Rises 0 (disk_faults l.disk)
       → Rises (faults l.place.role) (faults_after l.place.role)
   pub still : (role : RoleId)
@@ -80,13 +80,13 @@ pub record GivesBack {D : Type 0} (seen : D → Option (List ℕ)) (disk_faults 
   pub later : (role : RoleId) → faults role ≤ faults_after role
 
 -- the disks of these roles were given back to this depot
-abbrev pub AreGivenBack : {D S : Type 0} → DepotGhosts D S → DiskGhosts S → List (Guest (Store S)) → D → D → Type 0
+abbrev pub AreGivenBack : {D S : Type 0} → DepotGhosts D S → DiskGhosts S → List (Guest (RecordStore S)) → D → D → Type 0
 AreGivenBack by_depot by_disk guests old new =
     GivesBack by_disk.seen by_disk.faults (disks_in guests) (by_depot.tells old)
-    (by_depot.held old) (by_depot.held new) (by_depot.faults old) (by_depot.faults new)
+    (by_depot.stored old) (by_depot.stored new) (by_depot.faults old) (by_depot.faults new)
 
 -- what a change of a store over such disks may answer, and leave
-abbrev pub store_gives : {D : Type 0} → DiskGhosts D → Changing (Store D)
+abbrev pub store_gives : {D : Type 0} → DiskGhosts D → Changing (RecordStore D)
 store_gives by_disk =
     changing (λ old r answer new. IsStoreChange by_disk old (Append r) answer new)
     (λ old records answer new. IsStoreChange by_disk old (Renewal records) answer new)
@@ -102,15 +102,15 @@ known_first recording = if recording then Some blank else None
 -- a text was printed, and then the whole run was made
 pub record RunsBehind {K : Type 0} (gives : Changing K) (tend : Option ℕ) (c : Cluster) (turns : ℕ) (text : List ℕ)
     (end : RunEnd) (old new : Scene K) : Type 0 where
-  pub takes : Takes
+  pub takes : TakeResults
   pub did : Did gives c (map Printed text ++ (node_run tend c takes (course_in old)).actions) old new
   pub is_end : IsEnd tend c turns (course_in old) takes end
-  pub taken : HasTaken takes (node_run tend c takes (course_in old)).actions
+  pub taken : AreTakesOf takes (node_run tend c takes (course_in old)).actions
 
 -- the first of all that were done, when this stopped it
 pub record RunsPartBehind {K : Type 0} (gives : Changing K) (tend : Option ℕ) (c : Cluster) (turns : ℕ) (text : List ℕ)
     (e : Stop) (old new : Scene K) : Type 0 where
-  pub takes : Takes
+  pub takes : TakeResults
   pub underway : IsUnderway tend c turns (course_in old) takes
   pub part : DidPart gives c (map Printed text ++ (node_run tend c takes (course_in old)).actions) e old new
 
@@ -128,16 +128,16 @@ pub record Ran {K : Type 0} (gives : Changing K) (tend : Option ℕ) (c : Cluste
 -- the whole run was made, to this end
 abbrev pub HostEnds : List RoleId → Option ℕ → Option (List ℕ) → Cluster → ℕ → List Event → ℕ → RunEnd → Outside → Outside → Type 0
 HostEnds roles tend header c window events turns e old new =
-    (told : RoleId → List Record) × (takes : Takes) × Served roles tend header c window events told takes old new
-    × IsEnd tend c turns (begun_with header c window events told roles) takes e
+    (recovered : RoleId → List Record) × (takes : TakeResults) × Served roles tend header c window events recovered takes old new
+    × IsEnd tend c turns (begun_with header c window events recovered roles) takes e
 
--- the first of its actions were done; this one was next, if that is told
+-- the first of its actions were done; this one was next, if that is known
 abbrev pub HostEndsAt : Option Action → List RoleId → Option ℕ → Option (List ℕ) → Cluster → ℕ → List Event → ℕ → Outside → Outside → Type 0
 HostEndsAt next roles tend header c window events turns old new =
-    (told : RoleId → List Record) × (takes : Takes) × (count : ℕ)
-    × ServedPart roles tend header c window events told takes count old new
-    × IsUnderway tend c turns (begun_with header c window events told roles) takes
-    × IfSome next (λ (action : Action). slice_get (whole_run tend header c window events told roles takes) count ≡ Some action)
+    (recovered : RoleId → List Record) × (takes : TakeResults) × (count : ℕ)
+    × ServedPart roles tend header c window events recovered takes count old new
+    × IsUnderway tend c turns (begun_with header c window events recovered roles) takes
+    × IfSome next (λ (action : Action). slice_get (whole_run tend header c window events recovered roles takes) count ≡ Some action)
 
 abbrev pub HostEndsEarly : List RoleId → Option ℕ → Option (List ℕ) → Cluster → ℕ → List Event → ℕ → Outside → Outside → Type 0
 HostEndsEarly roles tend header c window events turns old new = HostEndsAt None roles tend header c window events turns old new
@@ -149,11 +149,11 @@ HostBinding roles c old new = (bound : ℕ) × DidOutside roles c (map Bound (ta
 -- all before a change of this role's store was done, and nothing after; the change itself was made or not
 abbrev pub HostEndsAtChange : RoleId → List RoleId → Option ℕ → Option (List ℕ) → Cluster → ℕ → List Event → ℕ → Outside → Outside → Type 0
 HostEndsAtChange role roles tend header c window events turns old new =
-    (told : RoleId → List Record) × (takes : Takes) × (count : ℕ) × (change : Change)
-    × (ServedPart roles tend header c window events told takes count old new
-    ⊎ ServedPart roles tend header c window events told takes (suc count) old new)
-    × IsUnderway tend c turns (begun_with header c window events told roles) takes
-    × (slice_get (whole_run tend header c window events told roles takes) count
+    (recovered : RoleId → List Record) × (takes : TakeResults) × (count : ℕ) × (change : KeeperChange)
+    × (ServedPart roles tend header c window events recovered takes count old new
+    ⊎ ServedPart roles tend header c window events recovered takes (suc count) old new)
+    × IsUnderway tend c turns (begun_with header c window events recovered roles) takes
+    × (slice_get (whole_run tend header c window events recovered roles takes) count
     ≡ Some (Kept (record { role = role; change = change })))
 
 -- what was done, and why, for each answer; hosting reads nothing
@@ -172,10 +172,10 @@ HostDid roles tend header c window events turns old new (status.StoreFault role)
     HostEndsEarly roles tend header c window events turns old new × Rises (old.stores role) (new.stores role)
     × (HostBinding roles c old new ⊎ HostEndsAtChange role roles tend header c window events turns old new)
 HostDid roles tend header c window events turns old new (status.BadStore role at) =
-    HostEndsEarly roles tend header c window events turns old new × (old.tells ≡ true → IsFirstBad roles c old.held role at)
+    HostEndsEarly roles tend header c window events turns old new × (old.tells ≡ true → IsFirstBad roles c old.stored role at)
 HostDid roles tend header c window events turns old new (status.NotFresh role) =
     HostEndsEarly roles tend header c window events turns old new × (is_some header ≡ true) × (new.out ≡ old.out)
-    × (old.tells ≡ true → IsFirstUsed roles old.held role)
+    × (old.tells ≡ true → IsFirstUsed roles old.stored role)
 HostDid roles tend header c window events turns old new status.RecordFull =
     HostEndsAt (Some Filled) roles tend header c window events turns old new × (is_some header ≡ true)
 HostDid roles tend header c window events turns old new status.NoMemory =
@@ -203,7 +203,7 @@ pub record HostAnswered (roles : List RoleId) (tend : Option ℕ) (header : Opti
   pub written : (s ≡ status.WriteFault → ⊥) → new.writes ≡ old.writes
   pub linked : (s ≡ status.LinkFault → ⊥) → new.links ≡ old.links
   pub good : HasOpened s → old.tells ≡ true → (i : ℕ) (role : RoleId) (at : ℕ) → slice_get roles i ≡ Some role
-      → IsBadAs c role (old.held role) at role.kind → ⊥
+      → IsBadAs c role (old.stored role) at role.kind → ⊥
   pub unused : HasRun s → is_some header ≡ true → old.tells ≡ true → (i : ℕ) (role : RoleId) → slice_get roles i ≡ Some role
-      → is_used role (old.held role) ≡ false
+      → is_store_used role (old.stored role) ≡ false
   pub stored : (role : RoleId) → (s ≡ status.StoreFault role → ⊥) → new.stores role ≡ old.stores role

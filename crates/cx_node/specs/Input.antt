@@ -15,37 +15,37 @@ use Rattle.cx_model.specs.Names.{names_role}
 use Rattle.cx_script.specs.Input.{begun_input, whole_input}
 use Rattle.cx_script.specs.Requests.{requests_of}
 use Rattle.cx_node.specs.declared.input.Accepted.{Accepted}
-use Rattle.cx_node.specs.declared.input.Heard.{Heard}
-use Rattle.cx_node.specs.declared.input.Heard.TheVariants.{Nothing, BadHeader, Lines}
+use Rattle.cx_node.specs.declared.input.NodeInput.{NodeInput}
+use Rattle.cx_node.specs.declared.input.NodeInput.TheVariants.{Nothing, BadHeader, Lines}
 use Rattle.cx_node.specs.declared.input.Refusal.{Refusal}
 use Rattle.cx_node.specs.declared.input.Refusal.TheVariants as refusal
 
 -- a header without a port is bad
-abbrev pub with_port : Option ℕ → List ℕ → Cluster → List ℕ → Heard
+abbrev pub with_port : Option ℕ → List ℕ → Cluster → List ℕ → NodeInput
 with_port None header c rest = BadHeader
 with_port (Some port) header c rest = Lines header c (requests_of c rest)
 
 -- the cluster that a header's text says, and the requests that the bytes after it spell
-abbrev pub behind : Result Cluster ClusterFault → List ℕ → List ℕ → Heard
+abbrev pub behind : Result Cluster ClusterFault → List ℕ → List ℕ → NodeInput
 behind (Ok c) header rest = with_port c.base_port header c rest
 behind (Err fault) header rest = BadHeader
 
 -- the same of a header's text and the bytes after it
-abbrev pub header_says : List ℕ → List ℕ → Heard
+abbrev pub header_says : List ℕ → List ℕ → NodeInput
 header_says header rest = behind (header_cluster header) header rest
 
 -- what a whole input says
-abbrev pub input_of : List ℕ → Heard
+abbrev pub input_of : List ℕ → NodeInput
 input_of bytes = whole_input header_says BadHeader bytes
 
 -- what bytes say after which others may come
-abbrev pub lines : List ℕ → Heard
+abbrev pub lines : List ℕ → NodeInput
 lines bytes = begun_input header_says BadHeader Nothing bytes
 
 -- what bytes say: the whole input where it has ended
-abbrev pub heard_of : Bool → List ℕ → Heard
-heard_of true bytes = input_of bytes
-heard_of false bytes = lines bytes
+abbrev pub input_says : Bool → List ℕ → NodeInput
+input_says true bytes = input_of bytes
+input_says false bytes = lines bytes
 
 -- the first bad line, if one is
 abbrev pub bad_line_of : Option ℕ → Option Refusal
@@ -60,19 +60,19 @@ kinds = Client ∷ Batcher ∷ Leader ∷ Proxy ∷ Acceptor ∷ Matchmaker ∷ 
 abbrev pub roles_as : Cluster → Kind → List RoleId
 roles_as c k = map (role k) (below (count_of c k))
 
-abbrev pub roles_of : Cluster → List RoleId
-roles_of c = flat_map (roles_as c) kinds
+abbrev pub cluster_roles : Cluster → List RoleId
+cluster_roles c = flat_map (roles_as c) kinds
 
 -- each role of the cluster is among these
 abbrev pub are_all : Cluster → List RoleId → Bool
-are_all c roles = list_all (λ (r : RoleId). list_any (same_role r) roles) (roles_of c)
+are_all c roles = list_all (λ (r : RoleId). list_any (same_role r) roles) (cluster_roles c)
 
 -- whether a node may host these roles: each is in the cluster, and where the node records no other is
 abbrev pub may_host : Bool → Cluster → List RoleId → Bool
 may_host recording c roles = list_all (λ (r : RoleId). names_role c r) roles && (not recording || are_all c roles)
 
 -- Why an input is refused of a node of these roles: by its header, the roles, or the first bad line, in this order.
-abbrev pub refused_of : Bool → List RoleId → Heard → Option Refusal
+abbrev pub refused_of : Bool → List RoleId → NodeInput → Option Refusal
 refused_of recording roles Nothing = None
 refused_of recording roles BadHeader = Some (refusal.BadInput 0)
 refused_of recording roles (Lines header c spelled) = if may_host recording c roles then bad_line_of spelled.bad else Some refusal.BadWords
@@ -86,12 +86,12 @@ IsRefusal said refusal.BadWords = said ≡ Some refusal.BadWords
 
 -- what is answered to bytes that say this, of a whole input or not: what they say, the first refusal, or that more
 -- was to come
-abbrev pub IsAnswer : Bool → Bool → List RoleId → Heard → Result Accepted Refusal → Type 0
-IsAnswer ended recording roles heard (Ok a) = (heard ≡ Lines a.header a.cluster a.schedule) × (refused_of recording roles heard ≡ None) × (ended ≡ true)
-IsAnswer ended recording roles heard (Err refusal.NoMemory) = Unit {0}
-IsAnswer ended recording roles heard (Err refusal.ReadFault) = (refused_of recording roles heard ≡ None) × (ended ≡ false)
-IsAnswer ended recording roles heard (Err (refusal.BadInput line)) = refused_of recording roles heard ≡ Some (refusal.BadInput line)
-IsAnswer ended recording roles heard (Err refusal.BadWords) = refused_of recording roles heard ≡ Some refusal.BadWords
+abbrev pub IsInputAnswer : Bool → Bool → List RoleId → NodeInput → Result Accepted Refusal → Type 0
+IsInputAnswer ended recording roles heard (Ok a) = (heard ≡ Lines a.header a.cluster a.schedule) × (refused_of recording roles heard ≡ None) × (ended ≡ true)
+IsInputAnswer ended recording roles heard (Err refusal.NoMemory) = Unit {0}
+IsInputAnswer ended recording roles heard (Err refusal.ReadFault) = (refused_of recording roles heard ≡ None) × (ended ≡ false)
+IsInputAnswer ended recording roles heard (Err (refusal.BadInput line)) = refused_of recording roles heard ≡ Some (refusal.BadInput line)
+IsInputAnswer ended recording roles heard (Err refusal.BadWords) = refused_of recording roles heard ≡ Some refusal.BadWords
 
 -- what bytes after which a read failed are refused for, or else the failed read
 abbrev pub refusal_of_part : Option Refusal → Refusal

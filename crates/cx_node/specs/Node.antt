@@ -6,12 +6,12 @@ use Rattle.cx_node.specs.declared.guest.Guest.{Guest}
 use Rattle.cx_node.specs.declared.node.RunEnd.{RunEnd}
 use Rattle.cx_node.specs.declared.node.RunEnd.TheVariants.{Done, Turns}
 use Rattle.cx_node.specs.declared.node.Stop.{Stop}
-use Rattle.cx_course.specs.Action.{HasTaken}
+use Rattle.cx_course.specs.Action.{AreTakesOf}
 use Rattle.cx_node.specs.Changing.{Changing}
 use Rattle.cx_node.specs.Doing.{DidPart, Does, Scene, course_in}
 use Rattle.cx_node.specs.Guest.{hosted_in}
 use Rattle.cx_course.specs.Course.{Course}
-use Rattle.cx_course.specs.Run.{Takes, all_finished, is_client}
+use Rattle.cx_course.specs.Run.{TakeResults, all_finished, is_client}
 use Rattle.cx_record.specs.Numbers.{Recorded}
 use Rattle.cx_course.specs.Tending.{node_run}
 
@@ -26,12 +26,12 @@ abbrev pub course_at : {K : Type 0} → NodeState K → Course
 course_at node = record { hosted = hosted_in node.guests; recorded = node.recorded }
 
 -- a run has made at most limit turns with these takes, and came to no end before the last of them
-pub record IsUnderway (tend : Option ℕ) (c : Cluster) (limit : ℕ) (s : Course) (takes : Takes) : Type 0 where
+pub record IsUnderway (tend : Option ℕ) (c : Cluster) (limit : ℕ) (s : Course) (takes : TakeResults) : Type 0 where
   pub most : length takes ≤ limit
   pub not_before : (k : ℕ) → k < length takes → all_finished ((node_run tend c (take k takes) s).next.hosted) ≡ false
 
 -- a run has come to its end with these takes, and to no end before the last of them
-pub record IsEnd (tend : Option ℕ) (c : Cluster) (limit : ℕ) (s : Course) (takes : Takes)
+pub record IsEnd (tend : Option ℕ) (c : Cluster) (limit : ℕ) (s : Course) (takes : TakeResults)
     (end : RunEnd) : Type 0 where
   pub most : length takes ≤ limit
   pub not_before : (k : ℕ) → k < length takes → all_finished ((node_run tend c (take k takes) s).next.hosted) ≡ false
@@ -45,12 +45,12 @@ pub record IsEnd (tend : Option ℕ) (c : Cluster) (limit : ℕ) (s : Course) (t
 -- the whole run was made, with what the takes of the link gave
 abbrev pub Runs : {K : Type 0} → Changing K → Option ℕ → Cluster → ℕ → RunEnd → Scene K → Scene K → Type 0
 Runs gives tend c turns end old new =
-    (takes : Takes) × Does gives c (node_run tend c takes (course_in old)) old new
+    (takes : TakeResults) × Does gives c (node_run tend c takes (course_in old)) old new
     × IsEnd tend c turns (course_in old) takes end
-    × HasTaken takes (node_run tend c takes (course_in old)).actions
+    × AreTakesOf takes (node_run tend c takes (course_in old)).actions
 
 -- The first of its actions were done, its takes among them, when this stopped it.
 abbrev pub RunsPart : {K : Type 0} → Changing K → Stop → Option ℕ → Cluster → ℕ → Scene K → Scene K → Type 0
 RunsPart gives e tend c turns old new =
-    (takes : Takes) × IsUnderway tend c turns (course_in old) takes
+    (takes : TakeResults) × IsUnderway tend c turns (course_in old) takes
     × DidPart gives c (node_run tend c takes (course_in old)).actions e old new

@@ -10,8 +10,8 @@ abbrev pub noting : List Letter → Recorded → Recorded
 noting sends r = record { sent = r.sent ++ sends; lines = r.lines }
 
 -- so many lines were written besides
-abbrev pub counting : ℕ → Recorded → Recorded
-counting more r = record { sent = r.sent; lines = r.lines + more }
+abbrev pub with_more_lines : ℕ → Recorded → Recorded
+with_more_lines more r = record { sent = r.sent; lines = r.lines + more }
 
 -- what is printed of a step: the role's text, or in a record the lines of the step
 abbrev pub shown : Option Recorded → List Event → List ℕ → List ℕ

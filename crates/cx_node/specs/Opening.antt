@@ -15,7 +15,7 @@ use Rattle.cx_edge.specs.Shelf.{same_shelf, shelf}
 use Rattle.cx_journal.specs.Files.{Files, files_image, files_records}
 use Rattle.cx_journal.specs.State.{has_some, records_or_none}
 use Rattle.cx_journal.specs.Store.{store_gates, store_told, store_whole}
-use Rattle.cx_journal.specs.declared.store.Store.{Store}
+use Rattle.cx_journal.specs.declared.store.RecordStore.{RecordStore}
 use Rattle.cx_model.specs.Acceptor.{acceptor_rules}
 use Rattle.cx_model.specs.Batcher.{batcher_rules}
 use Rattle.cx_model.specs.Leader.{leader_rules}
@@ -77,37 +77,37 @@ IsBadAs c me files at kind.Replacer = IsBadStore replacer_rules c me files at
 IsBadAs c me files at other = ⊥
 
 -- whether the store of a role that has one has a record
-abbrev pub is_used : RoleId → Files → Bool
-is_used me files = is_durable me.kind && has_some (records_or_none (files_image (Some me.kind) files))
+abbrev pub is_store_used : RoleId → Files → Bool
+is_store_used me files = is_durable me.kind && has_some (records_or_none (files_image (Some me.kind) files))
 
 -- the first of these roles whose store is not one of its own, and the place of the first fault in it
-pub record IsFirstBad (roles : List RoleId) (c : Cluster) (held : RoleId → Files) (role : RoleId)
+pub record IsFirstBad (roles : List RoleId) (c : Cluster) (stored : RoleId → Files) (role : RoleId)
     (at : ℕ) : Type 0 where
   pub place : ℕ
   pub here : slice_get roles place ≡ Some role
-  pub bad : IsBadAs c role (held role) at role.kind
+  pub bad : IsBadAs c role (stored role) at role.kind
   pub first : (i : ℕ) (other : RoleId) (fault : ℕ) → i < place → slice_get roles i ≡ Some other
-      → IsBadAs c other (held other) fault other.kind → ⊥
+      → IsBadAs c other (stored other) fault other.kind → ⊥
 
 -- the first of these roles whose store has a record
-pub record IsFirstUsed (roles : List RoleId) (held : RoleId → Files) (role : RoleId) : Type 0 where
+pub record IsFirstUsed (roles : List RoleId) (stored : RoleId → Files) (role : RoleId) : Type 0 where
   pub place : ℕ
   pub here : slice_get roles place ≡ Some role
-  pub used : is_used role (held role) ≡ true
-  pub first : (i : ℕ) (other : RoleId) → i < place → slice_get roles i ≡ Some other → is_used other (held other) ≡ false
+  pub used : is_store_used role (stored role) ≡ true
+  pub first : (i : ℕ) (other : RoleId) → i < place → slice_get roles i ≡ Some other → is_store_used other (stored other) ≡ false
 
 -- a store, over two disks or one, has these records, as far as its disks' bytes are known, and nothing has failed
 pub record HasRecords {D : Type 0} (seen : D → Option (List ℕ)) (disk_faults : D → ℕ) (tells second : Bool)
-    (records : List Record) (store : Store D) : Type 0 where
+    (records : List Record) (store : RecordStore D) : Type 0 where
   pub whole : store_whole store ≡ true
   pub sides : is_two store ≡ second
-  pub told : tells ≡ true → is_some (store_told seen store) ≡ true
+  pub is_seen : tells ≡ true → is_some (store_told seen store) ≡ true
   pub kept : tells ≡ true → files_records (store_told seen store) ≡ records
   pub gates : length (store_gates store) ≡ length records + 1
   pub faultless : NoneFailed disk_faults store
 
 abbrev pub HasStore : {D : Type 0} → (D → Option (List ℕ)) → (D → ℕ) → Bool → Bool → List Record → Bool
-    → Option (Store D) → Type 0
+    → Option (RecordStore D) → Type 0
 HasStore seen disk_faults tells second records true None = ⊥
 HasStore seen disk_faults tells second records true (Some s) = HasRecords seen disk_faults tells second records s
 HasStore seen disk_faults tells second records false None = Unit {0}
@@ -116,36 +116,36 @@ HasStore seen disk_faults tells second records false (Some s) = ⊥
 -- A role was opened from the bytes of its store, if it has one: they have records none of which it refuses, and its
 -- store has them.
 pub record IsOpened {D : Type 0} (seen : D → Option (List ℕ)) (disk_faults : D → ℕ) (c : Cluster) (window : ℕ)
-    (events : List Event) (tells : Bool) (files : Files) (me : RoleId) (guest : Guest (Store D)) : Type 0 where
+    (events : List Event) (tells : Bool) (files : Files) (me : RoleId) (guest : Guest (RecordStore D)) : Type 0 where
   pub records : List Record
   pub hosted : hosted_of guest ≡ opened_as c window events me records me.kind
   pub accepted : refused_as c me records me.kind ≡ None
   pub read : tells ≡ true → is_durable me.kind ≡ true → files_image (Some me.kind) files ≡ Ok records
   pub stored : HasStore seen disk_faults tells (has_second me.kind) records (is_durable me.kind) (keeper_of guest)
 
--- the first roles of a list were opened, each from what its store held
+-- the first roles of a list were opened, each from what its store had
 abbrev pub AreOpened : {D : Type 0} → (D → Option (List ℕ)) → (D → ℕ) → Cluster → ℕ → List Event → Bool
-    → (RoleId → Files) → List RoleId → List (Guest (Store D)) → Type 0
-AreOpened {D} seen disk_faults c window events tells held roles guests =
-    (i : ℕ) (guest : Guest (Store D)) → slice_get guests i ≡ Some guest
-    → (me : RoleId) × (slice_get roles i ≡ Some me) × IsOpened seen disk_faults c window events tells (held me) me guest
+    → (RoleId → Files) → List RoleId → List (Guest (RecordStore D)) → Type 0
+AreOpened {D} seen disk_faults c window events tells stored roles guests =
+    (i : ℕ) (guest : Guest (RecordStore D)) → slice_get guests i ≡ Some guest
+    → (me : RoleId) × (slice_get roles i ≡ Some me) × IsOpened seen disk_faults c window events tells (stored me) me guest
 
 -- whether a role's store, if it has one, has a record: more gates than the closed one
-abbrev pub holds_record : {D : Type 0} → Option (Store D) → Bool
+abbrev pub holds_record : {D : Type 0} → Option (RecordStore D) → Bool
 holds_record None = false
 holds_record (Some store) = not (length (store_gates store) == 1)
 
 -- the first of these roles whose store has a record, if one has
-abbrev pub first_holding : {D : Type 0} → List (Guest (Store D)) → Option RoleId
+abbrev pub first_holding : {D : Type 0} → List (Guest (RecordStore D)) → Option RoleId
 first_holding [] = None
 first_holding (guest ∷ guests) = if holds_record (keeper_of guest) then Some (who guest) else first_holding guests
 
 -- the disks of their stores, in their order
-abbrev pub disks_in : {D : Type 0} → List (Guest (Store D)) → List (Lent D)
+abbrev pub disks_in : {D : Type 0} → List (Guest (RecordStore D)) → List (Lent D)
 disks_in guests = flat_map (λ g. disks_of (who g) (keeper_of g)) guests
 
 -- the places of these
-abbrev pub lent_to : {D : Type 0} → List (Guest (Store D)) → List Shelf
+abbrev pub lent_to : {D : Type 0} → List (Guest (RecordStore D)) → List Shelf
 lent_to guests = places_of (disks_in guests)
 
 -- ---- what opening asks for, and leaves
@@ -157,7 +157,7 @@ AreApart roles = (i j : ℕ) (me : RoleId) → slice_get roles i ≡ Some me →
 -- what a depot shows of a role stays
 abbrev pub StaysFor : {D S : Type 0} → DepotGhosts D S → D → D → RoleId → Type 0
 StaysFor by_depot old new who =
-    ((side : ℕ) → by_depot.held new (shelf who side) ≡ by_depot.held old (shelf who side))
+    ((side : ℕ) → by_depot.stored new (shelf who side) ≡ by_depot.stored old (shelf who side))
     × (by_depot.faults new who ≡ by_depot.faults old who)
 
 -- no store of this role is out
@@ -170,16 +170,16 @@ unwoken_stop me wake_stop.Failed = open_stop.StoreFault me
 unwoken_stop me (wake_stop.Bad at) = open_stop.BadStore me at
 unwoken_stop me wake_stop.NoMemory = open_stop.NoMemory
 
--- What the opening of a role leaves of a depot. These places are out besides, and what is held stays; or nothing more is
--- out, and each store holds the records that it held. A count rises only where the answer names its role, and what the
+-- What the opening of a role leaves of a depot. These places are out besides, and what is stored stays; or nothing more is
+-- out, and each store holds the records that it had. A count rises only where the answer names its role, and what the
 -- depot shows of other roles stays.
 pub record LendsFor {D S X : Type 0} (by_depot : DepotGhosts D S) (me : RoleId) (result : Result X OpenStop)
     (lent : X → List Shelf) (old new : D) : Type 0 where
   pub out : IfOk result (λ x. by_depot.out new ≡ by_depot.out old ++ lent x)
   pub given_back : OnErr result (by_depot.out new ≡ by_depot.out old)
-  pub told : by_depot.tells new ≡ by_depot.tells old
-  pub stays : OnOk result ((place : Shelf) → by_depot.held new place ≡ by_depot.held old place)
-  pub held : by_depot.tells old ≡ true → SameRecords (files_of (by_depot.held old)) (files_of (by_depot.held new))
+  pub tells_same : by_depot.tells new ≡ by_depot.tells old
+  pub stays : OnOk result ((place : Shelf) → by_depot.stored new place ≡ by_depot.stored old place)
+  pub stored : by_depot.tells old ≡ true → SameRecords (files_of (by_depot.stored old)) (files_of (by_depot.stored new))
   pub later : (who : RoleId) → by_depot.faults old who ≤ by_depot.faults new who
   pub others : (who : RoleId) → (result ≡ Err (open_stop.StoreFault who) → ⊥)
       → by_depot.faults new who ≡ by_depot.faults old who

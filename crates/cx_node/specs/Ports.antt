@@ -11,18 +11,18 @@ use Rattle.cx_model.specs.Names.{names_role}
 use Rattle.cx_edge.specs.Link.{Bind, Sending}
 
 -- how many roles come before those of a kind, by the kinds' codes
-abbrev pub before : Cluster → Kind → ℕ
-before c Client = 0
-before c Batcher = c.clients
-before c Leader = c.clients + c.batchers
-before c Proxy = c.clients + c.batchers + c.leaders
-before c Acceptor = c.clients + c.batchers + c.leaders + c.proxies
-before c Matchmaker = c.clients + c.batchers + c.leaders + c.proxies + c.acceptors
-before c Replica = c.clients + c.batchers + c.leaders + c.proxies + c.acceptors + c.pool
-before c Unbatcher = c.clients + c.batchers + c.leaders + c.proxies + c.acceptors + c.pool + c.replicas
-before c Reader =
+abbrev pub roles_before : Cluster → Kind → ℕ
+roles_before c Client = 0
+roles_before c Batcher = c.clients
+roles_before c Leader = c.clients + c.batchers
+roles_before c Proxy = c.clients + c.batchers + c.leaders
+roles_before c Acceptor = c.clients + c.batchers + c.leaders + c.proxies
+roles_before c Matchmaker = c.clients + c.batchers + c.leaders + c.proxies + c.acceptors
+roles_before c Replica = c.clients + c.batchers + c.leaders + c.proxies + c.acceptors + c.pool
+roles_before c Unbatcher = c.clients + c.batchers + c.leaders + c.proxies + c.acceptors + c.pool + c.replicas
+roles_before c Reader =
     c.clients + c.batchers + c.leaders + c.proxies + c.acceptors + c.pool + c.replicas + c.unbatchers
-before c Replacer =
+roles_before c Replacer =
     c.clients + c.batchers + c.leaders + c.proxies + c.acceptors + c.pool + c.replicas + c.unbatchers + c.readers
 
 abbrev pub first_port : Option ℕ → ℕ
@@ -31,7 +31,7 @@ first_port (Some port) = port
 
 -- the cluster's first port and a role's place among all roles, by kind and index; a port has 16 bits
 unfoldable pub port_of : Cluster → RoleId → ℕ
-port_of c r = (first_port c.base_port + before c r.kind + r.index) % 65536
+port_of c r = (first_port c.base_port + roles_before c r.kind + r.index) % 65536
 
 abbrev pub bind_of : Cluster → RoleId → Bind
 bind_of c r = record { role = r; port = port_of c r }

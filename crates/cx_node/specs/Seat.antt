@@ -4,7 +4,7 @@ use Rattle.cx_base.specs.declared.role.RoleId.{RoleId}
 use Rattle.cx_node.specs.declared.guest.Guest.{Guest}
 use Rattle.cx_node.specs.declared.guest.Guest.TheVariants as guest
 use Rattle.cx_node.specs.Guest.{hosted_of, who}
-use Rattle.cx_course.specs.Hosted.{is_live}
+use Rattle.cx_course.specs.Hosted.{is_live_role}
 
 -- the role by this name: what a failed append leaves of a role has no name of its own
 abbrev pub named : {K : Type 0} → RoleId → Guest K → Guest K
@@ -21,4 +21,4 @@ named me (guest.Replacer role keeper) = guest.Replacer (record role { me = me })
 
 -- a role that may take a step has this name
 abbrev pub IsNamed : {K : Type 0} → RoleId → Guest K → Type 0
-IsNamed me h = IsTrue (is_live (hosted_of h)) → me ≡ who h
+IsNamed me h = IsTrue (is_live_role (hosted_of h)) → me ≡ who h

@@ -15,22 +15,22 @@ use Rattle.cx_edge.specs.Link.{LinkHistory}
 use Rattle.cx_journal.specs.Files.{Files, files_image, files_records}
 use Rattle.cx_journal.specs.State.{records_or_none}
 use Rattle.cx_msg.specs.declared.kept.Record.{Record}
-use Rattle.cx_node.specs.declared.input.Heard.TheVariants.{Lines}
+use Rattle.cx_node.specs.declared.input.NodeInput.TheVariants.{Lines}
 use Rattle.cx_node.specs.declared.input.Refusal.{Refusal}
 use Rattle.cx_node.specs.declared.input.Refusal.TheVariants as refusal
 use Rattle.cx_node.specs.declared.node.RunEnd.{RunEnd}
 use Rattle.cx_node.specs.declared.node.RunEnd.TheVariants as end
-use Rattle.cx_course.specs.Action.{Action, Bound, Filled, HasTaken, Kept, Printed, Took, kept_in, printed_in}
-use Rattle.cx_keeper.specs.Keeper.{Change}
+use Rattle.cx_course.specs.Action.{Action, Bound, Filled, AreTakesOf, Kept, Printed, Took, kept_in, printed_in}
+use Rattle.cx_keeper.specs.Keeper.{KeeperChange}
 use Rattle.cx_course.specs.Changing.{changes_of, lists_after}
 use Rattle.cx_node.specs.Doing.{Linked}
 use Rattle.cx_course.specs.Hosted.{Hosted}
 use Rattle.cx_node.specs.Input.{FailsRead, input_of, refused_of}
-use Rattle.cx_course.specs.Run.{Takes}
+use Rattle.cx_course.specs.Run.{TakeResults}
 use Rattle.cx_node.specs.Node.{IsEnd, IsUnderway}
 use Rattle.cx_node.specs.Opening.{IsBadAs, IsFirstBad, IsFirstUsed, is_durable, opened_as}
 use Rattle.cx_course.specs.Course.{Course, Moved, course_of}
-use Rattle.cx_course.specs.Follows.{FollowsBetween, KeepsNext}
+use Rattle.cx_course.specs.Follows.{FollowsBetween, EachKeptIsNext}
 use Rattle.cx_node.specs.Stores.{files_of}
 use Rattle.cx_course.specs.Tending.{node_run}
 
@@ -44,7 +44,7 @@ pub record Outside : Type 0 where
   pub out : Option (List ℕ)
   pub writes : ℕ
   pub tells : Bool
-  pub held : RoleId → Files
+  pub stored : RoleId → Files
   pub stores : RoleId → ℕ
 
 -- what is outside, where so much is left of a source, and so many of its reads have failed
@@ -54,12 +54,12 @@ outside_read by_link by_depot by_out left reads link depot out =
     record {
       left = left;
       reads = reads;
-      link = by_link.told link;
+      link = by_link.history link;
       links = by_link.faults link;
       out = by_out.taken out;
       writes = by_out.faults out;
       tells = by_depot.tells depot;
-      held = files_of (by_depot.held depot);
+      stored = files_of (by_depot.stored depot);
       stores = by_depot.faults depot;
     }
 
@@ -70,21 +70,21 @@ outside by_input by_link by_depot by_out input link depot out =
     outside_read by_link by_depot by_out (by_input.left input) (by_input.faults input) link depot out
 
 -- the records of a store, as a role of its own kind opens it
-abbrev pub told_to : (RoleId → Files) → RoleId → List Record
-told_to held me = records_or_none (files_image (Some me.kind) (held me))
+abbrev pub records_in_files : (RoleId → Files) → RoleId → List Record
+records_in_files stored me = records_or_none (files_image (Some me.kind) (stored me))
 
 -- the hosted roles as they are opened, each from these records
 abbrev pub hosts : Cluster → ℕ → List Event → (RoleId → List Record) → List RoleId → List Hosted
-hosts c window events told roles = map (λ (me : RoleId). opened_as c window events me (told me) me.kind) roles
+hosts c window events recovered roles = map (λ (me : RoleId). opened_as c window events me (recovered me) me.kind) roles
 
 -- these roles as a node begins with them; one that records has the header of its record
 abbrev pub begun_with : Option (List ℕ) → Cluster → ℕ → List Event → (RoleId → List Record) → List RoleId → Course
-begun_with header c window events told roles = course_of (is_some header) (hosts c window events told roles)
+begun_with header c window events recovered roles = course_of (is_some header) (hosts c window events recovered roles)
 
 -- the run of these roles over what the takes of a link gave
-abbrev pub run_of : Option ℕ → Option (List ℕ) → Cluster → ℕ → List Event → (RoleId → List Record) → List RoleId → Takes
+abbrev pub run_of : Option ℕ → Option (List ℕ) → Cluster → ℕ → List Event → (RoleId → List Record) → List RoleId → TakeResults
     → Moved Course
-run_of tend header c window events told roles takes = node_run tend c takes (begun_with header c window events told roles)
+run_of tend header c window events recovered roles takes = node_run tend c takes (begun_with header c window events recovered roles)
 
 -- the header of the record of a node that records, where the input has this one
 abbrev pub recorded_header : Bool → List ℕ → Option (List ℕ)
@@ -92,7 +92,7 @@ recorded_header true text = Some text
 recorded_header false text = None
 
 -- the input says this cluster and these requests, and is refused for nothing; a node that records has its header
-pub record Says (recording : Bool) (roles : List RoleId) (left : Option (List ℕ)) (header : Option (List ℕ)) (c : Cluster)
+pub record InputSays (recording : Bool) (roles : List RoleId) (left : Option (List ℕ)) (header : Option (List ℕ)) (c : Cluster)
     (events : List Event) : Type 0 where
   pub text : List ℕ
   pub header_is : header ≡ recorded_header recording text
@@ -100,19 +100,19 @@ pub record Says (recording : Bool) (roles : List RoleId) (left : Option (List �
       × (refused_of recording roles (input_of all) ≡ None))
 
 -- what the roles were opened from is what the depot holds, where that is known
-abbrev pub IsTold : Outside → (RoleId → List Record) → Type 0
-IsTold old told = old.tells ≡ true → (me : RoleId) → is_durable me.kind ≡ true → told me ≡ told_to old.held me
+abbrev pub AreDepotRecords : Outside → (RoleId → List Record) → Type 0
+AreDepotRecords old recovered = old.tells ≡ true → (me : RoleId) → is_durable me.kind ≡ true → recovered me ≡ records_in_files old.stored me
 
 -- what a record begins with: the header, and the line that ends it
-abbrev pub head_text : Option (List ℕ) → List ℕ
-head_text None = []
-head_text (Some header) = header ++ codes "---\n"
+abbrev pub record_head : Option (List ℕ) → List ℕ
+record_head None = []
+record_head (Some header) = header ++ codes "---\n"
 
 -- All that is done to the end of a run: each role is bound to its port, a record is begun, and then come the actions of the run.
-abbrev pub whole_run : Option ℕ → Option (List ℕ) → Cluster → ℕ → List Event → (RoleId → List Record) → List RoleId → Takes
+abbrev pub whole_run : Option ℕ → Option (List ℕ) → Cluster → ℕ → List Event → (RoleId → List Record) → List RoleId → TakeResults
     → List Action
-whole_run tend header c window events told roles takes =
-    map Bound roles ++ (map Printed (head_text header) ++ (run_of tend header c window events told roles takes).actions)
+whole_run tend header c window events recovered roles takes =
+    map Bound roles ++ (map Printed (record_head header) ++ (run_of tend header c window events recovered roles takes).actions)
 
 -- These actions were done, and no others: the link's history has their binds, takes and sends, their bytes are
 -- printed, and each hosted role's store has the list that it had, after their changes of it. Of a role that isn't
@@ -121,38 +121,38 @@ pub record Did (roles : List RoleId) (c : Cluster) (actions : List Action) (old 
   pub link : Linked c actions old.link new.link
   pub printed : Appends old.out new.out (printed_in actions)
   pub stores : old.tells ≡ true → (i : ℕ) (me : RoleId) → slice_get roles i ≡ Some me → is_durable me.kind ≡ true
-      → files_records (Some (new.held me))
-      ≡ lists_after (files_records (Some (old.held me))) (changes_of me (kept_in actions))
+      → files_records (Some (new.stored me))
+      ≡ lists_after (files_records (Some (old.stored me))) (changes_of me (kept_in actions))
   pub others : (me : RoleId) → ((i : ℕ) → slice_get roles i ≡ Some me → ⊥)
-      → (new.held me ≡ old.held me) × (new.stores me ≡ old.stores me)
+      → (new.stored me ≡ old.stored me) × (new.stores me ≡ old.stores me)
   pub tells : new.tells ≡ old.tells
 
 -- A recorded run: the stores were empty, and at each moment between two of these steps what was done is the model's run of the events
 -- that were recorded by then.
-pub record IsRecorded (roles : List RoleId) (c : Cluster) (told : RoleId → List Record) (actions : List Action) : Type 0 where
-  pub fresh : (i : ℕ) (me : RoleId) → slice_get roles i ≡ Some me → is_durable me.kind ≡ true → told me ≡ []
+pub record IsRecordedRun (roles : List RoleId) (c : Cluster) (recovered : RoleId → List Record) (actions : List Action) : Type 0 where
+  pub fresh : (i : ℕ) (me : RoleId) → slice_get roles i ≡ Some me → is_durable me.kind ≡ true → recovered me ≡ []
   pub follows : FollowsBetween c actions
-  pub in_flight : KeepsNext c actions
+  pub in_flight : EachKeptIsNext c actions
 
 -- A whole run was done: over what the takes of the link gave, and from the records that the stores had.
 pub record Served (roles : List RoleId) (tend : Option ℕ) (header : Option (List ℕ)) (c : Cluster) (window : ℕ) (events : List Event)
-    (told : RoleId → List Record) (takes : Takes) (old new : Outside) : Type 0 where
-  pub told_by : IsTold old told
+    (recovered : RoleId → List Record) (takes : TakeResults) (old new : Outside) : Type 0 where
+  pub recovered_is : AreDepotRecords old recovered
   pub told_whole : old.tells ≡ true → (i : ℕ) (me : RoleId) → slice_get roles i ≡ Some me → is_durable me.kind ≡ true
-      → files_records (Some (old.held me)) ≡ told me
-  pub taken : HasTaken takes (run_of tend header c window events told roles takes).actions
-  pub did : Did roles c (whole_run tend header c window events told roles takes) old new
-  pub recorded : is_some header ≡ true → IsRecorded roles c told (run_of tend header c window events told roles takes).actions
+      → files_records (Some (old.stored me)) ≡ recovered me
+  pub taken : AreTakesOf takes (run_of tend header c window events recovered roles takes).actions
+  pub did : Did roles c (whole_run tend header c window events recovered roles takes) old new
+  pub recorded : is_some header ≡ true → IsRecordedRun roles c recovered (run_of tend header c window events recovered roles takes).actions
 
 -- The first actions of a run were done, one after the other, and no others. What the link gave is in them too, so
 -- each rests on what was taken and kept before it; what the takes to come would give is free.
 pub record ServedPart (roles : List RoleId) (tend : Option ℕ) (header : Option (List ℕ)) (c : Cluster) (window : ℕ)
-    (events : List Event) (told : RoleId → List Record) (takes : Takes) (count : ℕ) (old new : Outside) : Type 0 where
-  pub told_by : IsTold old told
-  pub did : Did roles c (take count (whole_run tend header c window events told roles takes)) old new
+    (events : List Event) (recovered : RoleId → List Record) (takes : TakeResults) (count : ℕ) (old new : Outside) : Type 0 where
+  pub recovered_is : AreDepotRecords old recovered
+  pub did : Did roles c (take count (whole_run tend header c window events recovered roles takes)) old new
   -- a record is begun once all stores are opened, and were empty
   pub recorded : is_some header ≡ true → length roles < count
-      → IsRecorded roles c told (run_of tend header c window events told roles takes).actions
+      → IsRecordedRun roles c recovered (run_of tend header c window events recovered roles takes).actions
 
 -- the input was read to its end, and no read failed
 abbrev pub AllRead : Outside → Outside → Type 0
@@ -161,19 +161,19 @@ AllRead old new = IsAtEnd new.left × (new.reads ≡ old.reads)
 -- the input was accepted, and the whole run was made, to this end
 abbrev pub Ends : List RoleId → Option ℕ → ℕ → Bool → ℕ → RunEnd → Outside → Outside → Type 0
 Ends roles tend window recording turns e old new =
-    (header : Option (List ℕ)) × (c : Cluster) × (events : List Event) × (told : RoleId → List Record) × (takes : Takes)
-    × Says recording roles old.left header c events × AllRead old new
-    × Served roles tend header c window events told takes old new
-    × IsEnd tend c turns (begun_with header c window events told roles) takes e
+    (header : Option (List ℕ)) × (c : Cluster) × (events : List Event) × (recovered : RoleId → List Record) × (takes : TakeResults)
+    × InputSays recording roles old.left header c events × AllRead old new
+    × Served roles tend header c window events recovered takes old new
+    × IsEnd tend c turns (begun_with header c window events recovered roles) takes e
 
--- the input was accepted, and the first actions of its run were done; this one was next, if that is told
+-- the input was accepted, and the first actions of its run were done; this one was next, if that is known
 abbrev pub EndsAt : Option Action → List RoleId → Option ℕ → ℕ → Bool → ℕ → Outside → Outside → Type 0
 EndsAt next roles tend window recording turns old new =
-    (header : Option (List ℕ)) × (c : Cluster) × (events : List Event) × (told : RoleId → List Record) × (takes : Takes) × (count : ℕ)
-    × Says recording roles old.left header c events × AllRead old new
-    × ServedPart roles tend header c window events told takes count old new
-    × IsUnderway tend c turns (begun_with header c window events told roles) takes
-    × IfSome next (λ (action : Action). slice_get (whole_run tend header c window events told roles takes) count ≡ Some action)
+    (header : Option (List ℕ)) × (c : Cluster) × (events : List Event) × (recovered : RoleId → List Record) × (takes : TakeResults) × (count : ℕ)
+    × InputSays recording roles old.left header c events × AllRead old new
+    × ServedPart roles tend header c window events recovered takes count old new
+    × IsUnderway tend c turns (begun_with header c window events recovered roles) takes
+    × IfSome next (λ (action : Action). slice_get (whole_run tend header c window events recovered roles takes) count ≡ Some action)
 
 -- the input was accepted, and the first actions of its run were done
 abbrev pub EndsEarly : List RoleId → Option ℕ → ℕ → Bool → ℕ → Outside → Outside → Type 0
@@ -183,17 +183,17 @@ EndsEarly roles tend window recording turns old new = EndsAt None roles tend win
 abbrev pub EndsBinding : List RoleId → Bool → Outside → Outside → Type 0
 EndsBinding roles recording old new =
     (header : Option (List ℕ)) × (c : Cluster) × (events : List Event) × (bound : ℕ)
-    × Says recording roles old.left header c events × AllRead old new × Did roles c (map Bound (take bound roles)) old new
+    × InputSays recording roles old.left header c events × AllRead old new × Did roles c (map Bound (take bound roles)) old new
 
 -- The input was accepted, and all before a change of this role's store was done, and nothing after; the change itself was made or not.
 abbrev pub EndsAtChange : RoleId → List RoleId → Option ℕ → ℕ → Bool → ℕ → Outside → Outside → Type 0
 EndsAtChange role roles tend window recording turns old new =
-    (header : Option (List ℕ)) × (c : Cluster) × (events : List Event) × (told : RoleId → List Record) × (takes : Takes) × (count : ℕ)
-    × (change : Change) × Says recording roles old.left header c events × AllRead old new
-    × (ServedPart roles tend header c window events told takes count old new
-    ⊎ ServedPart roles tend header c window events told takes (suc count) old new)
-    × IsUnderway tend c turns (begun_with header c window events told roles) takes
-    × (slice_get (whole_run tend header c window events told roles takes) count
+    (header : Option (List ℕ)) × (c : Cluster) × (events : List Event) × (recovered : RoleId → List Record) × (takes : TakeResults) × (count : ℕ)
+    × (change : KeeperChange) × InputSays recording roles old.left header c events × AllRead old new
+    × (ServedPart roles tend header c window events recovered takes count old new
+    ⊎ ServedPart roles tend header c window events recovered takes (suc count) old new)
+    × IsUnderway tend c turns (begun_with header c window events recovered roles) takes
+    × (slice_get (whole_run tend header c window events recovered roles takes) count
     ≡ Some (Kept (record { role = role; change = change })))
 
 -- nothing but the source was used
@@ -203,7 +203,7 @@ pub record IsUntouched (old new : Outside) : Type 0 where
   pub out : new.out ≡ old.out
   pub writes : new.writes ≡ old.writes
   pub tells : new.tells ≡ old.tells
-  pub held : (me : RoleId) → new.held me ≡ old.held me
+  pub stored : (me : RoleId) → new.stored me ≡ old.stored me
   pub stores : (me : RoleId) → new.stores me ≡ old.stores me
 
 -- the status of an input that is refused
@@ -219,7 +219,7 @@ AnswersPart recording roles left left_after s =
     (why : Refusal) × (s ≡ refused_status why) × FailsRead recording roles left left_after why
 
 -- What a node answered: what was done, and why.
-pub record Answered (roles : List RoleId) (tend : Option ℕ) (window : ℕ) (recording : Bool) (turns : ℕ) (old new : Outside)
+pub record IsNodeAnswer (roles : List RoleId) (tend : Option ℕ) (window : ℕ) (recording : Bool) (turns : ℕ) (old new : Outside)
     (s : Status) : Type 0 where
   -- Done: all hosted clients have finished, or none is hosted and all turns were made; Turns: all were made, and a
   -- client hasn't finished.
@@ -245,12 +245,12 @@ pub record Answered (roles : List RoleId) (tend : Option ℕ) (window : ℕ) (re
   -- The first store that isn't one of its role's is reported with the place of its first fault.
   pub bad_store : (role : RoleId) (at : ℕ) → s ≡ status.BadStore role at → EndsEarly roles tend window recording turns old new
   pub bad_place : (role : RoleId) (at : ℕ) → s ≡ status.BadStore role at → old.tells ≡ true
-      → (header : Option (List ℕ)) × (c : Cluster) × (events : List Event) × Says recording roles old.left header c events
-      × IsFirstBad roles c old.held role at
+      → (header : Option (List ℕ)) × (c : Cluster) × (events : List Event) × InputSays recording roles old.left header c events
+      × IsFirstBad roles c old.stored role at
   -- Of a node that is to record: the first store that has a record is reported, and nothing is printed.
   pub not_fresh : (role : RoleId) → s ≡ status.NotFresh role
       → (recording ≡ true) × EndsEarly roles tend window recording turns old new × (new.out ≡ old.out)
-  pub used : (role : RoleId) → s ≡ status.NotFresh role → old.tells ≡ true → IsFirstUsed roles old.held role
+  pub used : (role : RoleId) → s ≡ status.NotFresh role → old.tells ≡ true → IsFirstUsed roles old.stored role
   -- The lines of the next step don't fit the record; all before it was done.
   pub record_full : s ≡ status.RecordFull → (recording ≡ true) × EndsAt (Some Filled) roles tend window recording turns old new
   pub no_memory : s ≡ status.NoMemory → IsUntouched old new ⊎ EndsEarly roles tend window recording turns old new
@@ -276,8 +276,8 @@ pub record IsGood (recording : Bool) (roles : List RoleId) (old : Outside) : Typ
   pub accepted : refused_of recording roles (input_of all) ≡ None
   pub tells : old.tells ≡ true
   pub stores : (header : Option (List ℕ)) (c : Cluster) (events : List Event) (i : ℕ) (role : RoleId) (at : ℕ)
-      → Says recording roles old.left header c events
-      → slice_get roles i ≡ Some role → IsBadAs c role (old.held role) at role.kind → ⊥
+      → InputSays recording roles old.left header c events
+      → slice_get roles i ≡ Some role → IsBadAs c role (old.stored role) at role.kind → ⊥
 
 -- the run came to its end, or to the end of its record, or memory ran out; or a store has a record, of a node that is to record
 abbrev pub EndsWell : Bool → Status → Type 0
@@ -289,13 +289,13 @@ EndsWell recording (status.NotFresh role) = recording ≡ true
 EndsWell recording other = ⊥
 
 -- Where all is good and nothing fails, the run comes to its end, or memory ran out.
-abbrev pub Completes : Bool → List RoleId → Outside → Outside → Status → Type 0
-Completes recording roles old new s = NoFault old new → IsGood recording roles old → EndsWell recording s
+abbrev pub NodeCompletes : Bool → List RoleId → Outside → Outside → Status → Type 0
+NodeCompletes recording roles old new s = NoFault old new → IsGood recording roles old → EndsWell recording s
 
 -- Where all is good and nothing fails, a node that is to record always reports a store that has a record, or memory ran out.
 abbrev pub TellsUsed : Bool → List RoleId → Outside → Outside → Status → Type 0
 TellsUsed recording roles old new s =
-    NoFault old new → IsGood recording roles old → recording ≡ true → (role : RoleId) → IsFirstUsed roles old.held role
+    NoFault old new → IsGood recording roles old → recording ≡ true → (role : RoleId) → IsFirstUsed roles old.stored role
     → (s ≡ status.NotFresh role) ⊎ (s ≡ status.NoMemory)
 
 -- Where the whole input is known and accepted and nothing fails, a store that isn't one of its role's is always
@@ -304,5 +304,5 @@ abbrev pub TellsBad : Bool → List RoleId → Outside → Outside → Status �
 TellsBad recording roles old new s =
     NoFault old new → old.tells ≡ true → (all : List ℕ) → old.left ≡ Some all
     → (header : Option (List ℕ)) (c : Cluster) (events : List Event) (role : RoleId) (at : ℕ)
-    → Says recording roles old.left header c events → IsFirstBad roles c old.held role at
+    → InputSays recording roles old.left header c events → IsFirstBad roles c old.stored role at
     → (s ≡ status.BadStore role at) ⊎ (s ≡ status.NoMemory)

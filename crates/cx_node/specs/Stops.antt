@@ -8,7 +8,7 @@ use Rattle.cx_base.specs.declared.event.Event.TheVariants as event
 use Rattle.cx_base.specs.declared.role.RoleId.{RoleId}
 use Rattle.cx_journal.specs.Files.{Files, files_image, files_records}
 use Rattle.cx_journal.specs.Store.{store_told, store_whole}
-use Rattle.cx_journal.specs.declared.store.Store.{Store}
+use Rattle.cx_journal.specs.declared.store.RecordStore.{RecordStore}
 use Rattle.cx_inv_open.specs.Reopened.{stored_as}
 use Rattle.cx_model.specs.World.{change, kept_by, run}
 use Rattle.cx_msg.specs.declared.input.Written.{Written}
@@ -43,11 +43,11 @@ MayChange (event.Restart r) = ⊥
 
 -- A role's store has the list that a run leaves in it, and in the next event, if it is whole, the role changes it so.
 pub record IsNextChange {D : Type 0} (seen : D → Option (List ℕ)) (c : Cluster) (es : List Event) (e : Event)
-    (me : RoleId) (what : Written) (store : Store D) : Type 0 where
+    (me : RoleId) (what : Written) (store : RecordStore D) : Type 0 where
   pub may_change : MayChange e
   pub whole : store_whole store ≡ true
   pub sides : is_two store ≡ has_second me.kind
-  pub told : is_some (store_told seen store) ≡ true
+  pub is_seen : is_some (store_told seen store) ≡ true
   pub records : files_records (store_told seen store) ≡ stored_as me (run c es).kept me.kind
   pub next : (change (run c es) (with_cut Whole e)).kept ≡ kept_by me (Some what)
 

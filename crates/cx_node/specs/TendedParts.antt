@@ -16,8 +16,8 @@ ActsTended gives c part result before old new =
     Acts gives c [] (without_care (part (tended before (course_in old)))) result old new
 
 -- what is counted after it
-abbrev pub Counts : (Tended → Moved Tended) → Result (Unit {0}) Stop → Care → Care → Course → Type 0
-Counts part result before after s = OnOk result (after ≡ (part (tended before s)).next.care)
+abbrev pub IsCareAfter : (Tended → Moved Tended) → Result (Unit {0}) Stop → Care → Care → Course → Type 0
+IsCareAfter part result before after s = OnOk result (after ≡ (part (tended before s)).next.care)
 
 -- a turn, by what its take gave: what the roles did, and what is counted after it
 abbrev pub ActsTurn : {K : Type 0} → Changing K → Cluster → (Option (List ℕ) → Tended → Moved Tended)

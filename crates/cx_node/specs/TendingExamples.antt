@@ -11,17 +11,17 @@ use Rattle.cx_msg.specs.declared.message.Msg.TheVariants as msg
 use Rattle.cx_course.specs.Action.{sent_in}
 use Rattle.cx_course.specs.Hosted.{Hosted, ClientAt, ReplicaAt}
 use Rattle.cx_course.specs.Course.{Course, Moved, course_of, stays}
-use Rattle.cx_course.specs.Tending.{Care, Tended, asks_again, collected, counted, first_leader, is_beat, is_time, leader_tended, next_pass, no_care, reported, tend_ordered, untended}
+use Rattle.cx_course.specs.Tending.{Care, Tended, asks_again, collected, care_after_turn, first_leader, is_beat, is_time, leader_tended, next_pass, no_care, reported, tend_ordered, untended}
 
 -- n takes gave nothing
 abbrev pub quiet : ℕ → Care → Care
 quiet zero k = k
-quiet (suc n) k = counted false (quiet n k)
+quiet (suc n) k = care_after_turn false (quiet n k)
 
 -- each of n takes gave something
 abbrev pub busy : ℕ → Care → Care
 busy zero k = k
-busy (suc n) k = counted true (busy n k)
+busy (suc n) k = care_after_turn true (busy n k)
 
 abbrev pub fresh : Care
 fresh = no_care []
@@ -30,8 +30,8 @@ fresh = no_care []
 pub record Beats : Type 0 where
   pub quiet_64 : is_beat 1024 (quiet 64 fresh) ≡ true
   pub quiet_63 : is_beat 1024 (quiet 63 fresh) ≡ false
-  pub quiet_64_behind : is_beat 1024 (quiet 64 (counted true fresh)) ≡ false
-  pub quiet_65_behind : is_beat 1024 (quiet 65 (counted true fresh)) ≡ true
+  pub quiet_64_behind : is_beat 1024 (quiet 64 (care_after_turn true fresh)) ≡ false
+  pub quiet_65_behind : is_beat 1024 (quiet 65 (care_after_turn true fresh)) ≡ true
   pub busy_80 : is_beat 80 (busy 80 fresh) ≡ true
   pub busy_79 : is_beat 80 (busy 79 fresh) ≡ false
 
@@ -74,8 +74,8 @@ client_with index n =
     ClientAt (record { cluster = one_of_each; me = role Client index; script = replicate (suc n) (event.Read index 1 0 0 0 []); done = n; window = 1; heard = 0 })
 
 -- the read that it sends
-abbrev pub asks : ℕ → Letter
-asks index = letter (role Client index) (role Reader 0) (msg.ReadReq 1 0 [])
+abbrev pub read_sent_by : ℕ → Letter
+read_sent_by index = letter (role Client index) (role Reader 0) (msg.ReadReq 1 0 [])
 
 -- three clients that have completed so many
 abbrev pub three_with : ℕ → ℕ → ℕ → List Hosted
@@ -97,7 +97,7 @@ third_end = ends_with (three_with 7 7 7) second_end.next.care
 
 -- who waits asks again, and who waits longest asks first: at the end of the second pass client 2 before client 0
 pub record Queues : Type 0 where
-  pub first : sent_in first_end.actions ≡ asks 1 ∷ asks 2 ∷ []
-  pub second : sent_in second_end.actions ≡ asks 2 ∷ asks 0 ∷ []
-  pub third : sent_in third_end.actions ≡ asks 0 ∷ asks 1 ∷ []
+  pub first : sent_in first_end.actions ≡ read_sent_by 1 ∷ read_sent_by 2 ∷ []
+  pub second : sent_in second_end.actions ≡ read_sent_by 2 ∷ read_sent_by 0 ∷ []
+  pub third : sent_in third_end.actions ≡ read_sent_by 0 ∷ read_sent_by 1 ∷ []
   pub order : third_end.next.care.queue ≡ 0 ∷ 1 ∷ 2 ∷ []

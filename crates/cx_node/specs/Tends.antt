@@ -13,7 +13,7 @@ use Rattle.cx_node.specs.Doing.{Scene}
 use Rattle.cx_course.specs.Hosted.{Hosted}
 use Rattle.cx_course.specs.Course.{Course, Moved}
 use Rattle.cx_course.specs.Run.{is_client}
-use Rattle.cx_course.specs.Tending.{Care, Tended, is_of, is_overtaken, without_care}
+use Rattle.cx_course.specs.Tending.{Care, Tended, is_of_kind, is_overtaken, without_care}
 
 -- these roles, with these counts
 abbrev pub tended : Care → Course → Tended
@@ -21,9 +21,9 @@ tended k s = record { care = k; course = s }
 
 -- which roles are meant, by their places, where these numbers were completed when the pass began
 abbrev pub is_meant : Whom → List ℕ → ℕ → Hosted → Bool
-is_meant (Kind k) marks = λ i h. is_of k h
-is_meant Others marks = λ i h. not (is_client h)
-is_meant Overtaken marks = is_overtaken marks
+is_meant (Kind k) counts = λ i h. is_of_kind k h
+is_meant Others counts = λ i h. not (is_client h)
+is_meant Overtaken counts = is_overtaken counts
 
 -- a test of a leader, which another role doesn't pass
 abbrev pub is_leader_so : (Running LeaderDurable LeaderVolatile → Bool)

@@ -17,7 +17,7 @@ pub record IsWoken {D V : Type 0} (rules : Rules D V) (c : Cluster) (me : RoleId
   pub accepted : refused rules c me records ≡ None
   pub read : (files : Files) → seen ≡ Some files → files_image (Some me.kind) files ≡ Ok records
   pub kept : (files : Files) → seen ≡ Some files → files_records seen_after ≡ records
-  pub told : is_some seen_after ≡ is_some seen
+  pub seen_same : is_some seen_after ≡ is_some seen
   pub each : length gates ≡ length records + 1
 
 -- The place, in the only or live file, at which the bytes are no store of this role: their first break, or that of the

@@ -8,9 +8,9 @@ ghost use Rattle.cx_node.specs.declared.node.Stop.TheVariants as stop;
 ghost use Rattle.cx_node.specs.Acts.{ActsPart, Blames, failed, scene_of};
 ghost use Rattle.cx_node.specs.Changing.{changing};
 ghost use Rattle.cx_node.specs.Guest.{AreReady, GuestGrows, KeeperFails, KeeperRests, hosted_in, hosted_of, who};
-ghost use Rattle.cx_course.specs.Hosted.{does, is_live};
-ghost use Rattle.cx_course.specs.Course.{does_at, fits, step_events};
-ghost use Rattle.cx_course.specs.Run.{all_do, at_place, place_of};
+ghost use Rattle.cx_course.specs.Hosted.{does, is_live_role};
+ghost use Rattle.cx_course.specs.Course.{does_at, has_room_for, step_events};
+ghost use Rattle.cx_course.specs.Run.{all_do, at_place, hosted_place};
 
 use crate::noting::{has_room, note_own, take_down};
 use crate::sending::send_all;
@@ -29,7 +29,7 @@ fn ask<K: Renew>(
     outbox: &mut Outbox,
     text: &mut Vec<u8>,
 ) -> Result<(), Stop>
-    requires live { IsTrue (is_live (hosted_of seat.old)) }
+    requires live { IsTrue (is_live_role (hosted_of seat.old)) }
     ensures role { OnOk result (hosted_of seat.new ≡ (does (hosted_of seat.old) what.now).next) }
     ensures kept { OnOk result (GuestGrows (changing K.append_gives K.renew_gives)
         (does (hosted_of seat.old) what.now).kept seat.old seat.new) }
@@ -44,7 +44,7 @@ fn ask<K: Renew>(
     ensures no_link { result ≡ Err stop.LinkFault → ⊥ }
     ensures no_full { result ≡ Err stop.RecordFull → ⊥ }
     ensures name { who seat.new ≡ who seat.old }
-    ensures live { OnOk result (IsTrue (is_live (hosted_of seat.new))) }
+    ensures live { OnOk result (IsTrue (is_live_role (hosted_of seat.new))) }
 {
     outbox.clear();
     text.clear();
@@ -66,7 +66,7 @@ fn ask_noting<K: Renew>(
     text: &mut Vec<u8>,
     events: &mut Vec<Event>,
 ) -> Result<(), Stop>
-    requires live { IsTrue (is_live (hosted_of seat.old)) }
+    requires live { IsTrue (is_live_role (hosted_of seat.old)) }
     ensures role { OnOk result (hosted_of seat.new ≡ (does (hosted_of seat.old) what.now).next) }
     ensures kept { OnOk result (GuestGrows (changing K.append_gives K.renew_gives)
         (does (hosted_of seat.old) what.now).kept seat.old seat.new) }
@@ -74,12 +74,12 @@ fn ask_noting<K: Renew>(
     ensures text { OnOk result (text.new.items ≡ (does (hosted_of seat.old) what.now).text) }
     ensures rests { result ≡ Err stop.NoMemory → KeeperRests (changing K.append_gives K.renew_gives) seat.old seat.new }
     ensures full { result ≡ Err stop.RecordFull
-        → (fits (Some recorder.now) (step_events (hosted_of seat.old) what.now) ≡ false)
+        → (has_room_for (Some recorder.now) (step_events (hosted_of seat.old) what.now) ≡ false)
         × KeeperRests (changing K.append_gives K.renew_gives) seat.old seat.new }
     ensures room { (role : RoleId) → result ≡ Err (stop.StoreFault role)
-        → fits (Some recorder.now) (step_events (hosted_of seat.old) what.now) ≡ true }
+        → has_room_for (Some recorder.now) (step_events (hosted_of seat.old) what.now) ≡ true }
     ensures events { OnOk result (events.new.items ≡ step_events (hosted_of seat.old) what.now) }
-    ensures fits { OnOk result (fits (Some recorder.now) events.new.items ≡ true) }
+    ensures fits { OnOk result (has_room_for (Some recorder.now) events.new.items ≡ true) }
     ensures failed { (role : RoleId) → result ≡ Err (stop.StoreFault role)
         → (who seat.old ≡ role)
         × KeeperFails (changing K.append_gives K.renew_gives)
@@ -87,7 +87,7 @@ fn ask_noting<K: Renew>(
     ensures no_write { result ≡ Err stop.WriteFault → ⊥ }
     ensures no_link { result ≡ Err stop.LinkFault → ⊥ }
     ensures name { who seat.new ≡ who seat.old }
-    ensures live { OnOk result (IsTrue (is_live (hosted_of seat.new))) }
+    ensures live { OnOk result (IsTrue (is_live_role (hosted_of seat.new))) }
 {
     note_own(seat.name(), what, events)?;
     if !has_room(recorder, events) {
@@ -110,7 +110,7 @@ fn ask_if<K: Renew>(
     text: &mut Vec<u8>,
     events: &mut Vec<Event>,
 ) -> Result<(), Stop>
-    requires live { IsTrue (is_live (hosted_of seat.old)) }
+    requires live { IsTrue (is_live_role (hosted_of seat.old)) }
     ensures role { OnOk result (hosted_of seat.new ≡ (does (hosted_of seat.old) what.now).next) }
     ensures kept { OnOk result (GuestGrows (changing K.append_gives K.renew_gives)
         (does (hosted_of seat.old) what.now).kept seat.old seat.new) }
@@ -118,13 +118,13 @@ fn ask_if<K: Renew>(
     ensures text { OnOk result (text.new.items ≡ (does (hosted_of seat.old) what.now).text) }
     ensures rests { result ≡ Err stop.NoMemory → KeeperRests (changing K.append_gives K.renew_gives) seat.old seat.new }
     ensures full { result ≡ Err stop.RecordFull
-        → (fits recorder.now (step_events (hosted_of seat.old) what.now) ≡ false)
+        → (has_room_for recorder.now (step_events (hosted_of seat.old) what.now) ≡ false)
         × KeeperRests (changing K.append_gives K.renew_gives) seat.old seat.new }
     ensures room { (role : RoleId) → result ≡ Err (stop.StoreFault role)
-        → fits recorder.now (step_events (hosted_of seat.old) what.now) ≡ true }
+        → has_room_for recorder.now (step_events (hosted_of seat.old) what.now) ≡ true }
     ensures events { OnOk result (IfSome recorder.now
         (λ r. events.new.items ≡ step_events (hosted_of seat.old) what.now)) }
-    ensures fits { OnOk result (fits recorder.now events.new.items ≡ true) }
+    ensures fits { OnOk result (has_room_for recorder.now events.new.items ≡ true) }
     ensures failed { (role : RoleId) → result ≡ Err (stop.StoreFault role)
         → (who seat.old ≡ role)
         × KeeperFails (changing K.append_gives K.renew_gives)
@@ -132,7 +132,7 @@ fn ask_if<K: Renew>(
     ensures no_write { result ≡ Err stop.WriteFault → ⊥ }
     ensures no_link { result ≡ Err stop.LinkFault → ⊥ }
     ensures name { who seat.new ≡ who seat.old }
-    ensures live { OnOk result (IsTrue (is_live (hosted_of seat.new))) }
+    ensures live { OnOk result (IsTrue (is_live_role (hosted_of seat.new))) }
 {
     match recorder {
         Some(recorder) => ask_noting(recorder, seat, what, outbox, text, events),
@@ -211,7 +211,7 @@ impl<K: Renew + Drop> Node<K> {
 
     // The place of a hosted role.
     pub fn find(&self, role: RoleId) -> Option<usize>
-        ensures { result ≡ place_of role (hosted_in self.now.guests) }
+        ensures { result ≡ hosted_place role (hosted_in self.now.guests) }
     {
         place_in(&self.seats, role)
     }
@@ -226,7 +226,7 @@ impl<K: Renew + Drop> Node<K> {
     ) -> Result<(), Stop>
         requires ready { AreReady self.old.cluster self.old.guests }
         ensures acts { ActsPart (changing K.append_gives K.renew_gives) self.old.cluster
-            (λ s. at_place (place_of role s.hosted) what.now s) result
+            (λ s. at_place (hosted_place role s.hosted) what.now s) result
             (scene_of L.Link W.Sink self.old link.old out.old) (scene_of L.Link W.Sink self.new link.new out.new) }
         ensures blames { Blames result (failed L.Link W.Sink link.old out.old) (failed L.Link W.Sink link.new out.new) }
         ensures cluster { self.new.cluster ≡ self.old.cluster }

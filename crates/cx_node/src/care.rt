@@ -4,7 +4,7 @@ ghost use Rattle.std.specs.Prelude.{◌≡◌, ◌&&◌, not, min, filter, List,
 ghost use Rattle.std.specs.List.{sum};
 ghost use Rattle.cx_base.specs.Lists.{below};
 ghost use Rattle.cx_course.specs.Hosted.{Hosted};
-ghost use Rattle.cx_course.specs.Tending.{asks_again, beat_over, clients_noted, counted, is_beat, is_marked, is_still};
+ghost use Rattle.cx_course.specs.Tending.{asks_again, beat_over, clients_noted, care_after_turn, is_beat, had_completed, is_still};
 ghost use Rattle.cx_course.specs.Tending.{is_time, leader_noted, no_care, pass_begun, passes, requeued};
 
 use cx_base::NoMemory;
@@ -27,9 +27,9 @@ pub struct Care {
     still: u32,
     // How many each hosted role had completed when the last pass began; and the places of all, in the order in which
     // clients ask at its end.
-    marks: Vec<u64>,
+    counts: Vec<u64>,
     queue: Vec<usize>,
-    // The leader's watermark at the last beat, and for how many beats it has not risen while a slot was open.
+    // The leader's chosen watermark at the last beat, and for how many beats it has not risen while a slot was open.
     cw: u64,
     stuck: u32,
 }
@@ -45,7 +45,7 @@ impl Model for Care {
       came = k.came;
       done = k.done;
       still = k.still;
-      marks = k.marks.items;
+      counts = k.counts.items;
       queue = k.queue.items;
       cw = k.cw;
       stuck = k.stuck;
@@ -72,11 +72,11 @@ fn places(alloc: Global, count: usize) -> Result<Vec<usize>, NoMemory>
 }
 
 // Whether the role at this place had completed this many.
-fn is_marked(marks: &[u64], place: usize, done: u64) -> bool
-    ensures { result ≡ is_marked marks.now place done }
+fn had_completed(counts: &[u64], place: usize, done: u64) -> bool
+    ensures { result ≡ had_completed counts.now place done }
 {
-    match marks.get(place) {
-        Some(mark) => *mark == done,
+    match counts.get(place) {
+        Some(count) => *count == done,
         None => false,
     }
 }
@@ -86,7 +86,7 @@ fn is_still(before: &[u64], now: &[u64], place: usize) -> bool
     ensures { result ≡ is_still before.now now.now place }
 {
     match now.get(place) {
-        Some(done) => is_marked(before, place, *done),
+        Some(done) => had_completed(before, place, *done),
         None => false,
     }
 }
@@ -145,7 +145,7 @@ impl Care {
     pub fn new(alloc: Global, roles: usize) -> Result<Self, NoMemory>
         ensures { (hs : List Hosted) → length hs ≡ roles → IfOk result (λ care. care ≡ no_care hs) }
     {
-        let Ok(marks) = vec![in alloc; 0u64; roles] else {
+        let Ok(counts) = vec![in alloc; 0u64; roles] else {
             return Err(NoMemory);
         };
         let queue = places(alloc, roles)?;
@@ -155,7 +155,7 @@ impl Care {
             came: false,
             done: 0,
             still: 0,
-            marks,
+            counts,
             queue,
             cw: 0,
             stuck: 0,
@@ -170,9 +170,9 @@ impl Care {
     }
 
     /// Counts a turn.
-    #[tactic(auto, unfolding(cx_course::specs::Tending::counted))]
+    #[tactic(auto, unfolding(cx_course::specs::Tending::care_after_turn))]
     pub fn count(&mut self, came: bool)
-        ensures { self.new ≡ counted came self.old }
+        ensures { self.new ≡ care_after_turn came self.old }
     {
         self.turns = self.turns.saturating_add(1);
         if !came && !self.came {
@@ -197,13 +197,13 @@ impl Care {
         self.empty = 0;
     }
 
-    /// Notes at a beat where the leader is: its watermark, and whether a slot is open.
+    /// Notes at a beat where the leader is: its chosen watermark, and whether a slot is open.
     #[tactic(auto, unfolding(cx_course::specs::Tending::leader_noted))]
-    pub fn note_leader(&mut self, watermark: u64, has_open: bool)
-        ensures { self.new ≡ leader_noted watermark has_open self.old }
+    pub fn note_leader(&mut self, cw: u64, has_open: bool)
+        ensures { self.new ≡ leader_noted cw has_open self.old }
     {
-        if self.cw < watermark || !has_open {
-            self.cw = watermark;
+        if self.cw < cw || !has_open {
+            self.cw = cw;
             self.stuck = 0;
         } else {
             self.stuck = self.stuck.saturating_add(1);
@@ -247,14 +247,14 @@ impl Care {
         ensures { result ≡ passes clients done self.now }
     {
         let asked = (clients as u64).saturating_mul(2);
-        total(&self.marks).saturating_add(asked) < done
+        total(&self.counts).saturating_add(asked) < done
     }
 
     /// Whether the role at this place had completed this many when the pass began.
-    pub fn is_marked(&self, place: usize, done: u64) -> bool
-        ensures { result ≡ is_marked self.now.marks place done }
+    pub fn had_completed(&self, place: usize, done: u64) -> bool
+        ensures { result ≡ had_completed self.now.counts place done }
     {
-        is_marked(&self.marks, place, done)
+        had_completed(&self.counts, place, done)
     }
 
     /// The places of all roles, in the order in which clients ask.
@@ -266,11 +266,11 @@ impl Care {
 
     /// The next pass begins, with these numbers of requests completed by each role. Who completed none in this one stays
     /// in front.
-    pub fn begin_pass(&mut self, alloc: Global, marks: Vec<u64>) -> Result<(), NoMemory>
-        ensures { OnOk result (self.new ≡ pass_begun marks.items self.old) }
+    pub fn begin_pass(&mut self, alloc: Global, counts: Vec<u64>) -> Result<(), NoMemory>
+        ensures { OnOk result (self.new ≡ pass_begun counts.items self.old) }
     {
-        let queue = requeued(alloc, &self.marks, &marks, &self.queue)?;
-        self.marks = marks;
+        let queue = requeued(alloc, &self.counts, &counts, &self.queue)?;
+        self.counts = counts;
         self.queue = queue;
         Ok(())
     }

@@ -1,5 +1,5 @@
 //! Worked parts of a tended turn. What is expected was worked out by hand.
-#![tactic(auto, unfolding(cx_course::specs::Tending::counted, cx_course::specs::Tending::is_beat, cx_course::specs::Tending::first_leader, cx_course::specs::Tending::held_by, cx_course::specs::Tending::reported, cx_course::specs::Tending::collected, cx_course::specs::Tending::tend_ordered, cx_course::specs::Tending::is_time, cx_course::specs::Tending::asks_again, cx_course::specs::Run::ordered, cx_course::specs::Course::does_at, cx_course::specs::Hosted::does))]
+#![tactic(auto, unfolding(cx_course::specs::Tending::care_after_turn, cx_course::specs::Tending::is_beat, cx_course::specs::Tending::first_leader, cx_course::specs::Tending::held_by_role, cx_course::specs::Tending::reported, cx_course::specs::Tending::collected, cx_course::specs::Tending::tend_ordered, cx_course::specs::Tending::is_time, cx_course::specs::Tending::asks_again, cx_course::specs::Run::ordered, cx_course::specs::Course::does_at, cx_course::specs::Hosted::does))]
 
 ghost use Rattle.cx_node.specs.TendingExamples.{Beats, NoLeader, Queues, Reports, Waits};
 

@@ -19,7 +19,7 @@ impl Model for HeaderText {
 }
 
 impl HeaderText {
-    /// The header with this text. It takes no memory.
+    /// The header with this text.
     pub fn new(bytes: Vec<u8>) -> Self
         ensures { result ≡ bytes.items }
     {

@@ -79,7 +79,7 @@ fn are_all(cluster: &Cluster, roles: &[RoleId]) -> bool
     have_kinds(cluster, &KINDS, roles)
 }
 
-/// Whether a node may host these roles: each is in the cluster, and where the node records no other is. It takes no memory.
+/// Whether a node may host these roles: each is in the cluster, and where the node records no other is.
 pub fn may_host(recording: bool, cluster: &Cluster, roles: &[RoleId]) -> bool
     ensures { result ≡ may_host recording cluster.now roles.now }
 {

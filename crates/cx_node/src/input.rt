@@ -10,17 +10,17 @@ ghost use Rattle.cx_model.specs.Names.{names_role};
 ghost use Rattle.cx_record.specs.Readable.{IsRecordable};
 ghost use Rattle.cx_script.specs.Requests.{IsScript, script_of};
 ghost use Rattle.cx_cluster.specs.Reading.{header_cluster};
-ghost use Rattle.cx_node.specs.declared.input.Heard.TheVariants.{Lines, Nothing};
+ghost use Rattle.cx_node.specs.declared.input.NodeInput.TheVariants.{Lines, Nothing};
 ghost use Rattle.cx_node.specs.declared.input.Refusal.TheVariants as refusal;
-ghost use Rattle.cx_node.specs.Input.{FailsRead, IsAnswer, IsRefusal};
-ghost use Rattle.cx_node.specs.Input.{bad_line_of, behind, heard_of, input_of, lines, may_host, refused_of, with_port};
+ghost use Rattle.cx_node.specs.Input.{FailsRead, IsInputAnswer, IsRefusal};
+ghost use Rattle.cx_node.specs.Input.{bad_line_of, behind, input_says, input_of, lines, may_host, refused_of, with_port};
 
 use crate::HeaderText;
 use crate::hosting::may_host;
 use cx_base::{Cluster, MAX_HEADER_LENGTH, MAX_LINE_LENGTH, NoMemory, RoleId};
 use cx_cluster::{ClusterFault, read};
 use cx_edge::{ReadAll, Source, read_all};
-use cx_script::{Schedule, counted, is_long_header, read_requests, split_header};
+use cx_script::{Schedule, is_long_header, read_requests, settled_text, split_header};
 use std::alloc::Global;
 
 // More bytes than an input has none of whose lines is bad.
@@ -28,7 +28,7 @@ const LIMIT: usize = 68_000_000;
 
 /// What was read of an input.
 #[derive(Drop)]
-pub enum Heard {
+pub enum NodeInput {
     /// The header hasn't ended yet.
     Nothing,
     /// The header says no cluster with a port.
@@ -68,14 +68,14 @@ fn with_port(
     header: Vec<u8>,
     cluster: Cluster,
     rest: &[u8],
-) -> Result<Heard, NoMemory>
+) -> Result<NodeInput, NoMemory>
     ensures { IfOk result (λ heard. heard ≡ with_port cluster.base_port header.items cluster rest.now) }
 {
     if cluster.base_port.is_none() {
-        return Ok(Heard::BadHeader);
+        return Ok(NodeInput::BadHeader);
     }
     let schedule = read_requests(alloc, &cluster, rest)?;
-    Ok(Heard::Lines {
+    Ok(NodeInput::Lines {
         header: HeaderText::new(header),
         cluster,
         schedule,
@@ -83,44 +83,44 @@ fn with_port(
 }
 
 // What a header's text and the bytes after it say.
-fn behind(alloc: Global, header: Vec<u8>, rest: &[u8]) -> Result<Heard, NoMemory>
+fn behind(alloc: Global, header: Vec<u8>, rest: &[u8]) -> Result<NodeInput, NoMemory>
     ensures { IfOk result (λ heard. heard ≡ behind (header_cluster header.items) header.items rest.now) }
 {
     match read(alloc, &header) {
         Ok(cluster) => with_port(alloc, header, cluster, rest),
         Err(ClusterFault::NoMemory) => Err(NoMemory),
-        Err(_) => Ok(Heard::BadHeader),
+        Err(_) => Ok(NodeInput::BadHeader),
     }
 }
 
 // What a whole input says.
 #[tactic(auto, unfolding(cx_script::specs::Input::whole_input))]
-fn read_input(alloc: Global, bytes: &[u8]) -> Result<Heard, NoMemory>
+fn read_input(alloc: Global, bytes: &[u8]) -> Result<NodeInput, NoMemory>
     ensures { IfOk result (λ heard. heard ≡ input_of bytes.now) }
 {
     match split_header(alloc, bytes)? {
         Some((header, rest)) => behind(alloc, header, rest),
-        None => Ok(Heard::BadHeader),
+        None => Ok(NodeInput::BadHeader),
     }
 }
 
 // What bytes say after which others may come.
 #[tactic(auto, unfolding(cx_script::specs::Input::begun_input))]
-fn read_lines(alloc: Global, bytes: &[u8]) -> Result<Heard, NoMemory>
+fn read_lines(alloc: Global, bytes: &[u8]) -> Result<NodeInput, NoMemory>
     ensures { IfOk result (λ heard. heard ≡ lines bytes.now) }
 {
-    if let Some((header, rest)) = split_header(alloc, counted(bytes, MAX_LINE_LENGTH))? {
+    if let Some((header, rest)) = split_header(alloc, settled_text(bytes, MAX_LINE_LENGTH))? {
         return behind(alloc, header, rest);
     }
-    if is_long_header(counted(bytes, MAX_HEADER_LENGTH)) {
-        return Ok(Heard::BadHeader);
+    if is_long_header(settled_text(bytes, MAX_HEADER_LENGTH)) {
+        return Ok(NodeInput::BadHeader);
     }
-    Ok(Heard::Nothing)
+    Ok(NodeInput::Nothing)
 }
 
 // What bytes say: the whole input where it has ended, else bytes after which others may come.
-fn hear(alloc: Global, bytes: &[u8], ended: bool) -> Result<Heard, NoMemory>
-    ensures { IfOk result (λ heard. heard ≡ heard_of ended bytes.now) }
+fn hear(alloc: Global, bytes: &[u8], ended: bool) -> Result<NodeInput, NoMemory>
+    ensures { IfOk result (λ heard. heard ≡ input_says ended bytes.now) }
 {
     if ended {
         read_input(alloc, bytes)
@@ -155,14 +155,19 @@ fn refused(
 }
 
 // What is answered to what was heard of a whole input or not.
-fn answer(recording: bool, roles: &[RoleId], heard: Heard, ended: bool) -> Result<Accepted, Refusal>
+fn answer(
+    recording: bool,
+    roles: &[RoleId],
+    heard: NodeInput,
+    ended: bool,
+) -> Result<Accepted, Refusal>
     requires { heard ≡ Nothing → ended ≡ false }
-    ensures { IsAnswer ended recording roles.now heard result }
+    ensures { IsInputAnswer ended recording roles.now heard result }
 {
     match heard {
-        Heard::Nothing => Err(Refusal::ReadFault),
-        Heard::BadHeader => Err(Refusal::BadInput { line: 0 }),
-        Heard::Lines {
+        NodeInput::Nothing => Err(Refusal::ReadFault),
+        NodeInput::BadHeader => Err(Refusal::BadInput { line: 0 }),
+        NodeInput::Lines {
             header,
             cluster,
             schedule,
@@ -186,7 +191,7 @@ fn answer_bytes(
     bytes: &[u8],
     ended: bool,
 ) -> Result<Accepted, Refusal>
-    ensures { IsAnswer ended recording roles.now (heard_of ended bytes.now) result }
+    ensures { IsInputAnswer ended recording roles.now (input_says ended bytes.now) result }
 {
     match hear(alloc, bytes, ended) {
         Ok(heard) => answer(recording, roles, heard, ended),

@@ -121,7 +121,7 @@ impl<K: Renew + Drop> Node<K> {
         }
     }
 
-    /// The hosted roles, given back. It takes no memory.
+    /// The hosted roles, given back.
     pub fn into_seats(self) -> Vec<Seat<K>>
         ensures { result.items ≡ self.guests }
     {

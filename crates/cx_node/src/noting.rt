@@ -3,10 +3,10 @@
 ghost use Rattle.std.specs.Prelude.{◌≡◌, ◌++◌, length, option_map, true, OnOk};
 ghost use Rattle.std.specs.List.{flat_map};
 ghost use Rattle.std.specs.Option.{option_to_list};
-ghost use Rattle.cx_course.specs.Course.{fits, own_event, request_by};
+ghost use Rattle.cx_course.specs.Course.{has_room_for, own_event, request_by};
 ghost use Rattle.cx_course.specs.declared.doing.Doing.TheVariants.{Give};
 ghost use Rattle.cx_msg.specs.Letter.{Letter};
-ghost use Rattle.cx_node.specs.Noting.{counting, shown};
+ghost use Rattle.cx_node.specs.Noting.{with_more_lines, shown};
 ghost use Rattle.cx_record.specs.Lines.{events_text};
 ghost use Rattle.cx_record.specs.Numbers.{has_room};
 
@@ -112,7 +112,7 @@ pub fn note_requests(
     Ok(())
 }
 
-/// Whether the record has room for the lines of these events. It takes no memory.
+/// Whether the record has room for the lines of these events.
 pub fn has_room(recorder: &Recorder, events: &[Event]) -> bool
     ensures { result ≡ has_room (length events.now) recorder.now }
 {
@@ -135,9 +135,9 @@ pub fn take_down(
     events: &[Event],
     text: &mut Vec<u8>,
 ) -> Result<(), NoMemory>
-    requires { fits recorder.old events.now ≡ true }
+    requires { has_room_for recorder.old events.now ≡ true }
     ensures text { OnOk result (text.new.items ≡ shown recorder.old events.now text.old.items) }
-    ensures counted { OnOk result (recorder.new ≡ option_map (counting (length events.now)) recorder.old) }
+    ensures counted { OnOk result (recorder.new ≡ option_map (with_more_lines (length events.now)) recorder.old) }
 {
     if let Some(recorder) = recorder {
         text.clear();

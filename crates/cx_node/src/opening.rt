@@ -25,7 +25,7 @@ use cx_batch::{Batcher, Unbatcher};
 use cx_client::Client;
 use cx_disk::Disk;
 use cx_edge::Depot;
-use cx_journal::Store;
+use cx_journal::RecordStore;
 use cx_leader::Leader;
 use cx_match::Matchmaker;
 use cx_proxy::Proxy;
@@ -66,17 +66,17 @@ fn open_durable<D: Depot, R: Role>(
     cluster: &Cluster,
     me: RoleId,
     depot: &mut D,
-) -> Result<(Store<D::Store>, R), OpenStop>
+) -> Result<(RecordStore<D::Store>, R), OpenStop>
     requires kind { me.kind ≡ R.rules.kind }
     requires one { has_second me.kind ≡ false }
     requires named { IsTrue (names_role cluster.now me) }
     requires in_depot { NoneIsOut me (D.out depot.old) }
     ensures role { IfOk result (λ p. IsDurablyOpened R.rules D.Store.Disk.seen D.Store.Disk.faults cluster.now
-        (D.tells depot.old) (files_of (D.held depot.old) me) me p.0 (R.state p.1)) }
+        (D.tells depot.old) (files_of (D.stored depot.old) me) me p.0 (R.state p.1)) }
     ensures lends { LendsFor D.Depot me result (λ p. places_of (disks_of me (Some p.0))) depot.old depot.new }
     ensures bad { (role : RoleId) (at : ℕ) → result ≡ Err (open_stop.BadStore role at)
         → (role ≡ me)
-        × (D.tells depot.old ≡ true → IsBadStore R.rules cluster.now me (files_of (D.held depot.old) me) at) }
+        × (D.tells depot.old ≡ true → IsBadStore R.rules cluster.now me (files_of (D.stored depot.old) me) at) }
     ensures failed { (role : RoleId) → result ≡ Err (open_stop.StoreFault role)
         → (role ≡ me) × Rises (D.faults depot.old me) (D.faults depot.new me) }
     ensures not_used { (role : RoleId) → result ≡ Err (open_stop.NotFresh role) → ⊥ }
@@ -85,7 +85,7 @@ fn open_durable<D: Depot, R: Role>(
         return Err(OpenStop::StoreFault { role: me });
     };
     match wake(alloc, cluster, me, store) {
-        Ok((journal, role)) => Ok((Store::One { journal }, role)),
+        Ok((journal, role)) => Ok((RecordStore::One { journal }, role)),
         Err((stop, store)) => {
             depot.close(me, 0, store);
             Err(unwoken(me, stop))
@@ -100,16 +100,16 @@ fn open_twin<D: Depot>(
     cluster: &Cluster,
     me: RoleId,
     depot: &mut D,
-) -> Result<(Store<D::Store>, Replica), OpenStop>
+) -> Result<(RecordStore<D::Store>, Replica), OpenStop>
     requires kind { me.kind ≡ kind.Replica }
     requires named { IsTrue (names_role cluster.now me) }
     requires in_depot { NoneIsOut me (D.out depot.old) }
     ensures role { IfOk result (λ p. IsDurablyOpened replica_rules D.Store.Disk.seen D.Store.Disk.faults cluster.now
-        (D.tells depot.old) (files_of (D.held depot.old) me) me p.0 p.1) }
+        (D.tells depot.old) (files_of (D.stored depot.old) me) me p.0 p.1) }
     ensures lends { LendsFor D.Depot me result (λ p. places_of (disks_of me (Some p.0))) depot.old depot.new }
     ensures bad { (role : RoleId) (at : ℕ) → result ≡ Err (open_stop.BadStore role at)
         → (role ≡ me)
-        × (D.tells depot.old ≡ true → IsBadStore replica_rules cluster.now me (files_of (D.held depot.old) me) at) }
+        × (D.tells depot.old ≡ true → IsBadStore replica_rules cluster.now me (files_of (D.stored depot.old) me) at) }
     ensures failed { (role : RoleId) → result ≡ Err (open_stop.StoreFault role)
         → (role ≡ me) × Rises (D.faults depot.old me) (D.faults depot.new me) }
     ensures not_used { (role : RoleId) → result ≡ Err (open_stop.NotFresh role) → ⊥ }
@@ -122,7 +122,7 @@ fn open_twin<D: Depot>(
         return Err(OpenStop::StoreFault { role: me });
     };
     match wake_twin(alloc, cluster, me, first, second) {
-        Ok((twin, role)) => Ok((Store::Two { twin }, role)),
+        Ok((twin, role)) => Ok((RecordStore::Two { twin }, role)),
         Err((stop, first, second)) => {
             depot.close(me, 0, first);
             depot.close(me, 1, second);
@@ -174,17 +174,17 @@ fn open_guest<D: Depot>(
     window: u8,
     events: &[Event],
     depot: &mut D,
-) -> Result<Guest<Store<D::Store>>, OpenStop>
+) -> Result<Guest<RecordStore<D::Store>>, OpenStop>
     requires named { IsTrue (names_role cluster.now me) }
     requires scripts { (client : ℕ) → IsScript cluster.now client (script_of client events.now) }
     requires some_window { 1 ≤ window }
     requires window { window ≤ 64 }
     requires in_depot { NoneIsOut me (D.out depot.old) }
     ensures opened { IfOk result (λ guest. IsOpened D.Store.Disk.seen D.Store.Disk.faults cluster.now window events.now
-        (D.tells depot.old) (files_of (D.held depot.old) me) me guest) }
+        (D.tells depot.old) (files_of (D.stored depot.old) me) me guest) }
     ensures lends { LendsFor D.Depot me result (λ guest. lent_to (guest ∷ [])) depot.old depot.new }
     ensures bad { (role : RoleId) (at : ℕ) → result ≡ Err (open_stop.BadStore role at) → D.tells depot.old ≡ true
-        → IsBadAs cluster.now role (files_of (D.held depot.old) role) at role.kind }
+        → IsBadAs cluster.now role (files_of (D.stored depot.old) role) at role.kind }
     ensures own { (role : RoleId) (at : ℕ) → result ≡ Err (open_stop.BadStore role at) → role ≡ me }
     ensures failed { (role : RoleId) → result ≡ Err (open_stop.StoreFault role)
         → Rises (D.faults depot.old role) (D.faults depot.new role) }
@@ -244,7 +244,7 @@ pub fn open_seats<D: Depot>(
     window: u8,
     events: &[Event],
     depot: &mut D,
-    seats: &mut Vec<Seat<Store<D::Store>>>,
+    seats: &mut Vec<Seat<RecordStore<D::Store>>>,
 ) -> Result<(), OpenStop>
     requires named { (i : ℕ) (me : RoleId) → slice_get roles.now i ≡ Some me → IsTrue (names_role cluster.now me) }
     requires distinct { AreApart roles.now }
@@ -254,15 +254,15 @@ pub fn open_seats<D: Depot>(
     requires empty { seats.old.items ≡ [] }
     requires not_out { D.out depot.old ≡ [] }
     ensures opened { AreOpened D.Store.Disk.seen D.Store.Disk.faults cluster.now window events.now
-        (D.tells depot.old) (files_of (D.held depot.old)) roles.now seats.new.items }
+        (D.tells depot.old) (files_of (D.stored depot.old)) roles.now seats.new.items }
     ensures all { OnOk result (length seats.new.items ≡ length roles.now) }
     ensures out { D.out depot.new ≡ lent_to seats.new.items }
-    ensures told { D.tells depot.new ≡ D.tells depot.old }
+    ensures tells_same { D.tells depot.new ≡ D.tells depot.old }
 
     // The records of a store stay, also where it could not be opened.
-    ensures held { D.tells depot.old ≡ true → SameRecords (files_of (D.held depot.old)) (files_of (D.held depot.new)) }
+    ensures stored { D.tells depot.old ≡ true → SameRecords (files_of (D.stored depot.old)) (files_of (D.stored depot.new)) }
     ensures bad { (role : RoleId) (at : ℕ) → result ≡ Err (open_stop.BadStore role at) → D.tells depot.old ≡ true
-        → IsFirstBad roles.now cluster.now (files_of (D.held depot.old)) role at }
+        → IsFirstBad roles.now cluster.now (files_of (D.stored depot.old)) role at }
     ensures later { (role : RoleId) → D.faults depot.old role ≤ D.faults depot.new role }
 
     // A count rises only where the answer names its role.
@@ -287,7 +287,7 @@ pub fn open_seats<D: Depot>(
 }
 
 // The first role whose store has a record, if one has.
-fn first_used<D: Disk>(seats: &[Seat<Store<D>>]) -> Option<RoleId>
+fn first_used<D: Disk>(seats: &[Seat<RecordStore<D>>]) -> Option<RoleId>
     ensures { result ≡ first_holding seats.now }
 {
     for seat in seats {
@@ -307,7 +307,7 @@ pub fn open_all<D: Depot>(
     window: u8,
     events: &[Event],
     depot: &mut D,
-    seats: &mut Vec<Seat<Store<D::Store>>>,
+    seats: &mut Vec<Seat<RecordStore<D::Store>>>,
 ) -> Result<(), OpenStop>
     requires named { (i : ℕ) (me : RoleId) → slice_get roles.now i ≡ Some me → IsTrue (names_role cluster.now me) }
     requires distinct { AreApart roles.now }
@@ -317,20 +317,20 @@ pub fn open_all<D: Depot>(
     requires empty { seats.old.items ≡ [] }
     requires not_out { D.out depot.old ≡ [] }
     ensures opened { AreOpened D.Store.Disk.seen D.Store.Disk.faults cluster.now window events.now
-        (D.tells depot.old) (files_of (D.held depot.old)) roles.now seats.new.items }
+        (D.tells depot.old) (files_of (D.stored depot.old)) roles.now seats.new.items }
     ensures all { OnOk result (length seats.new.items ≡ length roles.now) }
     ensures fresh { recording ≡ true → OnOk result (first_holding seats.new.items ≡ None) }
     ensures out { D.out depot.new ≡ lent_to seats.new.items }
-    ensures told { D.tells depot.new ≡ D.tells depot.old }
-    ensures held { D.tells depot.old ≡ true → SameRecords (files_of (D.held depot.old)) (files_of (D.held depot.new)) }
+    ensures tells_same { D.tells depot.new ≡ D.tells depot.old }
+    ensures stored { D.tells depot.old ≡ true → SameRecords (files_of (D.stored depot.old)) (files_of (D.stored depot.new)) }
     ensures bad { (role : RoleId) (at : ℕ) → result ≡ Err (open_stop.BadStore role at) → D.tells depot.old ≡ true
-        → IsFirstBad roles.now cluster.now (files_of (D.held depot.old)) role at }
+        → IsFirstBad roles.now cluster.now (files_of (D.stored depot.old)) role at }
 
     // The first store that has a record, after all were opened.
     ensures used { (role : RoleId) → result ≡ Err (open_stop.NotFresh role)
         → (recording ≡ true)
         × (length seats.new.items ≡ length roles.now)
-        × (D.tells depot.old ≡ true → IsFirstUsed roles.now (files_of (D.held depot.old)) role) }
+        × (D.tells depot.old ≡ true → IsFirstUsed roles.now (files_of (D.stored depot.old)) role) }
     ensures later { (role : RoleId) → D.faults depot.old role ≤ D.faults depot.new role }
     ensures others { (who : RoleId) → (result ≡ Err (open_stop.StoreFault who) → ⊥)
         → D.faults depot.new who ≡ D.faults depot.old who }

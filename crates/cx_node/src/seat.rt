@@ -2,14 +2,14 @@
 
 ghost use Rattle.std.specs.Prelude.{◌≡◌, ◌++◌, [], length, true, false, IfOk, IsTrue, None, OnOk, OnErr};
 ghost use Rattle.std.specs.Option.{option_map};
-ghost use Rattle.cx_leader.specs.Tending.{can_collect, is_new};
+ghost use Rattle.cx_leader.specs.Tending.{can_collect, is_new_leader};
 ghost use Rattle.cx_model.specs.Rules.{outcome_of, running_after};
 ghost use Rattle.cx_node.specs.Changing.{changing};
 ghost use Rattle.cx_node.specs.Guest.{MakesRow, Performs, hosted_of, keeper_of, who};
 ghost use Rattle.cx_course.specs.Course.{requests_by};
-ghost use Rattle.cx_course.specs.Hosted.{ClientAt, begun, client_given, does, given, is_idle_leader, is_live, snapped};
+ghost use Rattle.cx_course.specs.Hosted.{ClientAt, starting_step, client_given, does, given, is_idle_leader, is_live_role, snapped};
 ghost use Rattle.cx_course.specs.Run.{has_finished, is_client};
-ghost use Rattle.cx_course.specs.Tending.{completed, held_of, is_of, leader_of, standing_of};
+ghost use Rattle.cx_course.specs.Tending.{completed, held_of, is_of_kind, leader_of, standing_of};
 ghost use Rattle.cx_node.specs.Opening.{holds_record};
 ghost use Rattle.cx_node.specs.Tends.{is_leader_so};
 ghost use Rattle.cx_record.specs.Numbers.{has_room};
@@ -20,7 +20,7 @@ use cx_base::{Event, Kind, NoMemory, RoleId};
 use cx_client::Client;
 use cx_course::{Doing, Standing};
 use cx_disk::Disk;
-use cx_journal::Store;
+use cx_journal::RecordStore;
 use cx_keeper::{MemKeeper, Renew};
 use cx_leader::Leader;
 use cx_msg::{Datagram, Input};
@@ -134,7 +134,7 @@ fn give_client(
 fn begin<K>(guest: &mut Guest<K>, out: &mut Outbox) -> Result<(), NoMemory>
     requires empty { out.old.list ≡ [] }
     ensures state { guest.new ≡ guest.old }
-    ensures sends { OnOk result (out.new.list ≡ (begun (hosted_of guest.old)).sends) }
+    ensures sends { OnOk result (out.new.list ≡ (starting_step (hosted_of guest.old)).sends) }
 {
     match guest {
         Guest::Client { role } => role.start(out),
@@ -152,13 +152,13 @@ fn give<K: Renew>(
     text: &mut Vec<u8>,
 ) -> Result<(), StepFault>
     requires index { index ≡ (who guest.old).index }
-    requires live { IsTrue (is_live (hosted_of guest.old)) }
+    requires live { IsTrue (is_live_role (hosted_of guest.old)) }
     requires empty { out.old.list ≡ [] }
     requires no_text { text.old.items ≡ [] }
     ensures step { Performs (changing K.append_gives K.renew_gives) (given (hosted_of guest.old) input.now)
         result guest.old guest.new out.new.list text.new.items }
     ensures name { OnOk result (who guest.new ≡ who guest.old) }
-    ensures no_name { OnErr result (IsTrue (is_live (hosted_of guest.new)) → who guest.new ≡ who guest.old) }
+    ensures no_name { OnErr result (IsTrue (is_live_role (hosted_of guest.new)) → who guest.new ≡ who guest.old) }
 {
     match guest {
         Guest::Client { role } => give_client(role, index, input, out, text)?,
@@ -177,12 +177,12 @@ fn give<K: Renew>(
 
 // A replica forgets values; another role has none to forget.
 fn snap<K: Renew>(guest: &mut Guest<K>, out: &mut Outbox) -> Result<(), StepFault>
-    requires live { IsTrue (is_live (hosted_of guest.old)) }
+    requires live { IsTrue (is_live_role (hosted_of guest.old)) }
     requires empty { out.old.list ≡ [] }
     ensures step { Performs (changing K.append_gives K.renew_gives) (snapped (hosted_of guest.old))
         result guest.old guest.new out.new.list [] }
     ensures name { OnOk result (who guest.new ≡ who guest.old) }
-    ensures no_name { OnErr result (IsTrue (is_live (hosted_of guest.new)) → who guest.new ≡ who guest.old) }
+    ensures no_name { OnErr result (IsTrue (is_live_role (hosted_of guest.new)) → who guest.new ≡ who guest.old) }
 {
     if let Guest::Replica { role, keeper } = guest {
         role.snap(keeper, out)?;
@@ -196,7 +196,7 @@ fn standing_in(leader: &Leader) -> Standing
 {
     Standing {
         may_lead: leader.idle() && leader.has_heard(),
-        watermark: leader.watermark(),
+        cw: leader.cw(),
         has_open: leader.has_open(),
         is_spent: leader.is_spent(),
         can_collect: leader.can_collect(),
@@ -227,14 +227,14 @@ impl<K: Renew> Seat<K> {
         Seat { alloc, me, guest }
     }
 
-    /// The role's name. It takes no memory.
+    /// The role's name.
     pub fn name(&self) -> RoleId
         ensures { result ≡ who self.now }
     {
         self.me
     }
 
-    /// Whether it is a leader that doesn't lead, and isn't about to. It takes no memory.
+    /// Whether it is a leader that doesn't lead, and isn't about to.
     pub fn is_idle_leader(&self) -> bool
         ensures { result ≡ is_idle_leader (hosted_of self.now) }
     {
@@ -244,9 +244,9 @@ impl<K: Renew> Seat<K> {
         }
     }
 
-    /// Whether it is a leader that never began a round. It takes no memory.
+    /// Whether it is a leader that never began a round.
     pub fn is_new(&self) -> bool
-        ensures { result ≡ is_leader_so (λ l. is_new l.durable) (leader_of (hosted_of self.now)) }
+        ensures { result ≡ is_leader_so (λ l. is_new_leader l.durable) (leader_of (hosted_of self.now)) }
     {
         match &self.guest {
             Guest::Leader { role, .. } => role.is_new(),
@@ -254,7 +254,7 @@ impl<K: Renew> Seat<K> {
         }
     }
 
-    /// Whether it is a leader that an order to collect would have begin. It takes no memory.
+    /// Whether it is a leader that an order to collect would have begin.
     pub fn can_collect(&self) -> bool
         ensures { result ≡ is_leader_so (λ l. can_collect l.volatile) (leader_of (hosted_of self.now)) }
     {
@@ -264,7 +264,7 @@ impl<K: Renew> Seat<K> {
         }
     }
 
-    /// What its leader reports, if it is one. It takes no memory.
+    /// What its leader reports, if it is one.
     pub fn standing(&self) -> Option<Standing>
         ensures { result ≡ option_map standing_of (leader_of (hosted_of self.now)) }
     {
@@ -274,7 +274,7 @@ impl<K: Renew> Seat<K> {
         }
     }
 
-    /// How many slots its replica holds, 0 where it is none. It takes no memory.
+    /// How many slots its replica holds, 0 where it is none.
     pub fn held(&self) -> u64
         ensures { result ≡ held_of (hosted_of self.now) }
     {
@@ -284,7 +284,7 @@ impl<K: Renew> Seat<K> {
         }
     }
 
-    /// How many requests its client has completed, 0 where it is none. It takes no memory.
+    /// How many requests its client has completed, 0 where it is none.
     pub fn completed(&self) -> u64
         ensures { result ≡ completed (hosted_of self.now) }
     {
@@ -294,21 +294,21 @@ impl<K: Renew> Seat<K> {
         }
     }
 
-    /// Whether it is of this kind. It takes no memory.
+    /// Whether it is of this kind.
     pub fn is_of(&self, kind: Kind) -> bool
-        ensures { result ≡ is_of kind (hosted_of self.now) }
+        ensures { result ≡ is_of_kind kind (hosted_of self.now) }
     {
         self.me.kind == kind
     }
 
-    /// Whether it is a client. It takes no memory.
+    /// Whether it is a client.
     pub fn is_client(&self) -> bool
         ensures { result ≡ is_client (hosted_of self.now) }
     {
         self.me.kind == Kind::Client
     }
 
-    /// Whether it has no request that isn't answered: only a client has any. It takes no memory.
+    /// Whether it has no request that isn't answered: only a client has any.
     pub fn has_finished(&self) -> bool
         ensures { result ≡ has_finished (hosted_of self.now) }
     {
@@ -341,7 +341,7 @@ impl<K: Renew> Seat<K> {
         }
     }
 
-    /// The keeper of its records, where it has any. It takes no memory.
+    /// The keeper of its records, where it has any.
     pub fn into_keeper(self) -> Option<K>
         ensures { result ≡ keeper_of self }
     {
@@ -358,7 +358,7 @@ impl<K: Renew> Seat<K> {
         out: &mut Outbox,
         text: &mut Vec<u8>,
     ) -> Result<(), StepFault>
-        requires live { IsTrue (is_live (hosted_of self.old)) }
+        requires live { IsTrue (is_live_role (hosted_of self.old)) }
         requires empty { out.old.list ≡ [] }
         requires no_text { text.old.items ≡ [] }
         ensures step { Performs (changing K.append_gives K.renew_gives) (does (hosted_of self.old) what.now)
@@ -381,8 +381,8 @@ impl<K: Renew> Seat<K> {
     }
 }
 
-/// Whether the store of a role, if it has one, has a record. It takes no memory.
-pub fn holds_record<D: Disk>(seat: &Seat<Store<D>>) -> bool
+/// Whether the store of a role, if it has one, has a record.
+pub fn holds_record<D: Disk>(seat: &Seat<RecordStore<D>>) -> bool
     ensures { result ≡ holds_record (keeper_of seat.now) }
 {
     match &seat.guest {

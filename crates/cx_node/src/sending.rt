@@ -1,9 +1,9 @@
 //! The ports of roles, and the sending of datagrams.
 
 ghost use Rattle.std.specs.Prelude.{◌≡◌, [], ◌∷◌, option_map, OnOk, OnErr};
-ghost use Rattle.cx_node.specs.Doing.{Asks, AsksPart};
+ghost use Rattle.cx_node.specs.Doing.{HasLinkSent, HasLinkSentPart};
 ghost use Rattle.cx_node.specs.Noting.{noting};
-ghost use Rattle.cx_node.specs.Ports.{before, port_of};
+ghost use Rattle.cx_node.specs.Ports.{roles_before, port_of};
 
 use cx_base::{Cluster, Kind, NoMemory, RoleId};
 use cx_edge::Link;
@@ -14,7 +14,7 @@ use std::alloc::Global;
 
 // How many roles come before those of a kind.
 fn before(cluster: &Cluster, kind: Kind) -> u16
-    ensures { result ≡ before cluster.now kind }
+    ensures { result ≡ roles_before cluster.now kind }
 {
     let acceptors = cluster.clients + cluster.batchers + cluster.leaders + cluster.proxies;
     let replicas = acceptors + cluster.acceptors + cluster.pool;
@@ -33,8 +33,7 @@ fn before(cluster: &Cluster, kind: Kind) -> u16
     }
 }
 
-/// The port of a role: the cluster's first one, and the role's place among all roles, by kind and index. It takes no
-/// memory.
+/// The port of a role: the cluster's first one, and the role's place among all roles, by kind and index.
 pub fn port_of(cluster: &Cluster, role: RoleId) -> u16
     ensures { result ≡ port_of cluster.now role }
 {
@@ -52,8 +51,8 @@ fn send_one<L: Link>(
     bytes: &mut Vec<u8>,
     link: &mut L,
 ) -> Result<(), NoMemory>
-    ensures sent { OnOk result (Asks cluster.now (letter.now ∷ []) (L.told link.old) (L.told link.new)) }
-    ensures nothing { OnErr result (L.told link.new ≡ L.told link.old) }
+    ensures sent { OnOk result (HasLinkSent cluster.now (letter.now ∷ []) (L.history link.old) (L.history link.new)) }
+    ensures nothing { OnErr result (L.history link.new ≡ L.history link.old) }
     ensures still { L.faults link.new ≡ L.faults link.old }
 {
     if names_role(cluster, letter.to()) {
@@ -85,8 +84,8 @@ pub fn send_all<L: Link>(
     bytes: &mut Vec<u8>,
     link: &mut L,
 ) -> Result<(), NoMemory>
-    ensures sent { OnOk result (Asks cluster.now letters.now (L.told link.old) (L.told link.new)) }
-    ensures part { OnErr result (AsksPart cluster.now letters.now (L.told link.old) (L.told link.new)) }
+    ensures sent { OnOk result (HasLinkSent cluster.now letters.now (L.history link.old) (L.history link.new)) }
+    ensures part { OnErr result (HasLinkSentPart cluster.now letters.now (L.history link.old) (L.history link.new)) }
     ensures noted { OnOk result (recorder.new ≡ option_map (noting letters.now) recorder.old) }
     ensures still { L.faults link.new ≡ L.faults link.old }
 {

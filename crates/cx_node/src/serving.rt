@@ -3,7 +3,7 @@
 ghost use Rattle.std.specs.Prelude.{◌≡◌, ◌≤◌, [], ℕ, List, Option, Result, IfOk, IsTrue};
 ghost use Rattle.std.specs.List.{All, list_all};
 ghost use Rattle.cx_base.specs.declared.role.RoleId.{RoleId};
-ghost use Rattle.cx_journal.specs.declared.store.Store.{Store};
+ghost use Rattle.cx_journal.specs.declared.store.RecordStore.{RecordStore};
 ghost use Rattle.cx_model.specs.Names.{names_role};
 ghost use Rattle.cx_script.specs.Requests.{IsScript, script_of};
 ghost use Rattle.cx_node.specs.declared.guest.Guest.{Guest};
@@ -14,7 +14,7 @@ ghost use Rattle.cx_node.specs.Guest.{AreReady};
 ghost use Rattle.cx_node.specs.Hosting.{AreGivenBack, HostAnswered, Ran, ended_status, hosting, known_first};
 ghost use Rattle.cx_node.specs.Hosting.{store_gives, unopened_status};
 ghost use Rattle.cx_node.specs.Opening.{AreApart, lent_to};
-ghost use Rattle.cx_node.specs.Serving.{Answered, Completes, TellsBad, TellsUsed, head_text, outside, outside_read};
+ghost use Rattle.cx_node.specs.Serving.{IsNodeAnswer, NodeCompletes, TellsBad, TellsUsed, record_head, outside, outside_read};
 ghost use Rattle.cx_node.specs.Serving.{recorded_header, refused_status};
 ghost use Rattle.cx_record.specs.Numbers.{Recorded};
 ghost use Rattle.cx_record.specs.Readable.{IsRecordable};
@@ -28,7 +28,7 @@ use crate::opening::{OpenStop, open_all};
 use cx_base::{Cluster, Event, NoMemory, RoleId, Status};
 use cx_course::recorded_runs_follow;
 use cx_edge::{Depot, Link, Sink, Source, write_all};
-use cx_journal::Store;
+use cx_journal::RecordStore;
 use std::alloc::Global;
 
 // What an input that is refused is answered.
@@ -71,8 +71,8 @@ fn ended(end: Result<RunEnd, Stop>) -> Status
 }
 
 // What a record begins with, where the node is to record: the header, and the line that ends it.
-fn head_text(alloc: Global, recording: bool, header: &[u8]) -> Result<Vec<u8>, NoMemory>
-    ensures { IfOk result (λ text. text.items ≡ head_text (recorded_header recording header.now)) }
+fn record_head(alloc: Global, recording: bool, header: &[u8]) -> Result<Vec<u8>, NoMemory>
+    ensures { IfOk result (λ text. text.items ≡ record_head (recorded_header recording header.now)) }
 {
     let mut text = Vec::new(alloc);
     if recording {
@@ -86,7 +86,7 @@ fn head_text(alloc: Global, recording: bool, header: &[u8]) -> Result<Vec<u8>, N
 fn run_seats<L: Link, D: Depot, W: Sink>(
     alloc: Global,
     cluster: &Cluster,
-    seats: Vec<Seat<Store<D::Store>>>,
+    seats: Vec<Seat<RecordStore<D::Store>>>,
     recording: bool,
     turns: u32,
     tend: Option<u32>,
@@ -96,14 +96,14 @@ fn run_seats<L: Link, D: Depot, W: Sink>(
 ) -> Status
     requires ready { AreReady cluster.now seats.items }
     requires lent { D.out depot.old ≡ lent_to seats.items }
-    ensures ran { (after : List (Guest (Store D.Store))) × (known : Option Recorded) × (answer : Result RunEnd Stop)
+    ensures ran { (after : List (Guest (RecordStore D.Store))) × (known : Option Recorded) × (answer : Result RunEnd Stop)
         × (result ≡ ended_status answer)
         × Ran (store_gives D.Store.Disk) tend cluster.now turns [] answer
         (scene_of L.Link W.Sink (hosting cluster.now seats.items (known_first recording)) link.old out.old)
         (scene_of L.Link W.Sink (hosting cluster.now after known) link.new out.new)
         (failed L.Link W.Sink link.old out.old) (failed L.Link W.Sink link.new out.new)
         × AreGivenBack D.Depot D.Store.Disk after depot.old depot.new }
-    ensures told { D.tells depot.new ≡ D.tells depot.old }
+    ensures tells_same { D.tells depot.new ≡ D.tells depot.old }
     ensures given_back { D.out depot.new ≡ [] }
 {
     match Node::new(alloc, cluster, seats, recording) {
@@ -123,7 +123,7 @@ fn run_seats<L: Link, D: Depot, W: Sink>(
 fn run_behind<L: Link, D: Depot, W: Sink>(
     alloc: Global,
     cluster: &Cluster,
-    seats: Vec<Seat<Store<D::Store>>>,
+    seats: Vec<Seat<RecordStore<D::Store>>>,
     recording: bool,
     text: &[u8],
     turns: u32,
@@ -134,14 +134,14 @@ fn run_behind<L: Link, D: Depot, W: Sink>(
 ) -> Status
     requires ready { AreReady cluster.now seats.items }
     requires lent { D.out depot.old ≡ lent_to seats.items }
-    ensures ran { (after : List (Guest (Store D.Store))) × (known : Option Recorded) × (answer : Result RunEnd Stop)
+    ensures ran { (after : List (Guest (RecordStore D.Store))) × (known : Option Recorded) × (answer : Result RunEnd Stop)
         × (result ≡ ended_status answer)
         × Ran (store_gives D.Store.Disk) tend cluster.now turns text.now answer
         (scene_of L.Link W.Sink (hosting cluster.now seats.items (known_first recording)) link.old out.old)
         (scene_of L.Link W.Sink (hosting cluster.now after known) link.new out.new)
         (failed L.Link W.Sink link.old out.old) (failed L.Link W.Sink link.new out.new)
         × AreGivenBack D.Depot D.Store.Disk after depot.old depot.new }
-    ensures told { D.tells depot.new ≡ D.tells depot.old }
+    ensures tells_same { D.tells depot.new ≡ D.tells depot.old }
     ensures given_back { D.out depot.new ≡ [] }
 {
     if !write_all(out, text) {
@@ -185,7 +185,7 @@ fn host<L: Link, D: Depot, W: Sink>(
     if !bind_all(cluster, roles, link) {
         return Status::LinkFault;
     }
-    let Ok(text) = head_text(alloc, recording, header) else {
+    let Ok(text) = record_head(alloc, recording, header) else {
         return Status::NoMemory;
     };
     let mut opened = Vec::new(alloc);
@@ -235,10 +235,10 @@ pub fn serve<S: Source, L: Link, D: Depot, W: Sink>(
     requires lent { D.out depot.old ≡ [] }
     requires some_window { 1 ≤ window }
     requires window { window ≤ 64 }
-    ensures answered { Answered roles.now tend window recording turns
+    ensures answered { IsNodeAnswer roles.now tend window recording turns
         (outside S.Source L.Link D.Depot W.Sink input.old link.old depot.old out.old)
         (outside S.Source L.Link D.Depot W.Sink input.new link.new depot.new out.new) result }
-    ensures complete { Completes recording roles.now
+    ensures complete { NodeCompletes recording roles.now
         (outside S.Source L.Link D.Depot W.Sink input.old link.old depot.old out.old)
         (outside S.Source L.Link D.Depot W.Sink input.new link.new depot.new out.new) result }
     ensures tells_used { TellsUsed recording roles.now

@@ -1,65 +1,30 @@
 //! The turns of a node that tends its roles.
 
-ghost use Rattle.std.specs.Prelude.{◌≡◌, ◌/◌, ◌==◌, ◌&&◌, nat_lt, ℕ, [], ◌∷◌, List, length, filter, map, min, not};
-ghost use Rattle.std.specs.Prelude.{sum_by, Option, is_some, slice_get, IfOk, if◌then◌else◌};
-ghost use Rattle.std.specs.Option.{option_map};
-ghost use Rattle.cx_base.specs.Role.{role, same_role};
-ghost use Rattle.cx_base.specs.declared.role.Kind.TheVariants as kind;
-ghost use Rattle.cx_leader.specs.Tending.{can_collect, is_new};
+ghost use Rattle.std.specs.Prelude.{◌≡◌, ◌/◌, ◌==◌, ◌&&◌, ℕ, [], ◌∷◌, List, length, filter, map, min};
+ghost use Rattle.std.specs.Prelude.{sum_by, Option, is_some, IfOk, if◌then◌else◌};
+ghost use Rattle.cx_base.specs.Role.{role};
+ghost use Rattle.cx_leader.specs.Tending.{can_collect};
 ghost use Rattle.cx_node.specs.Acts.{Acts, ActsPart, Blames, failed, scene_of};
 ghost use Rattle.cx_node.specs.Changing.{changing};
-ghost use Rattle.cx_node.specs.Guest.{AreReady, hosted_in, hosted_of};
+ghost use Rattle.cx_node.specs.Guest.{AreReady, hosted_of};
 ghost use Rattle.cx_node.specs.Node.{course_at};
 ghost use Rattle.cx_record.specs.Numbers.{numbered};
-ghost use Rattle.cx_course.specs.Course.{stays};
 ghost use Rattle.cx_course.specs.Run.{is_client};
-ghost use Rattle.cx_course.specs.Tending.{beat, clients_tended, collected, completed, first_leader, flushed, gets};
-ghost use Rattle.cx_course.specs.Tending.{heeded, held_by, in_turn, is_so, leader_asked, leader_cared, next_pass, reported, standing_of};
-ghost use Rattle.cx_course.specs.Tending.{tend_comes, tend_ordered, tend_prepared, tended_turn, those_tick, ticks_if, turn_ended};
-ghost use Rattle.cx_node.specs.TendedParts.{ActsTended, ActsTurn, Counts, leader_part};
-ghost use Rattle.cx_node.specs.Tends.{done_of, is_leader_so, is_meant};
+ghost use Rattle.cx_course.specs.Tending.{beat, clients_tended, completed, flushed, gets};
+ghost use Rattle.cx_course.specs.Tending.{heeded, leader_asked, leader_cared, next_pass};
+ghost use Rattle.cx_course.specs.Tending.{tend_comes, tended_turn, turn_ended};
+ghost use Rattle.cx_node.specs.TendedParts.{ActsTended, ActsTurn, IsCareAfter, leader_part};
+ghost use Rattle.cx_node.specs.Tends.{done_of};
 
 use crate::care::Care;
 use crate::turning::{first_grid, receive};
 use crate::{Come, Node, Seat, Stop, Whom};
-use cx_base::{Cluster, Kind, NoMemory, Order, RoleId};
+use cx_base::{Cluster, Kind, NoMemory, Order};
 use cx_course::{Doing, Standing};
 use cx_edge::{Link, Sink};
 use cx_keeper::Renew;
 use cx_msg::{Datagram, Input};
 use std::alloc::Global;
-
-// A replica ticks when its log comes to a further multiple of this number of slots.
-const REPORTED: u64 = 8;
-
-// The leader that is ordered.
-fn first_name() -> RoleId
-    ensures { result ≡ role kind.Leader 0 }
-{
-    RoleId::new(Kind::Leader, 0)
-}
-
-// Whether the role at a place is meant to tick.
-fn is_meant<K: Renew>(whom: Whom, care: &Care, place: usize, seat: &Seat<K>) -> bool
-    ensures { result ≡ is_meant whom care.now.marks place (hosted_of seat.now) }
-{
-    match whom {
-        Whom::Kind { kind } => seat.is_of(kind),
-        Whom::Others => !seat.is_client(),
-        Whom::Overtaken => seat.is_client() && care.is_marked(place, seat.completed()),
-    }
-}
-
-// Whether there is a role at this place, and it is meant to tick.
-fn is_meant_at<K: Renew>(whom: Whom, care: &Care, place: usize, seats: &[Seat<K>]) -> bool
-    ensures { result
-        ≡ is_so (is_meant whom care.now.marks place) (option_map hosted_of (slice_get seats.now place)) }
-{
-    match seats.get(place) {
-        Some(seat) => is_meant(whom, care, place, seat),
-        None => false,
-    }
-}
 
 // How many clients there are.
 fn count_clients<K: Renew>(seats: &[Seat<K>]) -> usize
@@ -81,13 +46,13 @@ fn all_completed<K: Renew>(seats: &[Seat<K>]) -> u64
 
 // How many requests each role has completed.
 fn completed_by<K: Renew>(alloc: Global, seats: &[Seat<K>]) -> Result<Vec<u64>, NoMemory>
-    ensures { IfOk result (λ marks. marks.items ≡ map (λ guest. completed (hosted_of guest)) seats.now) }
+    ensures { IfOk result (λ counts. counts.items ≡ map (λ guest. completed (hosted_of guest)) seats.now) }
 {
-    let marks = seats
+    let counts = seats
         .iter()
         .map(|seat| seat.completed())
         .collect::<Vec<u64>>(alloc)?;
-    Ok(marks)
+    Ok(counts)
 }
 
 // The order that the leader gets. What it reports is noted.
@@ -99,7 +64,7 @@ fn leader_order(cluster: &Cluster, standing: Standing, care: &mut Care) -> Optio
     if standing.may_lead {
         return Some(Order::Lead(first_grid(cluster)));
     }
-    care.note_leader(standing.watermark, standing.has_open);
+    care.note_leader(standing.cw, standing.has_open);
     if care.is_time() && standing.is_spent {
         return Some(Order::Change(first_grid(cluster)));
     }
@@ -110,255 +75,6 @@ fn leader_order(cluster: &Cluster, standing: Standing, care: &mut Care) -> Optio
 }
 
 impl<K: Renew + Drop> Node<K> {
-    // How many slots a replica of this name holds.
-    fn held_by(&self, role: RoleId) -> u64
-        ensures { result ≡ held_by role (hosted_in self.now.guests) }
-    {
-        let Some(place) = self.find(role) else {
-            return 0;
-        };
-        self.seats[place].held()
-    }
-
-    // Whether a replica holds a further multiple of 8 slots.
-    fn holds_more(&self, role: RoleId, before: u64) -> bool
-        ensures { result ≡ nat_lt (before / 8) (held_by role (hosted_in self.now.guests) / 8) }
-    {
-        before / REPORTED < self.held_by(role) / REPORTED
-    }
-
-    // Whether leader 0 is hosted, and never began a round.
-    fn has_new_leader(&self) -> bool
-        ensures { result ≡ is_leader_so (λ l. is_new l.durable) (first_leader (hosted_in self.now.guests)) }
-    {
-        let Some(place) = self.find(first_name()) else {
-            return false;
-        };
-        self.seats[place].is_new()
-    }
-
-    // Whether leader 0 is hosted, and an order to collect would begin.
-    fn can_collect(&self) -> bool
-        ensures { result ≡ is_leader_so (λ l. can_collect l.volatile) (first_leader (hosted_in self.now.guests)) }
-    {
-        let Some(place) = self.find(first_name()) else {
-            return false;
-        };
-        self.seats[place].can_collect()
-    }
-
-    // What leader 0 reports, where it is hosted.
-    fn standing(&self) -> Option<Standing>
-        ensures { result ≡ option_map standing_of (first_leader (hosted_in self.now.guests)) }
-    {
-        let Some(place) = self.find(first_name()) else {
-            return None;
-        };
-        self.seats[place].standing()
-    }
-
-    // Whether leader 0 isn't ordered at this turn, since it has had a round.
-    fn has_begun(&self, n: u32) -> bool
-        ensures { result
-            ≡ ((n == 1) && not (is_leader_so (λ l. is_new l.durable) (first_leader (hosted_in self.now.guests)))) }
-    {
-        n == 1 && !self.has_new_leader()
-    }
-
-    // Gives leader 0 this order, if there is one.
-    fn command<L: Link, W: Sink>(
-        &mut self,
-        order: Option<Order>,
-        link: &mut L,
-        out: &mut W,
-    ) -> Result<(), Stop>
-        requires ready { AreReady self.old.cluster self.old.guests }
-        ensures acts { ActsPart (changing K.append_gives K.renew_gives) self.old.cluster (gets order) result
-            (scene_of L.Link W.Sink self.old link.old out.old) (scene_of L.Link W.Sink self.new link.new out.new) }
-        ensures blames { Blames result (failed L.Link W.Sink link.old out.old) (failed L.Link W.Sink link.new out.new) }
-        ensures cluster { self.new.cluster ≡ self.old.cluster }
-    {
-        match order {
-            Some(order) => self.act_named(
-                first_name(),
-                &Doing::Give {
-                    number: 0,
-                    input: Input::Order { order },
-                },
-                link,
-                out,
-            ),
-            None => Ok(()),
-        }
-    }
-
-    // The role at a place ticks, if there is one that is meant to.
-    fn tick_at<L: Link, W: Sink>(
-        &mut self,
-        whom: Whom,
-        care: &Care,
-        place: usize,
-        link: &mut L,
-        out: &mut W,
-    ) -> Result<(), Stop>
-        requires ready { AreReady self.old.cluster self.old.guests }
-        ensures acts { ActsPart (changing K.append_gives K.renew_gives) self.old.cluster
-            (ticks_if (is_meant whom care.now.marks) place) result
-            (scene_of L.Link W.Sink self.old link.old out.old) (scene_of L.Link W.Sink self.new link.new out.new) }
-        ensures blames { Blames result (failed L.Link W.Sink link.old out.old) (failed L.Link W.Sink link.new out.new) }
-        ensures cluster { self.new.cluster ≡ self.old.cluster }
-    {
-        if is_meant_at(whom, care, place, &self.seats) {
-            let tick = Doing::Give {
-                number: 0,
-                input: Input::Tick,
-            };
-            return self.act(place, &tick, link, out);
-        }
-        Ok(())
-    }
-
-    // Those at these places that are meant to tick, one after the other.
-    fn tick_in_turn<L: Link, W: Sink>(
-        &mut self,
-        whom: Whom,
-        care: &Care,
-        places: &[usize],
-        link: &mut L,
-        out: &mut W,
-    ) -> Result<(), Stop>
-        requires ready { AreReady self.old.cluster self.old.guests }
-        ensures acts { ActsPart (changing K.append_gives K.renew_gives) self.old.cluster
-            (in_turn (is_meant whom care.now.marks) places.now) result
-            (scene_of L.Link W.Sink self.old link.old out.old) (scene_of L.Link W.Sink self.new link.new out.new) }
-        ensures blames { Blames result (failed L.Link W.Sink link.old out.old) (failed L.Link W.Sink link.new out.new) }
-        ensures cluster { self.new.cluster ≡ self.old.cluster }
-    {
-        for place in places {
-            self.tick_at(whom, care, *place, link, out)?;
-        }
-        Ok(())
-    }
-
-    // Those that are meant to tick, in order.
-    fn tick_those<L: Link, W: Sink>(
-        &mut self,
-        whom: Whom,
-        care: &Care,
-        link: &mut L,
-        out: &mut W,
-    ) -> Result<(), Stop>
-        requires ready { AreReady self.old.cluster self.old.guests }
-        ensures acts { ActsPart (changing K.append_gives K.renew_gives) self.old.cluster
-            (those_tick (is_meant whom care.now.marks)) result
-            (scene_of L.Link W.Sink self.old link.old out.old) (scene_of L.Link W.Sink self.new link.new out.new) }
-        ensures blames { Blames result (failed L.Link W.Sink link.old out.old) (failed L.Link W.Sink link.new out.new) }
-        ensures cluster { self.new.cluster ≡ self.old.cluster }
-    {
-        let count = self.seats.len();
-        for place in 0..count {
-            self.tick_at(whom, care, place, link, out)?;
-        }
-        Ok(())
-    }
-
-    // Leader 0 is ordered to lead, unless it is turn 1 and it has had a round.
-    fn tend_order<L: Link, W: Sink>(
-        &mut self,
-        n: u32,
-        link: &mut L,
-        out: &mut W,
-    ) -> Result<(), Stop>
-        requires ready { AreReady self.old.cluster self.old.guests }
-        ensures acts { ActsPart (changing K.append_gives K.renew_gives) self.old.cluster
-            (tend_ordered self.old.cluster n) result
-            (scene_of L.Link W.Sink self.old link.old out.old) (scene_of L.Link W.Sink self.new link.new out.new) }
-        ensures blames { Blames result (failed L.Link W.Sink link.old out.old) (failed L.Link W.Sink link.new out.new) }
-        ensures cluster { self.new.cluster ≡ self.old.cluster }
-    {
-        if self.has_begun(n) {
-            return Ok(());
-        }
-        self.order(n, link, out)
-    }
-
-    // The first part of the n-th turn.
-    fn tend_prepare<L: Link, W: Sink>(
-        &mut self,
-        n: u32,
-        link: &mut L,
-        out: &mut W,
-    ) -> Result<(), Stop>
-        requires ready { AreReady self.old.cluster self.old.guests }
-        ensures acts { ActsPart (changing K.append_gives K.renew_gives) self.old.cluster
-            (tend_prepared self.old.cluster n) result
-            (scene_of L.Link W.Sink self.old link.old out.old) (scene_of L.Link W.Sink self.new link.new out.new) }
-        ensures blames { Blames result (failed L.Link W.Sink link.old out.old) (failed L.Link W.Sink link.new out.new) }
-        ensures cluster { self.new.cluster ≡ self.old.cluster }
-    {
-        self.tend_order(n, link, out)?;
-        self.snap(n, link, out)
-    }
-
-    // A role ticks, if its log has come to a further multiple of 8 slots.
-    fn report<L: Link, W: Sink>(
-        &mut self,
-        role: RoleId,
-        before: u64,
-        link: &mut L,
-        out: &mut W,
-    ) -> Result<(), Stop>
-        requires ready { AreReady self.old.cluster self.old.guests }
-        ensures acts { ActsPart (changing K.append_gives K.renew_gives) self.old.cluster
-            (reported role before) result
-            (scene_of L.Link W.Sink self.old link.old out.old) (scene_of L.Link W.Sink self.new link.new out.new) }
-        ensures blames { Blames result (failed L.Link W.Sink link.old out.old) (failed L.Link W.Sink link.new out.new) }
-        ensures cluster { self.new.cluster ≡ self.old.cluster }
-    {
-        if self.holds_more(role, before) {
-            let tick = Doing::Give {
-                number: 0,
-                input: Input::Tick,
-            };
-            return self.act_named(role, &tick, link, out);
-        }
-        Ok(())
-    }
-
-    // Leader 0 is ordered to collect, where that would begin.
-    fn collect<L: Link, W: Sink>(&mut self, link: &mut L, out: &mut W) -> Result<(), Stop>
-        requires ready { AreReady self.old.cluster self.old.guests }
-        ensures acts { ActsPart (changing K.append_gives K.renew_gives) self.old.cluster collected result
-            (scene_of L.Link W.Sink self.old link.old out.old) (scene_of L.Link W.Sink self.new link.new out.new) }
-        ensures blames { Blames result (failed L.Link W.Sink link.old out.old) (failed L.Link W.Sink link.new out.new) }
-        ensures cluster { self.new.cluster ≡ self.old.cluster }
-    {
-        if self.can_collect() {
-            return self.command(Some(Order::Collect), link, out);
-        }
-        Ok(())
-    }
-
-    // Where leader 0 took something, it is ordered to collect.
-    fn collect_for<L: Link, W: Sink>(
-        &mut self,
-        to: RoleId,
-        link: &mut L,
-        out: &mut W,
-    ) -> Result<(), Stop>
-        requires ready { AreReady self.old.cluster self.old.guests }
-        ensures acts { ActsPart (changing K.append_gives K.renew_gives) self.old.cluster
-            (λ s. if same_role to (role kind.Leader 0) then collected s else stays s) result
-            (scene_of L.Link W.Sink self.old link.old out.old) (scene_of L.Link W.Sink self.new link.new out.new) }
-        ensures blames { Blames result (failed L.Link W.Sink link.old out.old) (failed L.Link W.Sink link.new out.new) }
-        ensures cluster { self.new.cluster ≡ self.old.cluster }
-    {
-        if to.is(first_name()) {
-            return self.collect(link, out);
-        }
-        Ok(())
-    }
-
     // A role takes a datagram; a replica may then tick, and leader 0 collect.
     fn heed<L: Link, W: Sink>(
         &mut self,
@@ -451,7 +167,7 @@ impl<K: Renew + Drop> Node<K> {
         ensures acts { ActsTended (changing K.append_gives K.renew_gives) self.old.cluster
             (leader_part self.old.cluster) result care.old
             (scene_of L.Link W.Sink self.old link.old out.old) (scene_of L.Link W.Sink self.new link.new out.new) }
-        ensures care { Counts (leader_part self.old.cluster) result care.old care.new (course_at self.old) }
+        ensures care { IsCareAfter (leader_part self.old.cluster) result care.old care.new (course_at self.old) }
         ensures blames { Blames result (failed L.Link W.Sink link.old out.old) (failed L.Link W.Sink link.new out.new) }
         ensures cluster { self.new.cluster ≡ self.old.cluster }
     {
@@ -475,13 +191,13 @@ impl<K: Renew + Drop> Node<K> {
         ensures acts { ActsTended (changing K.append_gives K.renew_gives) self.old.cluster
             next_pass result care.old
             (scene_of L.Link W.Sink self.old link.old out.old) (scene_of L.Link W.Sink self.new link.new out.new) }
-        ensures care { Counts next_pass result care.old care.new (course_at self.old) }
+        ensures care { IsCareAfter next_pass result care.old care.new (course_at self.old) }
         ensures blames { Blames result (failed L.Link W.Sink link.old out.old) (failed L.Link W.Sink link.new out.new) }
         ensures cluster { self.new.cluster ≡ self.old.cluster }
     {
         self.tick_in_turn(Whom::Overtaken, care, care.queue(), link, out)?;
-        let marks = completed_by(self.alloc, &self.seats)?;
-        care.begin_pass(self.alloc, marks)?;
+        let counts = completed_by(self.alloc, &self.seats)?;
+        care.begin_pass(self.alloc, counts)?;
         Ok(())
     }
 
@@ -496,7 +212,7 @@ impl<K: Renew + Drop> Node<K> {
         ensures acts { ActsTended (changing K.append_gives K.renew_gives) self.old.cluster
             clients_tended result care.old
             (scene_of L.Link W.Sink self.old link.old out.old) (scene_of L.Link W.Sink self.new link.new out.new) }
-        ensures care { Counts clients_tended result care.old care.new (course_at self.old) }
+        ensures care { IsCareAfter clients_tended result care.old care.new (course_at self.old) }
         ensures blames { Blames result (failed L.Link W.Sink link.old out.old) (failed L.Link W.Sink link.new out.new) }
         ensures cluster { self.new.cluster ≡ self.old.cluster }
     {
@@ -523,7 +239,7 @@ impl<K: Renew + Drop> Node<K> {
         ensures acts { ActsTended (changing K.append_gives K.renew_gives) self.old.cluster
             (beat self.old.cluster) result care.old
             (scene_of L.Link W.Sink self.old link.old out.old) (scene_of L.Link W.Sink self.new link.new out.new) }
-        ensures care { Counts (beat self.old.cluster) result care.old care.new (course_at self.old) }
+        ensures care { IsCareAfter (beat self.old.cluster) result care.old care.new (course_at self.old) }
         ensures blames { Blames result (failed L.Link W.Sink link.old out.old) (failed L.Link W.Sink link.new out.new) }
         ensures cluster { self.new.cluster ≡ self.old.cluster }
     {
@@ -545,7 +261,7 @@ impl<K: Renew + Drop> Node<K> {
         ensures acts { ActsTended (changing K.append_gives K.renew_gives) self.old.cluster
             (turn_ended self.old.cluster most came) result care.old
             (scene_of L.Link W.Sink self.old link.old out.old) (scene_of L.Link W.Sink self.new link.new out.new) }
-        ensures care { Counts
+        ensures care { IsCareAfter
             (turn_ended self.old.cluster most came) result care.old care.new (course_at self.old) }
         ensures blames { Blames result (failed L.Link W.Sink link.old out.old) (failed L.Link W.Sink link.new out.new) }
         ensures cluster { self.new.cluster ≡ self.old.cluster }

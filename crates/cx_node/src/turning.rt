@@ -9,7 +9,7 @@ ghost use Rattle.cx_node.specs.Changing.{changing};
 ghost use Rattle.cx_node.specs.Guest.{AreReady};
 ghost use Rattle.cx_base.specs.Role.{role};
 ghost use Rattle.cx_base.specs.declared.role.Kind.TheVariants as kind;
-ghost use Rattle.cx_course.specs.Run.{comes, grid_of, lead_at, ordered, place_of, prepared, snaps, ticked, turn};
+ghost use Rattle.cx_course.specs.Run.{comes, grid_of, lead_at, ordered, hosted_place, prepared, snaps, ticked, node_turn};
 ghost use Rattle.cx_node.specs.TendedParts.{ActsTurn};
 ghost use Rattle.cx_course.specs.Tending.{any_turn};
 
@@ -105,7 +105,7 @@ pub fn receive<L: Link>(
     buffer: &mut [u8],
     link: &mut L,
 ) -> Result<Come, Stop>
-    ensures told { Receives recorder.now (L.told link.old) (L.told link.new) result }
+    ensures receives { Receives recorder.now (L.history link.old) (L.history link.new) result }
     ensures fault { result ≡ Err stop.LinkFault → Rises (L.faults link.old) (L.faults link.new) }
     ensures no_fault { (result ≡ Err stop.LinkFault → ⊥) → L.faults link.new ≡ L.faults link.old }
     ensures no_write { result ≡ Err stop.WriteFault → ⊥ }
@@ -126,7 +126,7 @@ impl<K: Renew + Drop> Node<K> {
     fn lead<L: Link, W: Sink>(&mut self, link: &mut L, out: &mut W) -> Result<(), Stop>
         requires ready { AreReady self.old.cluster self.old.guests }
         ensures acts { ActsPart (changing K.append_gives K.renew_gives) self.old.cluster
-            (λ s. lead_at self.old.cluster (place_of (role kind.Leader 0) s.hosted) s) result
+            (λ s. lead_at self.old.cluster (hosted_place (role kind.Leader 0) s.hosted) s) result
             (scene_of L.Link W.Sink self.old link.old out.old) (scene_of L.Link W.Sink self.new link.new out.new) }
         ensures blames { Blames result (failed L.Link W.Sink link.old out.old) (failed L.Link W.Sink link.new out.new) }
         ensures cluster { self.new.cluster ≡ self.old.cluster }
@@ -245,7 +245,7 @@ impl<K: Renew + Drop> Node<K> {
     ) -> Result<(), Stop>
         requires ready { AreReady self.old.cluster self.old.guests }
         ensures acts { ActsTaking (changing K.append_gives K.renew_gives) self.old.cluster
-            (turn self.old.cluster n) result
+            (node_turn self.old.cluster n) result
             (scene_of L.Link W.Sink self.old link.old out.old) (scene_of L.Link W.Sink self.new link.new out.new) }
         ensures blames { Blames result (failed L.Link W.Sink link.old out.old) (failed L.Link W.Sink link.new out.new) }
         ensures cluster { self.new.cluster ≡ self.old.cluster }

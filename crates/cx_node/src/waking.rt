@@ -6,7 +6,7 @@ ghost use Rattle.cx_base.specs.declared.role.Kind.TheVariants as kind;
 ghost use Rattle.cx_journal.specs.Files.{OneFile, TwoFiles, both_told, one_told};
 ghost use Rattle.cx_journal.specs.Image.{SameImage};
 ghost use Rattle.cx_journal.specs.State.{told_records, IsImageOf};
-ghost use Rattle.cx_journal.specs.Twin.{BothTell, IsPairImageOf, SamePair, told_by};
+ghost use Rattle.cx_journal.specs.Twin.{BothTell, IsPairImageOf, SamePair, seen_pair_records};
 ghost use Rattle.cx_journal.specs.TwinChanges.{OneRises};
 ghost use Rattle.cx_model.specs.Names.{names_role};
 ghost use Rattle.cx_model.specs.Replica.{replica_rules};
@@ -90,7 +90,7 @@ pub fn wake_twin<D: Disk>(
     ensures whole { IfOk result (λ p. p.0.whole ≡ true) }
     ensures lasts { BothTell D.seen first second
         → IfOk result (λ p. (a b : List ℕ) → D.may_leave p.0.first a → D.may_leave p.0.second b
-        → IsPairImageOf (told_by D.seen p.0.first p.0.second) a b) }
+        → IsPairImageOf (seen_pair_records D.seen p.0.first p.0.second) a b) }
     ensures bad { (a b : List ℕ) (at : ℕ) → D.seen first ≡ Some a → D.seen second ≡ Some b
         → IfErr result (λ e. e.0 ≡ wake_stop.Bad at → IsBadStore replica_rules cluster.now me (TwoFiles a b) at) }
     ensures same { (a b now now_second : List ℕ) → D.seen first ≡ Some a → D.seen second ≡ Some b

@@ -7,11 +7,11 @@ use Rattle.std.proofs.lemmas.List.{append-nil}
 use Rattle.cx_base.specs.Lists.{numbers}
 use Rattle.cx_base.specs.declared.command.Value.{Value}
 use Rattle.cx_field.specs.declared.parts.Vote.{Vote}
-use Rattle.cx_ring.specs.Ring.{RingState, value_at, with_value, values_from, raised}
+use Rattle.cx_ring.specs.Ring.{RingState, value_at, with_value, values_from_slot, raise_ring}
 use Rattle.cx_model.specs.declared.states.Plan.{Plan}
 use Rattle.cx_model.specs.declared.states.Promised.{Promised}
 use Rattle.cx_model.specs.Plan.{greatest_cw, end_told, votes_told, best_vote, voted_value, plan_between, plan}
-use Rattle.cx_phase1.specs.Best.{better, slot_of, replaces, with_vote, with_votes, values_between, plan_of}
+use Rattle.cx_phase1.specs.Best.{better, slot_of, replaces, best_with_vote, with_votes, values_between, plan_of}
 use Rattle.cx_phase1.specs.Sound.{IsBest}
 use Rattle.cx_phase1.proofs.PlanLaws.{end_append, best_append, better_on, better_none}
 
@@ -35,28 +35,28 @@ value_put v s [] = refl
 value_put v s (x ∷ xs) = put_by v x s xs _ _ _ refl refl refl (value_put v s xs)
 
 from_by : (first s : ℕ) (x : Vote) (xs : List Vote) (high here : Bool) → first ≤ s → nat_le first x.slot ≡ high → (x.slot == s) ≡ here
-    → value_at slot_of s (values_from slot_of first xs) ≡ value_at slot_of s xs
-    → value_at slot_of s (values_from slot_of first (x ∷ xs)) ≡ value_at slot_of s (x ∷ xs)
+    → value_at slot_of s (values_from_slot slot_of first xs) ≡ value_at slot_of s xs
+    → value_at slot_of s (values_from_slot slot_of first (x ∷ xs)) ≡ value_at slot_of s (x ∷ xs)
 from_by first s x xs true true le high here rest = rw (high, here) refl
 from_by first s x xs true false le high here rest = rw (high, here) rest
 from_by first s x xs false true le high here rest = absurd (grind (arith, nat_tests))
 from_by first s x xs false false le high here rest = rw (high, here) rest
 
 -- what is dropped below a slot is not found from there on
-value_from : (first s : ℕ) (xs : List Vote) → first ≤ s → value_at slot_of s (values_from slot_of first xs) ≡ value_at slot_of s xs
+value_from : (first s : ℕ) (xs : List Vote) → first ≤ s → value_at slot_of s (values_from_slot slot_of first xs) ≡ value_at slot_of s xs
 value_from first s [] le = refl
 value_from first s (x ∷ xs) le = from_by first s x xs _ _ le refl refl (value_from first s xs le)
 
 -- ---- one vote more
 
-pub first_same : (v : Vote) (best : RingState Vote) → (with_vote v best).first ≡ best.first
+pub first_same : (v : Vote) (best : RingState Vote) → (best_with_vote v best).first ≡ best.first
 first_same v best = first_by (nat_le best.first v.slot && replaces v (value_at slot_of v.slot best.items))
   where
     first_by : (goes : Bool) → (if goes then record best { items = with_value slot_of v best.items } else best).first ≡ best.first
     first_by true = refl
     first_by false = refl
 
-pub room_same : (v : Vote) (best : RingState Vote) → (with_vote v best).room ≡ best.room
+pub room_same : (v : Vote) (best : RingState Vote) → (best_with_vote v best).room ≡ best.room
 room_same v best = room_by (nat_le best.first v.slot && replaces v (value_at slot_of v.slot best.items))
   where
     room_by : (goes : Bool) → (if goes then record best { items = with_value slot_of v best.items } else best).room ≡ best.room
@@ -65,7 +65,7 @@ room_same v best = room_by (nat_le best.first v.slot && replaces v (value_at slo
 
 -- the vote goes into its slot's place where it is better than what is there
 held_on_by : (v : Vote) (best : RingState Vote) (so_far : Option Vote) (goes : Bool) → nat_le best.first v.slot ≡ true → value_at slot_of v.slot best.items ≡ so_far → replaces v so_far ≡ goes
-    → value_at slot_of v.slot (with_vote v best).items ≡ better so_far (Some v)
+    → value_at slot_of v.slot (best_with_vote v best).items ≡ better so_far (Some v)
 held_on_by v best None goes low is new =
     let same : (v.slot == v.slot) ≡ true = eq-eqb v.slot v.slot refl in
     rw (low, is) (value_put v v.slot best.items ∙ ap (λ (b : Bool). if b then Some v else value_at slot_of v.slot best.items) same)
@@ -74,20 +74,20 @@ held_on_by v best (Some first) true low is new =
     rw (low, is, new) (value_put v v.slot best.items ∙ ap (λ (b : Bool). if b then Some v else value_at slot_of v.slot best.items) same)
 held_on_by v best (Some first) false low is new = rw (low, is, new) is
 
-held_on : (v : Vote) (best : RingState Vote) (s : ℕ) → best.first ≤ s → v.slot ≡ s → value_at slot_of s (with_vote v best).items ≡ better (value_at slot_of s best.items) (Some v)
+held_on : (v : Vote) (best : RingState Vote) (s : ℕ) → best.first ≤ s → v.slot ≡ s → value_at slot_of s (best_with_vote v best).items ≡ better (value_at slot_of s best.items) (Some v)
 held_on v best s le at =
-    subst (λ (s : ℕ). value_at slot_of s (with_vote v best).items ≡ better (value_at slot_of s best.items) (Some v)) at
+    subst (λ (s : ℕ). value_at slot_of s (best_with_vote v best).items ≡ better (value_at slot_of s best.items) (Some v)) at
     (held_on_by v best (value_at slot_of v.slot best.items) _ (le-leb best.first v.slot (omega arith)) refl refl)
 
 -- and leaves every other slot as it was
 held_past_by : (v : Vote) (best : RingState Vote) (s : ℕ) (goes : Bool) → (nat_le best.first v.slot && replaces v (value_at slot_of v.slot best.items)) ≡ goes → (v.slot == s) ≡ false
-    → value_at slot_of s (with_vote v best).items ≡ value_at slot_of s best.items
+    → value_at slot_of s (best_with_vote v best).items ≡ value_at slot_of s best.items
 held_past_by v best s true goes other = rw goes (value_put v s best.items ∙ ap (λ (b : Bool). if b then Some v else value_at slot_of s best.items) other)
 held_past_by v best s false goes other = rw goes refl
 
 -- a vote reported is one of those that are still to come
 held_by : (v : Vote) (votes : List Vote) (best : RingState Vote) (s : ℕ) (at : Bool) → best.first ≤ s → (v.slot == s) ≡ at
-    → better (value_at slot_of s (with_vote v best).items) (best_vote s votes) ≡ better (value_at slot_of s best.items) (best_vote s (v ∷ votes))
+    → better (value_at slot_of s (best_with_vote v best).items) (best_vote s votes) ≡ better (value_at slot_of s best.items) (best_vote s (v ∷ votes))
 held_by v votes best s true le at =
     let here : v.slot ≡ s = eqb-true v.slot s at in
     ap (λ (o : Option Vote). better o (best_vote s votes)) (held_on v best s le here) ∙ better_on (value_at slot_of s best.items) s v votes here
@@ -97,13 +97,13 @@ held_by v votes best s false le at = rw at (ap (λ (o : Option Vote). better o (
 
 pub first_all : (votes : List Vote) (best : RingState Vote) → (with_votes votes best).first ≡ best.first
 first_all [] best = refl
-first_all (v ∷ votes) best = first_all votes (with_vote v best) ∙ first_same v best
+first_all (v ∷ votes) best = first_all votes (best_with_vote v best) ∙ first_same v best
 
 held_all : (votes : List Vote) (best : RingState Vote) (s : ℕ) → best.first ≤ s → value_at slot_of s (with_votes votes best).items ≡ better (value_at slot_of s best.items) (best_vote s votes)
 held_all [] best s le = sym (better_none (value_at slot_of s best.items))
 held_all (v ∷ votes) best s le =
-    let low : (with_vote v best).first ≤ s = subst (λ (n : ℕ). n ≤ s) (sym (first_same v best)) le in
-    held_all votes (with_vote v best) s low ∙ held_by v votes best s _ le refl
+    let low : (best_with_vote v best).first ≤ s = subst (λ (n : ℕ). n ≤ s) (sym (first_same v best)) le in
+    held_all votes (best_with_vote v best) s low ∙ held_by v votes best s _ le refl
 
 greatest_more : (low : ℕ) (promises : List Promised) (p : Promised) → greatest_cw low (promises ++ p ∷ []) ≡ max (greatest_cw low promises) p.cw
 greatest_more low [] p = omega arith
@@ -115,9 +115,9 @@ votes_more (q ∷ promises) p = ap (λ (vs : List Vote). q.votes ++ vs) (votes_m
 
 -- one more answer
 pub best_more : (promises : List Promised) (p : Promised) (best : RingState Vote) (behind : ℕ) → IsBest promises best behind
-    → IsBest (promises ++ p ∷ []) (with_votes p.votes (raised slot_of p.cw best)) (end_told behind p.votes)
+    → IsBest (promises ++ p ∷ []) (with_votes p.votes (raise_ring slot_of p.cw best)) (end_told behind p.votes)
 best_more promises p best behind is =
-    let r : RingState Vote = raised slot_of p.cw best in
+    let r : RingState Vote = raise_ring slot_of p.cw best in
     let first : (with_votes p.votes r).first ≡ max best.first p.cw = first_all p.votes r in
     let more = votes_more promises p in
     record {

@@ -11,11 +11,11 @@ use Rattle.cx_model.specs.Outcome.{either_way}
 use Rattle.cx_model.specs.declared.states.Promised.{Promised}
 use Rattle.cx_model.specs.Plan.{greatest_cw, end_told, votes_told, greater_vote, best_vote, voted_value, plan}
 use Rattle.cx_phase1.specs.Planned.{IsPlan}
-use Rattle.cx_phase1.specs.Sound.{IsVote, IsPromise}
+use Rattle.cx_phase1.specs.Sound.{IsVote, IsPromiseInRange}
 
-greatest_high : (low : ℕ) (ps : List Promised) → low ≤ 2 ^ 40 → All IsPromise ps → greatest_cw low ps ≤ 2 ^ 40
+greatest_high : (low : ℕ) (ps : List Promised) → low ≤ 2 ^ 40 → All IsPromiseInRange ps → greatest_cw low ps ≤ 2 ^ 40
 greatest_high low [] le all = le
-greatest_high low (p ∷ ps) le all = omega (arith, (All-head IsPromise p ps all).cw, greatest_high low ps le (All-tail IsPromise p ps all))
+greatest_high low (p ∷ ps) le all = omega (arith, (All-head IsPromiseInRange p ps all).cw, greatest_high low ps le (All-tail IsPromiseInRange p ps all))
 
 pub end_low : (low : ℕ) (vs : List Vote) → low ≤ end_told low vs
 end_low low [] = omega arith
@@ -36,30 +36,30 @@ all_told P Q told (p ∷ ps) all = All-append P p.votes (votes_told ps) (told p 
 -- answers whose watermarks are at most this one
 pub record IsUnder (cw : ℕ) (p : Promised) : Type 0 where
   pub under : p.cw ≤ cw
-  pub told : IsPromise p
+  pub told : IsPromiseInRange p
 
 under_more : (a b : ℕ) → a ≤ b → (p : Promised) → IsUnder a p → IsUnder b p
 under_more a b le p is = record { under = omega (arith, is.under); told = is.told }
 
-all_under : (low : ℕ) (ps : List Promised) → All IsPromise ps → All (IsUnder (greatest_cw low ps)) ps
+all_under : (low : ℕ) (ps : List Promised) → All IsPromiseInRange ps → All (IsUnder (greatest_cw low ps)) ps
 all_under low [] all = All-nil (IsUnder low)
 all_under low (p ∷ ps) all =
     let cw = greatest_cw low (p ∷ ps) in
-    All-cons (IsUnder cw) p ps (record { under = omega arith; told = All-head IsPromise p ps all })
-    (All-weaker (IsUnder (greatest_cw low ps)) (IsUnder cw) (under_more (greatest_cw low ps) cw (omega arith)) ps (all_under low ps (All-tail IsPromise p ps all)))
+    All-cons (IsUnder cw) p ps (record { under = omega arith; told = All-head IsPromiseInRange p ps all })
+    (All-weaker (IsUnder (greatest_cw low ps)) (IsUnder cw) (under_more (greatest_cw low ps) cw (omega arith)) ps (all_under low ps (All-tail IsPromiseInRange p ps all)))
 
 in_window : (cw : ℕ) (p : Promised) → IsUnder cw p → All (λ (v : Vote). v.slot < cw + 32) p.votes
 in_window cw p is =
     let under : p.cw ≤ cw = is.under in
     All-weaker (IsVote p.cw) (λ (v : Vote). v.slot < cw + 32) (λ v vote. omega (arith, vote.high)) p.votes is.told.votes
 
-in_slots : (p : Promised) → IsPromise p → All (λ (v : Vote). v.slot < 2 ^ 40) p.votes
+in_slots : (p : Promised) → IsPromiseInRange p → All (λ (v : Vote). v.slot < 2 ^ 40) p.votes
 in_slots p is = All-weaker (IsVote p.cw) (λ (v : Vote). v.slot < 2 ^ 40) (λ v vote. vote.end) p.votes is.votes
 
 abbrev HasSpelling : Vote → Type 0
 HasSpelling v = IsTrue (field.value.fits v.value)
 
-spelled : (p : Promised) → IsPromise p → All HasSpelling p.votes
+spelled : (p : Promised) → IsPromiseInRange p → All HasSpelling p.votes
 spelled p is = All-weaker (IsVote p.cw) HasSpelling (λ v vote. vote.value) p.votes is.votes
 
 abbrev IsSpelled : Option Vote → Type 0
@@ -86,7 +86,7 @@ length-values : (f : ℕ → Value) (first count : ℕ) → length (map f (numbe
 length-values f first zero = refl
 length-values f first (suc count) = omega (arith, length-values f (first + 1) count)
 
-pub planned : (low : ℕ) (ps : List Promised) → low ≤ 2 ^ 40 → All IsPromise ps → IsPlan (plan low ps)
+pub planned : (low : ℕ) (ps : List Promised) → low ≤ 2 ^ 40 → All IsPromiseInRange ps → IsPlan (plan low ps)
 planned low ps le all =
     let cw = greatest_cw low ps in
     let vs = votes_told ps in
@@ -94,7 +94,7 @@ planned low ps le all =
     record {
       low = end_low cw vs;
       high = under;
-      end = end_high cw (2 ^ 40) vs (greatest_high low ps le all) (all_told (λ (v : Vote). v.slot < 2 ^ 40) IsPromise in_slots ps all);
+      end = end_high cw (2 ^ 40) vs (greatest_high low ps le all) (all_told (λ (v : Vote). v.slot < 2 ^ 40) IsPromiseInRange in_slots ps all);
       count = omega (arith, length-values (λ s. voted_value (best_vote s vs)) cw (end_told cw vs - cw), end_low cw vs);
-      values = values_spelled vs (all_told HasSpelling IsPromise spelled ps all) cw (end_told cw vs - cw);
+      values = values_spelled vs (all_told HasSpelling IsPromiseInRange spelled ps all) cw (end_told cw vs - cw);
     }

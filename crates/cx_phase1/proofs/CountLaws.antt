@@ -15,13 +15,13 @@ use Rattle.cx_field.specs.Ranges.{vote_in_range}
 use Rattle.cx_field.specs.declared.parts.Entry.{Entry}
 use Rattle.cx_field.specs.declared.parts.Vote.{Vote}
 use Rattle.cx_field.proofs.ListLaws.{votes_apart}
-use Rattle.cx_ring.specs.Ring.{RingState, raised}
+use Rattle.cx_ring.specs.Ring.{RingState, raise_ring}
 use Rattle.cx_model.specs.declared.states.Promised.{Promised}
 use Rattle.cx_model.specs.Matched.{is_member_of, rows_whole}
 use Rattle.cx_model.specs.Plan.{promised_by, has_promised, end_told}
 use Rattle.cx_phase1.specs.Best.{slot_of, with_votes}
 use Rattle.cx_phase1.specs.Counting.{are_ids}
-use Rattle.cx_phase1.specs.Sound.{IsVote, IsPromise, IsSound}
+use Rattle.cx_phase1.specs.Sound.{IsVote, IsPromiseInRange, IsSound}
 use Rattle.cx_phase1.proofs.BestLaws.{best_more}
 
 -- ---- members are below 64
@@ -101,7 +101,7 @@ are_in_range cw (v ∷ vs) h =
     let p = and_parts (vote_in_range cw v) (list_all (λ x. vote_in_range cw x) vs) h in
     All-cons (IsVote cw) v vs (in_range cw v p.0) (are_in_range cw vs p.1)
 
-pub promise_told : (p : Promised) → IsTrue (field.mark.fits p.cw) → IsTrue ((field.votes p.cw).fits p.votes) → IsPromise p
+pub promise_told : (p : Promised) → IsTrue (field.mark.fits p.cw) → IsTrue ((field.votes p.cw).fits p.votes) → IsPromiseInRange p
 unfolding field.mark
 promise_told p cw votes = record {
   cw = leb-true p.cw (2 ^ 40) (and_parts _ (nat_le p.cw (2 ^ 40)) cw).1;
@@ -110,11 +110,11 @@ promise_told p cw votes = record {
 
 -- ---- one more answer is counted
 
-pub sound_more : (live : List Entry) (promises : List Promised) (marks : List ℕ) (best : RingState Vote) (end : ℕ) (p : Promised) → IsSound live promises marks best end → IsPromise p
-    → IsSound live (promises ++ p ∷ []) (with_mark p.acceptor marks) (with_votes p.votes (raised slot_of p.cw (record best { room = true }))) (end_told end p.votes)
+pub sound_more : (live : List Entry) (promises : List Promised) (marks : List ℕ) (best : RingState Vote) (end : ℕ) (p : Promised) → IsSound live promises marks best end → IsPromiseInRange p
+    → IsSound live (promises ++ p ∷ []) (with_mark p.acceptor marks) (with_votes p.votes (raise_ring slot_of p.cw (record best { room = true }))) (end_told end p.votes)
 sound_more live promises marks best end p is told = record {
   ids = is.ids;
   marked = marked_more marks promises p is.marked;
-  told = All-push IsPromise promises p is.told told;
+  told = All-push IsPromiseInRange promises p is.told told;
   best = best_more promises p (record best { room = true }) end (record { first = is.best.first; votes = is.best.votes; end = is.best.end });
 }

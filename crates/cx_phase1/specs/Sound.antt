@@ -17,11 +17,11 @@ pub record IsVote (cw : ℕ) (v : Vote) : Type 0 where
   pub value : IsTrue (field.value.fits v.value)
 
 -- what an acceptor reported: a number of slots, and such votes
-pub record IsPromise (p : Promised) : Type 0 where
+pub record IsPromiseInRange (p : Promised) : Type 0 where
   pub cw : p.cw ≤ 2 ^ 40
   pub votes : All (IsVote p.cw) p.votes
 
--- the window begins at the greatest watermark reported, each of its slots has the best vote reported for it, and the end is after
+-- the window begins at the greatest chosen watermark reported, each of its slots has the best vote reported for it, and the end is after
 -- the greatest slot reported
 pub record IsBest (promises : List Promised) (best : RingState Vote) (behind : ℕ) : Type 0 where
   pub first : best.first ≡ greatest_cw 0 promises
@@ -32,5 +32,5 @@ pub record IsBest (promises : List Promised) (best : RingState Vote) (behind : �
 pub record IsSound (live : List Entry) (promises : List Promised) (marks : List ℕ) (votes : RingState Vote) (end : ℕ) : Type 0 where
   pub ids : IsTrue (are_ids live)
   pub marked : (id : ℕ) → is_in id marks ≡ has_promised id promises
-  pub told : All IsPromise promises
+  pub told : All IsPromiseInRange promises
   pub best : IsBest promises votes end

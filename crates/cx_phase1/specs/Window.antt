@@ -6,7 +6,7 @@ pub record Window : Type 0 where
   pub cw : ℕ
   pub next : ℕ
 
--- the window has 32 slots from the watermark on, and slots end at 2^40
+-- the window has 32 slots from the chosen watermark on, and slots end at 2^40
 pub record IsWindow (cw next : ℕ) : Type 0 where
   pub low : cw ≤ next
   pub high : next ≤ cw + 32
@@ -23,6 +23,6 @@ free_slot w = if is_used_up w then None else Some w.next
 abbrev pub advanced : Window → Window
 advanced w = if is_used_up w then w else record w { next = w.next + 1 }
 
--- a greater watermark: no slot below it is free
-abbrev pub raised : ℕ → Window → Window
-raised cw w = record { cw = max w.cw cw; next = max w.next (max w.cw cw) }
+-- a greater chosen watermark: no slot below it is free
+abbrev pub raise_window : ℕ → Window → Window
+raise_window cw w = record { cw = max w.cw cw; next = max w.next (max w.cw cw) }

@@ -2,8 +2,8 @@
 
 ghost use Rattle.std.specs.Prelude.{◌≡◌, ◌≤◌, ◌<◌, ◌+◌, ◌^◌, true, All};
 ghost use Rattle.std.specs.Option.{option_copied};
-ghost use Rattle.cx_ring.specs.Ring.{raised};
-ghost use Rattle.cx_phase1.specs.Best.{slot_of, replaces, with_vote, with_votes};
+ghost use Rattle.cx_ring.specs.Ring.{raise_ring};
+ghost use Rattle.cx_phase1.specs.Best.{slot_of, replaces, best_with_vote, with_votes};
 ghost use Rattle.cx_phase1.specs.Sound.{IsVote};
 
 use cx_field::Vote;
@@ -37,7 +37,7 @@ fn replaces(vote: &Vote, best: Option<&Vote>) -> bool
 fn hold(best: &mut Best, vote: Vote)
     requires room { best.old.room ≡ true }
     requires high { vote.slot < best.old.first + 32 }
-    ensures { best.new ≡ with_vote vote best.old }
+    ensures { best.new ≡ best_with_vote vote best.old }
 {
     if vote.slot < best.first() {
         return;
@@ -58,12 +58,12 @@ fn hold_all(best: &mut Best, votes: Vec<Vote>)
     }
 }
 
-/// Holds the best of what an acceptor reported from the slot `cw` on, and nothing below it. It takes no memory.
+/// Holds the best of what an acceptor reported from the slot `cw` on, and nothing below it.
 pub fn take_in(best: &mut Best, cw: u64, votes: Vec<Vote>)
     requires room { best.old.room ≡ true }
     requires cw { cw ≤ 2 ^ 40 }
     requires votes { All (IsVote cw) votes.items }
-    ensures { best.new ≡ with_votes votes.items (raised slot_of cw best.old) }
+    ensures { best.new ≡ with_votes votes.items (raise_ring slot_of cw best.old) }
 {
     best.raise(cw);
     hold_all(best, votes);

@@ -4,12 +4,12 @@ ghost use Rattle.std.specs.Prelude.{◌≡◌, ◌≤◌, ◌^◌, [], true, IsT
 ghost use Rattle.cx_field.specs.Fields as field;
 ghost use Rattle.cx_model.specs.Matched.{is_member_of, rows_whole};
 ghost use Rattle.cx_model.specs.Plan.{plan};
-ghost use Rattle.cx_phase1.specs.Counting.{are_ids, told_by, counted_by};
+ghost use Rattle.cx_phase1.specs.Counting.{are_ids, count_promise, counted_by};
 ghost use Rattle.cx_phase1.specs.Planned.{IsPlan};
 
 use crate::best::{Best, take_in};
 use crate::planning::{end_of, plan};
-use crate::promises::{Promises, kept, none, with_promise};
+use crate::promises::{Promises, none, same_promises, with_promise};
 use crate::told::Told;
 use cx_base::{Duplicate, NoMemory, copy_all};
 use cx_field::{Entry, Votes};
@@ -25,7 +25,7 @@ pub struct Phase1 {
     alloc: Global,
     live: Vec<Entry>,
     marks: Marks,
-    // The best vote reported for each slot from the greatest watermark reported on.
+    // The best vote reported for each slot from the greatest chosen watermark reported on.
     best: Best,
     // One more than the greatest slot reported, or 0.
     end: u64,
@@ -34,10 +34,10 @@ pub struct Phase1 {
 }
 
 impl Model for Phase1 {
-    ghost use Rattle.cx_phase1.specs.Counting.{Counting};
+    ghost use Rattle.cx_phase1.specs.Counting.{Phase1State};
     ghost use Rattle.cx_phase1.specs.Sound.{IsSound};
 
-    ghost Value = { Counting };
+    ghost Value = { Phase1State };
 
     ghost view = { λ p. record { live = p.live.items; promises = p.told.items } };
 
@@ -93,7 +93,7 @@ impl Phase1 {
         requires cw { IsTrue (field.mark.fits cw) }
         requires votes { IsTrue ((field.votes cw).fits votes.now) }
         ensures told { IfOk result
-            (λ told. told ≡ told_by self.old
+            (λ told. told ≡ count_promise self.old
             (record { acceptor = acceptor; cw = cw; votes = votes.now })) }
         ensures counted { OnOk result
             (self.new ≡ counted_by self.old
@@ -121,7 +121,7 @@ impl Phase1 {
         }
     }
 
-    /// What the leader proposes once each live grid has a whole row: from the greatest watermark reported, and at least `low`, to
+    /// What the leader proposes once each live grid has a whole row: from the greatest chosen watermark reported, and at least `low`, to
     /// after the greatest slot reported, in each slot the value of the greatest round voted there, or a no-op (VLDB 2021).
     pub fn plan(&self, low: u64) -> Result<Plan, NoMemory>
         requires { low ≤ 2 ^ 40 }
@@ -140,7 +140,7 @@ impl Duplicate for Phase1 {
             marks: self.marks.copy(alloc)?,
             best: self.best.copy(alloc)?,
             end: self.end,
-            told: kept(&self.told),
+            told: same_promises(&self.told),
         })
     }
 }

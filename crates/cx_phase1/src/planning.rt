@@ -13,7 +13,7 @@ use cx_field::Vote;
 use cx_model::Plan;
 use std::alloc::Global;
 
-/// One more than the greatest slot of these votes, and at least this one. It takes no memory.
+/// One more than the greatest slot of these votes, and at least this one.
 pub fn end_of(low: u64, cw: u64, votes: &[Vote]) -> u64
     requires { All (IsVote cw) votes.now }
     ensures { result ≡ end_told low votes.now }

@@ -1,12 +1,12 @@
 //! The slots that a leader may still propose at.
 
 ghost use Rattle.std.specs.Prelude.{◌≡◌, ◌≤◌, ◌+◌, ◌^◌};
-ghost use Rattle.cx_phase1.specs.Window.{IsWindow, free_slot, advanced, raised};
+ghost use Rattle.cx_phase1.specs.Window.{IsWindow, free_slot, advanced, raise_window};
 
 use cx_base::{SLOTS, WINDOW};
 use std::marker::Model;
 
-/// The chosen watermark and the next free slot of a window of 32 slots from the watermark on; slots end at 2^40 (VLDB 2021;
+/// The chosen watermark and the next free slot of a window of 32 slots from the chosen watermark on; slots end at 2^40 (VLDB 2021;
 /// the window and the end are this project's own).
 #[derive(Clone, Copy)]
 pub struct Slots {
@@ -27,7 +27,7 @@ impl Model for Slots {
 }
 
 impl Slots {
-    /// The slots from `next` on of the window that begins at `cw`. It takes no memory.
+    /// The slots from `next` on of the window that begins at `cw`.
     pub fn new(cw: u64, next: u64) -> Self
         requires low { cw ≤ next }
         requires high { next ≤ cw + 32 }
@@ -37,8 +37,7 @@ impl Slots {
         Slots { cw, next }
     }
 
-    /// The next slot, which then is not free any more; None exactly where the window is used up, or slots end. It takes no
-    /// memory.
+    /// The next slot, which then is not free any more; None exactly where the window is used up, or slots end.
     pub fn next_slot(&mut self) -> Option<u64>
         ensures slot { result ≡ free_slot self.old }
         ensures rest { self.new ≡ advanced self.old }
@@ -51,11 +50,10 @@ impl Slots {
         Some(slot)
     }
 
-    /// Raises the watermark to `cw`, a number of slots of at most 2^40, or leaves a greater one; no slot below it is free.
-    /// It takes no memory.
+    /// Raises the chosen watermark to `cw`, a number of slots of at most 2^40, or leaves a greater one; no slot below it is free.
     pub fn raise(&mut self, cw: u64)
         requires { cw ≤ 2 ^ 40 }
-        ensures { self.new ≡ raised cw self.old }
+        ensures { self.new ≡ raise_window cw self.old }
     {
         self.cw = self.cw.max(cw);
         self.next = self.next.max(self.cw);

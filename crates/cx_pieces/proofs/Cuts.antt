@@ -3,7 +3,7 @@ use Rattle.std.proofs.Common.{◌≡◌, ◌≤◌, ◌+◌, ◌-◌, ℕ, zero,
 use Rattle.std.specs.List.{slice_get}
 use Rattle.std.proofs.lemmas.List.{drop-append-le, take-append-le, length-drop}
 use Rattle.std.proofs.Math.Seq.{drop-append_seam, take-length}
-use Rattle.cx_pieces.specs.Ends.{AreEnds, begin_of, cut_at}
+use Rattle.cx_pieces.specs.Ends.{AreEnds, begin_of, split_at_ends}
 
 -- what begins a piece is the end before it
 pub begins_behind : (from : ℕ) (ends : List ℕ) (n end : ℕ) → slice_get ends n ≡ Some end → end ≡ begin_of from ends (suc n)
@@ -16,7 +16,7 @@ begins_nowhere from [] n e = refl
 begins_nowhere from (x ∷ ends) zero e = cc
 begins_nowhere from (x ∷ ends) (suc n) e = begins_nowhere x ends n e
 
-pub length-cut : (from : ℕ) (ends : List ℕ) (bytes : List ℕ) → length ends ≡ length (cut_at from ends bytes)
+pub length-cut : (from : ℕ) (ends : List ℕ) (bytes : List ℕ) → length ends ≡ length (split_at_ends from ends bytes)
 length-cut from [] bytes = refl
 length-cut from (x ∷ ends) bytes = ap suc (length-cut x ends bytes)
 
@@ -33,12 +33,12 @@ lies from (x ∷ ends) all zero end h e =
 lies from (x ∷ ends) all (suc n) end h e = lies x ends all n end h.1 e
 
 -- the piece of a number
-pub cut_there : (from : ℕ) (ends bytes : List ℕ) (n end : ℕ) → slice_get ends n ≡ Some end → slice_get (cut_at from ends bytes) n ≡ Some (take (end - begin_of from ends n) (drop (begin_of from ends n) bytes))
+pub cut_there : (from : ℕ) (ends bytes : List ℕ) (n end : ℕ) → slice_get ends n ≡ Some end → slice_get (split_at_ends from ends bytes) n ≡ Some (take (end - begin_of from ends n) (drop (begin_of from ends n) bytes))
 cut_there from [] bytes n end e = cc
 cut_there from (x ∷ ends) bytes zero end e = let same : x ≡ end = cc in rw same refl
 cut_there from (x ∷ ends) bytes (suc n) end e = cut_there x ends bytes n end e
 
-pub cut_nowhere : (from : ℕ) (ends bytes : List ℕ) (n : ℕ) → slice_get ends n ≡ None → slice_get (cut_at from ends bytes) n ≡ None
+pub cut_nowhere : (from : ℕ) (ends bytes : List ℕ) (n : ℕ) → slice_get ends n ≡ None → slice_get (split_at_ends from ends bytes) n ≡ None
 cut_nowhere from [] bytes n e = refl
 cut_nowhere from (x ∷ ends) bytes zero e = cc
 cut_nowhere from (x ∷ ends) bytes (suc n) e = cut_nowhere x ends bytes n e
@@ -48,7 +48,7 @@ pub ends_more : (from : ℕ) (ends : List ℕ) (all end : ℕ) → AreEnds from 
 ends_more from [] all end h l = (omega (arith, h, l), refl)
 ends_more from (x ∷ ends) all end h l = (h.0, ends_more x ends all end h.1 l)
 
-pub cut_more : (from : ℕ) (ends bytes more : List ℕ) (end : ℕ) → AreEnds from ends (length bytes) → end ≡ length bytes + length more → cut_at from (ends ++ end ∷ []) (bytes ++ more) ≡ cut_at from ends bytes ++ more ∷ []
+pub cut_more : (from : ℕ) (ends bytes more : List ℕ) (end : ℕ) → AreEnds from ends (length bytes) → end ≡ length bytes + length more → split_at_ends from (ends ++ end ∷ []) (bytes ++ more) ≡ split_at_ends from ends bytes ++ more ∷ []
 cut_more from [] bytes more end h e =
     let size : end - from ≡ length more = omega (arith, h, e) in
     let rest : drop from (bytes ++ more) ≡ more = rw h (drop-append_seam bytes more) in

@@ -12,7 +12,7 @@ AreFull size [] = Unit {0}
 AreFull size (chunk ∷ chunks) = (length chunk ≡ size) × AreFull size chunks
 
 -- each chunk is full, the pieces in chunks and those after them are this many, and no bytes wait in the room
-pub record AreHeld (count : ℕ) (chunks : List (List (List ℕ))) (last : List (List ℕ)) (room : List ℕ) : Type 0 where
+pub record ArePieceChunks (count : ℕ) (chunks : List (List (List ℕ))) (last : List (List ℕ)) (room : List ℕ) : Type 0 where
   pub count_is : count ≡ length (all_of chunks) + length last
   pub are_full : AreFull 256 chunks
   pub room_is : room ≡ []

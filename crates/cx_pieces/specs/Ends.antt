@@ -2,9 +2,9 @@
 use Rattle.std.specs.Prelude.{◌≡◌, ◌≤◌, ◌-◌, ℕ, zero, suc, List, [], ◌∷◌, take, drop}
 
 -- the pieces of bytes from a place on, given where each of them ends
-abbrev pub cut_at : ℕ → List ℕ → List ℕ → List (List ℕ)
-cut_at from [] bytes = []
-cut_at from (end ∷ ends) bytes = take (end - from) (drop from bytes) ∷ cut_at end ends bytes
+abbrev pub split_at_ends : ℕ → List ℕ → List ℕ → List (List ℕ)
+split_at_ends from [] bytes = []
+split_at_ends from (end ∷ ends) bytes = take (end - from) (drop from bytes) ∷ split_at_ends end ends bytes
 
 -- each piece ends at or after where it begins, and the last one where the bytes end
 abbrev pub AreEnds : ℕ → List ℕ → ℕ → Type 0

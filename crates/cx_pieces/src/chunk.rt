@@ -19,11 +19,11 @@ pub struct Chunk {
 
 impl Model for Chunk {
     ghost use Rattle.std.specs.Prelude.{ℕ, List, length};
-    ghost use Rattle.cx_pieces.specs.Ends.{AreEnds, cut_at};
+    ghost use Rattle.cx_pieces.specs.Ends.{AreEnds, split_at_ends};
 
     ghost Value = { List (List ℕ) };
 
-    ghost view = { λ c. cut_at 0 c.ends.items c.bytes };
+    ghost view = { λ c. split_at_ends 0 c.ends.items c.bytes };
 
     ghost invariant = { λ c. AreEnds 0 c.ends.items (length c.bytes) };
 }
@@ -99,7 +99,7 @@ impl Chunk {
         })
     }
 
-    /// The bytes of the piece of this number, None exactly where there is none. It takes no memory.
+    /// The bytes of the piece of this number, None exactly where there is none.
     pub fn get(&self, number: usize) -> Option<&[u8]>
         ensures { option_copied result ≡ slice_get self.now number }
     {

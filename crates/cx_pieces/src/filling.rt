@@ -15,11 +15,11 @@ pub struct Filling {
 
 impl Model for Filling {
     ghost use Rattle.std.specs.Prelude.{ℕ, List, length};
-    ghost use Rattle.cx_pieces.specs.Ends.{AreEnds, cut_at};
+    ghost use Rattle.cx_pieces.specs.Ends.{AreEnds, split_at_ends};
 
     ghost Value = { List (List ℕ) };
 
-    ghost view = { λ f. cut_at 0 f.ends.items f.bytes.items };
+    ghost view = { λ f. split_at_ends 0 f.ends.items f.bytes.items };
 
     ghost invariant = { λ f. AreEnds 0 f.ends.items (length f.bytes.items) };
 }

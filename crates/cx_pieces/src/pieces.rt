@@ -27,13 +27,13 @@ pub struct Pieces {
 
 impl Model for Pieces {
     ghost use Rattle.std.specs.Prelude.{ℕ, List, ◌++◌};
-    ghost use Rattle.cx_pieces.specs.Chunks.{AreHeld, all_of};
+    ghost use Rattle.cx_pieces.specs.Chunks.{ArePieceChunks, all_of};
 
     ghost Value = { List (List ℕ) };
 
     ghost view = { λ p. all_of p.chunks.items ++ p.last.items };
 
-    ghost invariant = { λ p. AreHeld p.count p.chunks.items p.last.items p.room.items };
+    ghost invariant = { λ p. ArePieceChunks p.count p.chunks.items p.last.items p.room.items };
 }
 
 // One more. More than a count can tell are answered as out of memory.
@@ -95,12 +95,12 @@ fn cloned(pieces: &[Bytes], number: usize) -> Result<Option<Bytes>, NoMemory>
 // Copies a piece into the room, and cuts it off there.
 fn put_piece(room: &mut BytesMut, piece: &[u8]) -> Result<Bytes, NoMemory>
     requires { room.old.items ≡ [] }
-    ensures piece { IfOk result (λ held. held ≡ piece.now) }
+    ensures piece { IfOk result (λ stored. stored ≡ piece.now) }
     ensures room { room.new.items ≡ [] }
 {
     room.extend_from_slice(piece)?;
     match room.freeze_to(piece.len()) {
-        Ok(held) => Ok(held),
+        Ok(stored) => Ok(stored),
         Err(_) => {
             room.clear();
             Err(NoMemory)
@@ -136,14 +136,14 @@ impl Pieces {
         }
     }
 
-    /// How many they are. It takes no memory.
+    /// How many they are.
     pub fn len(&self) -> usize
         ensures { result ≡ length self.now }
     {
         self.count
     }
 
-    /// The bytes of the piece of this number, None exactly where there is none. It takes no memory.
+    /// The bytes of the piece of this number, None exactly where there is none.
     pub fn get(&self, number: usize) -> Option<&[u8]>
         ensures { option_copied result ≡ slice_get self.now number }
     {
@@ -174,8 +174,8 @@ impl Pieces {
         let count = next(self.count)?;
         close(self.alloc, &mut self.chunks, &mut self.last)?;
         self.last.reserve(1)?;
-        let held = put_piece(&mut self.room, piece)?;
-        self.last.push_reserved(held);
+        let stored = put_piece(&mut self.room, piece)?;
+        self.last.push_reserved(stored);
         self.count = count;
         Ok(())
     }

@@ -5,9 +5,9 @@ use Rattle.cx_role.proofs.Common.{All-head, All-tail, RoleId, in_window, Pending
 use Rattle.std.proofs.lemmas.List.Elements.{filter_passes}
 use Rattle.cx_field.specs.Fields.{mark}
 use Rattle.cx_model.specs.Proxy.{pending_at}
-use Rattle.cx_ring.specs.Ring.{RingState, IsNear, raised}
+use Rattle.cx_ring.specs.Ring.{RingState, IsNear, raise_ring}
 use Rattle.cx_ring.proofs.Window.{All-with_value}
-use Rattle.cx_proxy.specs.Holds.{IsPending, Stands, Holds}
+use Rattle.cx_proxy.specs.Holds.{IsPendingInRange, StandsInRing, HasPendingRing}
 use Rattle.cx_proxy.specs.Slots.{ring_with, slot_of}
 use Rattle.cx_proxy.proofs.Same.{with_pending_value}
 
@@ -32,23 +32,23 @@ found_has P s ps p all h = (found P s ps p all h).1
 in_end : (cw s more : ℕ) → in_window cw s ≡ true → cw ≤ more → s < more + 32
 in_end cw s more h le = let both = and_parts (nat_le cw s) (nat_lt s (cw + 32)) h in grind (arith, nat_tests, both.1)
 
-module _ (me : RoleId) (ring : RingState Pending) (is : Holds me ring) where
+module _ (me : RoleId) (ring : RingState Pending) (is : HasPendingRing me ring) where
   -- a value comes
-  pub holds_with : (p : Pending) → Stands ring.first ring.room p → Holds me (ring_with p ring)
+  pub holds_with : (p : Pending) → StandsInRing ring.first ring.room p → HasPendingRing me (ring_with p ring)
   holds_with p one = record {
     kind = is.kind;
-    pending = let P = Stands ring.first ring.room in
+    pending = let P = StandsInRing ring.first ring.room in
         subst (All P) (sym (with_pending_value p ring.items)) (All-with_value slot_of P p ring.items one is.pending);
   }
 
   -- there is room, and it begins later
   pub holds_raised : (s : ℕ) (room : Bool) → (ring.room ≡ true → room ≡ true)
-      → Holds me (raised slot_of s (record ring { room = room }))
+      → HasPendingRing me (raise_ring slot_of s (record ring { room = room }))
   holds_raised s room keeps = record {
     kind = is.kind;
     pending = λ k d l.
         let from : Pending → Bool = λ p. nat_le (max ring.first s) p.slot in
-        let one = All-filter from (Stands ring.first ring.room) ring.items is.pending k d l in
+        let one = All-filter from (StandsInRing ring.first ring.room) ring.items is.pending k d l in
         let low = filter_passes from ring.items k d l in
         record {
           parts = one.parts;
@@ -58,8 +58,8 @@ module _ (me : RoleId) (ring : RingState Pending) (is : Holds me ring) where
   }
 
   -- a value that is found is there
-  pub found_stands : (s : ℕ) (p : Pending) → pending_at s ring.items ≡ Some p → Stands ring.first ring.room p
-  found_stands s p h = found_has (Stands ring.first ring.room) s ring.items p is.pending h
+  pub found_stands : (s : ℕ) (p : Pending) → pending_at s ring.items ≡ Some p → StandsInRing ring.first ring.room p
+  found_stands s p h = found_has (StandsInRing ring.first ring.room) s ring.items p is.pending h
 
   -- and its slot lies in the window
   pub found_near : (s : ℕ) (p : Pending) → pending_at s ring.items ≡ Some p → IsNear ring.first s
@@ -67,7 +67,7 @@ module _ (me : RoleId) (ring : RingState Pending) (is : Holds me ring) where
 
   -- votes that are noted leave the rest of it
   pub holds_noted : (s : ℕ) (p : Pending) (marks : List ℕ) (done : Bool) → pending_at s ring.items ≡ Some p
-      → Holds me (ring_with (record p { marks = marks; done = done }) ring)
+      → HasPendingRing me (ring_with (record p { marks = marks; done = done }) ring)
   holds_noted s p marks done h =
       let at = found_stands s p h in
       let is = at.parts in
@@ -78,8 +78,8 @@ module _ (me : RoleId) (ring : RingState Pending) (is : Holds me ring) where
       })
 
 -- a value that is asked for comes, from its watermark on
-pub holds_asked : (me : RoleId) (ring : RingState Pending) (p : Pending) → Holds me ring → IsPending p
-    → max ring.first p.cw ≤ p.slot → Holds me (ring_with p (raised slot_of p.cw (record ring { room = true })))
+pub holds_asked : (me : RoleId) (ring : RingState Pending) (p : Pending) → HasPendingRing me ring → IsPendingInRange p
+    → max ring.first p.cw ≤ p.slot → HasPendingRing me (ring_with p (raise_ring slot_of p.cw (record ring { room = true })))
 holds_asked me ring p is parts low = holds_with me _ (holds_raised me ring is p.cw true (λ _. refl)) p (record {
   parts = parts;
   near = record { low = low; high = in_end p.cw p.slot (max ring.first p.cw) parts.window (omega arith) };

@@ -2,16 +2,16 @@
 use Rattle.cx_role.proofs.Common.{◌≡◌, ℕ, ◌≤◌, Bool, true, false, max, if◌then◌else◌, List, [], ◌∷◌, ◌&&◌, not, length}
 use Rattle.cx_role.proofs.Common.{map, Option, None, Some, Result, Ok, Err, IsErr, refl, ap, ◌∙◌, sym, arith, nat_lt}
 use Rattle.cx_role.proofs.Common.{nat_tests, Cluster, RoleId, Round, Why, is_in, is_before, same_round, Letter, Record}
-use Rattle.cx_role.proofs.Common.{Pending, Outcome, answered, replied, Running, refused_from, IsReply}
+use Rattle.cx_role.proofs.Common.{Pending, Outcome, only_word, replied, Running, refused_from, IsReply}
 use Rattle.cx_role.proofs.Common.why
 use Rattle.cx_grid.specs.Quorum.{with_mark}
 use Rattle.cx_model.specs.Proxy.{ProxyVolatile, proxy_rules, pending_at, raised_to, phase2a_to, column_for, ask, propose_over, vote_counted, vote_for}
-use Rattle.cx_ring.specs.Ring.{RingState, raised}
+use Rattle.cx_ring.specs.Ring.{RingState, raise_ring}
 use Rattle.cx_ring.proofs.Window.{value_at-from}
 use Rattle.cx_role.specs.Role.{takes_no_memory}
 use Rattle.cx_proxy.specs.Declined.{declined, declined_over, uncounted}
 use Rattle.cx_proxy.specs.Holds.{proxy_view}
-use Rattle.cx_proxy.specs.Rows.{proposed, voted}
+use Rattle.cx_proxy.specs.Rows.{row_on_proposal, row_on_vote}
 use Rattle.cx_proxy.specs.Slots.{ring_with, slot_of}
 use Rattle.cx_proxy.proofs.Same.{pending_at_value}
 
@@ -23,12 +23,12 @@ proxy_refuses c me d (r ∷ rs) h = refl
 -- a row that only answers where there is an answer, and else does more
 abbrev or_else : Option Why → ProxyVolatile → Outcome ProxyVolatile → Outcome ProxyVolatile
 or_else None v more = more
-or_else (Some w) v more = answered w v
+or_else (Some w) v more = only_word w v
 
 -- one test more in both
 tested : (b : Bool) (w : Why) (v : ProxyVolatile) (row more : Outcome ProxyVolatile) (o : Option Why)
     → (b ≡ false → row ≡ or_else o v more)
-    → (if b then answered w v else row) ≡ or_else (if b then Some w else o) v more
+    → (if b then only_word w v else row) ≡ or_else (if b then Some w else o) v more
 tested true w v row more o e = refl
 tested false w v row more o e = e refl
 
@@ -57,7 +57,7 @@ module _ (c : Cluster) (me : RoleId) (live : Bool) (ring : RingState Pending) (p
       tested (same_round old.round p.round) why.Same later _ _ None (λ _. refl))
 
   -- what lies below the watermark doesn't matter
-  proposes : proposed before p ≡ or_else (declined ring p) later (ask c me later p)
+  proposes : row_on_proposal before p ≡ or_else (declined ring p) later (ask c me later p)
   proposes =
       tested (nat_lt p.slot later.known) why.Past later _ _ _ (λ from.
       let same : pending_at p.slot later.pending ≡ pending_at p.slot ring.items =
@@ -68,22 +68,22 @@ module _ (c : Cluster) (me : RoleId) (live : Bool) (ring : RingState Pending) (p
 
   -- a value that is declined raises the watermark
   pub declines : {E : Type 0} (w : Why) → declined ring p ≡ Some w
-      → IsReply {E = E} proxy_rules before (proposed before p) (Ok w)
-      (proxy_view c me live (raised slot_of p.cw ring)) []
+      → IsReply {E = E} proxy_rules before (row_on_proposal before p) (Ok w)
+      (proxy_view c me live (raise_ring slot_of p.cw ring)) []
   declines w h = replies w later [] (proposes ∙ ap (λ (o : Option Why). or_else o later (ask c me later p)) h)
 
-  asked : declined ring p ≡ None → proposed before p ≡ ask c me later p
+  asked : declined ring p ≡ None → row_on_proposal before p ≡ ask c me later p
   asked h = proposes ∙ ap (λ (o : Option Why). or_else o later (ask c me later p)) h
 
   -- another is asked for
   pub asks : {E : Type 0} → declined ring p ≡ None
-      → IsReply {E = E} proxy_rules before (proposed before p) (Ok why.Asking)
-      (proxy_view c me live (ring_with p (raised slot_of p.cw ring))) (map (phase2a_to me p) (column_for c p))
+      → IsReply {E = E} proxy_rules before (row_on_proposal before p) (Ok why.Asking)
+      (proxy_view c me live (ring_with p (raise_ring slot_of p.cw ring))) (map (phase2a_to me p) (column_for c p))
   asks h = replies why.Asking _ _ (asked h)
 
   -- which takes memory
   pub lacks : {E : Type 0} (r : Result Why E) → IsErr r → declined ring p ≡ None
-      → IsReply proxy_rules before (proposed before p) r before []
+      → IsReply proxy_rules before (row_on_proposal before p) r before []
   lacks (Ok w) is h = cc
   lacks (Err e) is h = record {
     ok = tt;
@@ -99,7 +99,7 @@ module _ (c : Cluster) (me : RoleId) (live : Bool) (ring : RingState Pending) (p
 -- a vote that doesn't count changes nothing
 pub vote_stops : {E : Type 0} (s : Running (Unit {0}) ProxyVolatile) (acceptor : ℕ) (i : Round) (slot : ℕ)
     (p : Pending) (w : Why) → pending_at slot s.volatile.pending ≡ Some p → uncounted acceptor i p ≡ Some w
-    → IsReply {E = E} proxy_rules s (voted s acceptor i slot) (Ok w) s []
+    → IsReply {E = E} proxy_rules s (row_on_vote s acceptor i slot) (Ok w) s []
 vote_stops s acceptor i slot p w is h = replies w s.volatile [] (
     ap (vote_for s.cluster s.me s.volatile acceptor i) is
     ∙ votes

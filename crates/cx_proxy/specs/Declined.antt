@@ -14,7 +14,7 @@ declined_over p (Some old) =
     else if same_round old.round p.round then Some Same
     else None
 
--- the same, or its slot lies below the greatest watermark that is known
+-- the same, or its slot lies below the greatest chosen watermark that is known
 abbrev pub declined : RingState Pending → Pending → Option Why
 declined ring p =
     if nat_lt p.slot (max ring.first p.cw) then Some Past else declined_over p (pending_at p.slot ring.items)

@@ -7,7 +7,7 @@ use Rattle.cx_field.specs.Fields as field
 use Rattle.cx_ring.specs.Ring.{RingState, IsNear}
 
 -- a pending value whose parts are in their ranges
-pub record IsPending (p : Pending) : Type 0 where
+pub record IsPendingInRange (p : Pending) : Type 0 where
   pub round : IsTrue (field.round.fits p.round)
   pub slot : IsTrue (field.slot.fits p.slot)
   pub cw : IsTrue (field.mark.fits p.cw)
@@ -15,15 +15,15 @@ pub record IsPending (p : Pending) : Type 0 where
   pub value : IsTrue (field.value.fits p.value)
 
 -- a value that is in a ring, where another can take its place
-pub record Stands (first : ℕ) (room : Bool) (p : Pending) : Type 0 where
-  pub parts : IsPending p
+pub record StandsInRing (first : ℕ) (room : Bool) (p : Pending) : Type 0 where
+  pub parts : IsPendingInRange p
   pub near : IsNear first p.slot
   pub roomy : room ≡ true
 
 -- a proxy leader with the ring of its pending values
-pub record Holds (me : RoleId) (ring : RingState Pending) : Type 0 where
+pub record HasPendingRing (me : RoleId) (ring : RingState Pending) : Type 0 where
   pub kind : me.kind ≡ Proxy
-  pub pending : All (Stands ring.first ring.room) ring.items
+  pub pending : All (StandsInRing ring.first ring.room) ring.items
 
 -- which state it is in
 abbrev pub proxy_view : Cluster → RoleId → Bool → RingState Pending → Running (Unit {0}) ProxyVolatile

@@ -22,7 +22,7 @@ impl Slotted<Pending> for BySlot {
     }
 }
 
-/// The pending values, from the known watermark on.
+/// The pending values, from the known chosen watermark on.
 pub type Pendings = Ring<Pending, BySlot>;
 
 /// The value that is pending at a slot.
@@ -35,7 +35,7 @@ pub fn find(pendings: &Pendings, slot: u64) -> Option<&Pending>
 
 /// Puts a value into the place of the earlier one of its slot, which it answers, or at the end.
 #[tactic(auto, using(crate::proofs::Same::pending_at_value, crate::proofs::Same::with_pending_value))]
-pub fn put(pendings: &mut Pendings, one: Pending) -> Option<Pending>
+pub fn put_pending(pendings: &mut Pendings, one: Pending) -> Option<Pending>
     requires room { pendings.old.room ≡ true }
     requires low { pendings.old.first ≤ one.slot }
     requires high { one.slot < pendings.old.first + 32 }
@@ -47,7 +47,7 @@ pub fn put(pendings: &mut Pendings, one: Pending) -> Option<Pending>
 
 /// Notes who voted for the value that is pending at a slot, and whether all is done.
 #[tactic(auto, using(crate::proofs::Holding::found_slot))]
-pub fn note(pendings: &mut Pendings, slot: u64, marks: Marks, done: bool)
+pub fn update_pending(pendings: &mut Pendings, slot: u64, marks: Marks, done: bool)
     requires room { pendings.old.room ≡ true }
     requires low { pendings.old.first ≤ slot }
     requires high { slot < pendings.old.first + 32 }
@@ -60,10 +60,10 @@ pub fn note(pendings: &mut Pendings, slot: u64, marks: Marks, done: bool)
     };
     let hollow = hollow(pending);
     // A value is not changed in its place: it is taken out and put there anew.
-    if let Some(mut noted) = put(pendings, hollow) {
+    if let Some(mut noted) = put_pending(pendings, hollow) {
         noted.marks = marks;
         noted.done = done;
-        put(pendings, noted);
+        put_pending(pendings, noted);
     }
 }
 

@@ -4,10 +4,10 @@ ghost use Rattle.std.specs.Prelude.{◌≡◌, ◌<◌};
 ghost use Rattle.cx_role.specs.Prelude.{[], opened, IsReply};
 ghost use Rattle.cx_role.specs.Prelude.kind;
 ghost use Rattle.cx_model.specs.Proxy.{ProxyVolatile, proxy_rules};
-ghost use Rattle.cx_proxy.specs.Holds.{IsPending};
-ghost use Rattle.cx_proxy.specs.Rows.{proposed, voted};
+ghost use Rattle.cx_proxy.specs.Holds.{IsPendingInRange};
+ghost use Rattle.cx_proxy.specs.Rows.{row_on_proposal, row_on_vote};
 
-use crate::pendings::{Pendings, declined, find, note, put, uncounted};
+use crate::pendings::{Pendings, declined, find, put_pending, uncounted, update_pending};
 use crate::sends::{again_all, all_or_none, announce, ask_column};
 use cx_base::{Cluster, Duplicate, NoMemory, Order, RoleId, Round, Value, WINDOW, Why};
 use cx_grid::{Marks, column_whole};
@@ -25,20 +25,20 @@ pub struct Proxy {
     cluster: Cluster,
     me: RoleId,
     live: bool,
-    // The values from the known watermark on.
+    // The values from the known chosen watermark on.
     pending: Pendings,
 }
 
 impl Model for Proxy {
     ghost use Rattle.cx_role.specs.Prelude.{Running};
     ghost use Rattle.cx_model.specs.Proxy.{ProxyVolatile};
-    ghost use Rattle.cx_proxy.specs.Holds.{Holds, proxy_view};
+    ghost use Rattle.cx_proxy.specs.Holds.{HasPendingRing, proxy_view};
 
     ghost Value = { Running (Unit {0}) ProxyVolatile };
 
     ghost view = { λ p. proxy_view p.cluster p.me p.live p.pending };
 
-    ghost invariant = { λ p. Holds p.me p.pending };
+    ghost invariant = { λ p. HasPendingRing p.me p.pending };
 }
 
 impl Proxy {
@@ -64,9 +64,9 @@ impl Proxy {
         value: &Value,
         out: &mut Outbox,
     ) -> Result<Why, NoMemory>
-        requires parts { IsPending (record pending { value = value.now }) }
+        requires parts { IsPendingInRange (record pending { value = value.now }) }
         requires empty { out.old.list ≡ [] }
-        ensures { IsReply proxy_rules self.old (proposed self.old (record pending { value = value.now }))
+        ensures { IsReply proxy_rules self.old (row_on_proposal self.old (record pending { value = value.now }))
             result self.new out.new.list }
     {
         if let Some(why) = declined(&self.pending, &pending) {
@@ -79,7 +79,7 @@ impl Proxy {
         let sent = ask_column(self.alloc, &self.cluster, self.me, &asked, out);
         all_or_none(sent, out)?;
         self.pending.raise(asked.cw);
-        put(&mut self.pending, asked);
+        put_pending(&mut self.pending, asked);
         Ok(Why::Asking)
     }
 
@@ -93,7 +93,7 @@ impl Proxy {
     ) -> Result<Why, NoMemory>
         requires acceptor { acceptor < 64 }
         requires empty { out.old.list ≡ [] }
-        ensures { IsReply proxy_rules self.old (voted self.old acceptor round slot) result self.new out.new.list }
+        ensures { IsReply proxy_rules self.old (row_on_vote self.old acceptor round slot) result self.new out.new.list }
     {
         let Some(pending) = find(&self.pending, slot) else {
             return Ok(Why::Unasked);
@@ -104,12 +104,12 @@ impl Proxy {
         let mut marks = pending.marks.copy(self.alloc)?;
         marks.add(acceptor);
         if !column_whole(&pending.grid, &marks) {
-            note(&mut self.pending, slot, marks, false);
+            update_pending(&mut self.pending, slot, marks, false);
             return Ok(Why::Counted);
         }
         let sent = announce(self.alloc, &self.cluster, self.me, pending, out);
         all_or_none(sent, out)?;
-        note(&mut self.pending, slot, marks, true);
+        update_pending(&mut self.pending, slot, marks, true);
         Ok(Why::Chosen)
     }
 }

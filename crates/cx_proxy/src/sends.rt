@@ -5,7 +5,7 @@ ghost use Rattle.cx_role.specs.Prelude.{[], length, map, OnErr, OnOk, All, numbe
 ghost use Rattle.cx_role.specs.Prelude.kind;
 ghost use Rattle.cx_model.specs.Proxy.{phase2a_to, column_for, members_for, announcement};
 ghost use Rattle.cx_model.specs.Proxy.{again_for, again_at, pending_at};
-ghost use Rattle.cx_proxy.specs.Holds.{IsPending};
+ghost use Rattle.cx_proxy.specs.Holds.{IsPendingInRange};
 
 use crate::pendings::{Pendings, find};
 use cx_base::{Cluster, Duplicate, NoMemory, RoleId};
@@ -24,7 +24,7 @@ pub fn ask_column(
     out: &mut Outbox,
 ) -> Result<(), NoMemory>
     requires kind { me.kind ≡ kind.Proxy }
-    requires parts { IsPending pending.now }
+    requires parts { IsPendingInRange pending.now }
     requires empty { out.old.list ≡ [] }
     ensures { OnOk result (out.new.list ≡ map (phase2a_to me pending.now) (column_for cluster.now pending.now)) }
 {
@@ -47,7 +47,7 @@ pub fn ask_members(
     out: &mut Outbox,
 ) -> Result<(), NoMemory>
     requires kind { me.kind ≡ kind.Proxy }
-    requires parts { IsPending pending.now }
+    requires parts { IsPendingInRange pending.now }
     requires room { length out.old.list + 16 ≤ 512 }
     ensures list { OnOk result (out.new.list
         ≡ out.old.list ++ map (phase2a_to me pending.now) (members_for cluster.now pending.now)) }
@@ -73,7 +73,7 @@ pub fn announce(
     out: &mut Outbox,
 ) -> Result<(), NoMemory>
     requires kind { me.kind ≡ kind.Proxy }
-    requires parts { IsPending pending.now }
+    requires parts { IsPendingInRange pending.now }
     requires room { length out.old.list + 16 ≤ 512 }
     ensures list { OnOk result (out.new.list ≡ out.old.list ++ announcement cluster.now me pending.now) }
     ensures room { OnOk result (length out.new.list ≤ length out.old.list + 16) }
@@ -99,7 +99,7 @@ pub fn again_all(
     out: &mut Outbox,
 ) -> Result<(), NoMemory>
     requires kind { me.kind ≡ kind.Proxy }
-    requires parts { All IsPending pendings.now.items }
+    requires parts { All IsPendingInRange pendings.now.items }
     requires room { 16 * count ≤ 512 }
     requires empty { out.old.list ≡ [] }
     ensures { OnOk result (out.new.list
@@ -134,7 +134,7 @@ fn again(
     out: &mut Outbox,
 ) -> Result<(), NoMemory>
     requires kind { me.kind ≡ kind.Proxy }
-    requires parts { All IsPending pendings.now.items }
+    requires parts { All IsPendingInRange pendings.now.items }
     requires room { length out.old.list + 16 ≤ 512 }
     ensures list { OnOk result (out.new.list
         ≡ out.old.list ++ again_for cluster.now me (pending_at slot pendings.now.items)) }
@@ -159,7 +159,7 @@ fn ask(
     out: &mut Outbox,
 ) -> Result<(), NoMemory>
     requires kind { me.kind ≡ kind.Proxy }
-    requires parts { IsPending pending.now }
+    requires parts { IsPendingInRange pending.now }
     requires room { length out.old.list < 512 }
     ensures { OnOk result (out.new.list ≡ out.old.list ++ phase2a_to me pending.now acceptor ∷ []) }
 {

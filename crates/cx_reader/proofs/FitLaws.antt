@@ -9,7 +9,7 @@ use Rattle.cx_role.proofs.Common.why
 use Rattle.cx_field.specs.declared.parts.Asking.{Asking}
 use Rattle.cx_model.specs.Reader.{Asked, Batch, ReaderDurable, ReaderVolatile, acked_by, ask_replicas, asked_anew, asked_for, begin, begin_if, finish, greatest_mark, has_acked, is_among, is_first}
 use Rattle.cx_model.specs.Reader.{is_matched, is_of_batch, last_turn, match_ack_counted, match_ack_row, matched, pre_read_ack_row, pre_read_counted}
-use Rattle.cx_model.specs.Reader.{reader_row, reader_rules, reader_takes, request_over, request_row, sets_row, token, with_asked}
+use Rattle.cx_model.specs.Reader.{reader_row, reader_rules, reader_takes, request_over, request_row, sets_row, make_token, with_asked}
 
 abbrev Fits : Cluster → RoleId → ReaderDurable → Outcome ReaderVolatile → Type 0
 Fits c me d o = IsFit reader_rules c me d o.kept
@@ -81,7 +81,7 @@ module _ (c : Cluster) (me : RoleId) (d : ReaderDurable) (range : d.turn ≤ las
     sets_fit s = by_test (Fits c me d) (is_above s v.set) _ _ (λ _. anew_fit (record v { set = s }) v.running) (λ _. tt)
 
     takes_fit : (from : RoleId) (m : Msg) → Fits c me d (reader_takes c me d v from m)
-    takes_fit from (msg.ReadReq seq replica key) = request_fit (asked_for (token from.index seq) replica key)
+    takes_fit from (msg.ReadReq seq replica key) = request_fit (asked_for (make_token from.index seq) replica key)
     takes_fit from (msg.MatchReadAck u w es) = match_ack_fit from u w es v.running
     takes_fit from (msg.PreReadAck u w n) = pre_read_ack_fit from u w n v.running
     takes_fit from (msg.Sets s) = sets_fit s

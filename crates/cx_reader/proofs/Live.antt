@@ -2,7 +2,7 @@
 use Rattle.cx_role.proofs.Common.{◌≡◌, ℕ, Bool, true, ◌&&◌, ◌||◌, List, [], ◌∷◌, filter, refl, list_any, ap, ◌∙◌, sym, arith}
 use Rattle.cx_role.proofs.Common.{list_any-append, Round, is_in, Entry, MatchAnswer, entries_told, is_member_of}
 use Rattle.cx_role.proofs.Common.{nat_tests}
-use Rattle.cx_model.specs.Matchmaker.{entries_from}
+use Rattle.cx_model.specs.Matchmaker.{entries_since}
 use Rattle.cx_reader.specs.Live.{is_live, some_live, some_live_with}
 
 any-filter : {A : Type 0} (p q : A → Bool) (xs : List A) → list_any p (filter q xs) ≡ list_any (λ x. q x && p x) xs
@@ -24,12 +24,12 @@ any_told p (a ∷ told) =
 
 module _ (w : Round) (told : List MatchAnswer) where
   pub some_live_told : list_any (λ (a : MatchAnswer). some_live w a.entries) told
-      ≡ list_any (λ (e : Entry). true) (entries_from w (entries_told told))
+      ≡ list_any (λ (e : Entry). true) (entries_since w (entries_told told))
   some_live_told =
       any_told (λ (e : Entry). is_live w e) told ∙ sym (some-filter (λ (e : Entry). is_live w e) (entries_told told))
 
   pub live_with_told : (n : ℕ) → list_any (λ (a : MatchAnswer). some_live_with w n a.entries) told
-      ≡ is_member_of (entries_from w (entries_told told)) n
+      ≡ is_member_of (entries_since w (entries_told told)) n
   live_with_told n =
       any_told (λ (e : Entry). is_live w e && is_in n e.grid.members) told
       ∙ sym (any-filter (λ (e : Entry). is_in n e.grid.members) (λ (e : Entry). is_live w e) (entries_told told))

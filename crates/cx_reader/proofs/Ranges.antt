@@ -4,10 +4,10 @@ use Rattle.cx_role.proofs.Common.{list_all-append, Acked, MatchAnswer, greatest_
 use Rattle.cx_wire.specs.Format.{u16, u32, u64}
 use Rattle.cx_field.specs.Fields.{mark, round0}
 use Rattle.cx_model.specs.Reader.{Asked, Batch, greatest_mark}
-use Rattle.cx_reader.specs.Running.{are_told, is_ack, are_acks, count_running}
+use Rattle.cx_reader.specs.Running.{has_fitting_watermarks, is_ack, are_acks, count_running}
 
 -- the greatest of watermarks in their range
-pub watermark_fits : (told : List MatchAnswer) → are_told told ≡ true → round0.fits (greatest_watermark told) ≡ true
+pub watermark_fits : (told : List MatchAnswer) → has_fitting_watermarks told ≡ true → round0.fits (greatest_watermark told) ≡ true
 unfolding round0 u16 u32
 watermark_fits [] fit = refl
 watermark_fits (a ∷ told) fit = grind (arith, nat_tests, watermark_fits told)

@@ -4,9 +4,9 @@ use Rattle.cx_role.specs.Prelude.{ℕ, nat_lt, Bool, List, Option, None, Some, l
 use Rattle.cx_field.specs.Fields.{mark, round0, seq}
 use Rattle.cx_model.specs.Reader.{Asked, Batch, has_acked, last_turn}
 
--- whether the watermarks of matchmakers' answers are in their range
-abbrev pub are_told : List MatchAnswer → Bool
-are_told told = list_all (λ (a : MatchAnswer). round0.fits a.watermark) told
+-- whether the retirement watermarks of matchmakers' answers are in their range
+abbrev pub has_fitting_watermarks : List MatchAnswer → Bool
+has_fitting_watermarks told = list_all (λ (a : MatchAnswer). round0.fits a.watermark) told
 
 -- whether an acceptor can be marked, and its number of slots is in its range
 abbrev pub is_ack : Acked → Bool
@@ -16,10 +16,10 @@ abbrev pub are_acks : List Acked → Bool
 are_acks acks = list_all (λ (a : Acked). is_ack a) acks
 
 -- what the batch sends is in its ranges, its reads are at most 64, and those are marked that were counted
-pub record IsBatch (turn : ℕ) (reads : List Asked) (told : List MatchAnswer) (acks : List Acked) (marks : List ℕ) : Type 0 where
+pub record IsRunningBatch (turn : ℕ) (reads : List Asked) (told : List MatchAnswer) (acks : List Acked) (marks : List ℕ) : Type 0 where
   pub turn_fits : IsTrue (seq.fits turn)
   pub few : length reads ≤ 64
-  pub told_fit : IsTrue (are_told told)
+  pub told_fit : IsTrue (has_fitting_watermarks told)
   pub acks_fit : IsTrue (are_acks acks)
   pub marked : (id : ℕ) → is_in id marks ≡ has_acked id acks
 

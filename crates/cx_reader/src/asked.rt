@@ -9,7 +9,7 @@ ghost use Rattle.cx_field.specs.Fields as field;
 
 use cx_base::{Duplicate, Key, NoMemory};
 use cx_field::Token;
-use cx_msg::{Datagram, read};
+use cx_msg::{Datagram, replica_read};
 use cx_role::Outbox;
 use std::alloc::Global;
 use std::marker::Model;
@@ -61,7 +61,7 @@ impl Asked {
         requires { IsTrue (field.mark.fits mark) }
         ensures { result ≡ read_to (role kind.Reader reader) mark self.now }
     {
-        read(reader, self.replica, self.read, mark, self.key)
+        replica_read(reader, self.replica, self.read, mark, self.key)
     }
 }
 
@@ -99,7 +99,7 @@ fn place_of(reads: &[Asked], token: Token) -> Option<usize>
     reads.iter().position(|read| read.is(token))
 }
 
-/// Puts a read into the place of the earlier one of its client and number. It takes no memory.
+/// Puts a read into the place of the earlier one of its client and number.
 pub fn put_again(reads: &mut [Asked], one: Asked)
     ensures { reads.new ≡ with_asked one reads.old }
 {

@@ -36,7 +36,7 @@ pub struct Batch {
 
 impl Model for Batch {
     ghost use Rattle.cx_model.specs.Reader.{Batch as Running};
-    ghost use Rattle.cx_reader.specs.Running.{IsBatch};
+    ghost use Rattle.cx_reader.specs.Running.{IsRunningBatch};
 
     ghost Value = { Running };
 
@@ -47,7 +47,7 @@ impl Model for Batch {
       acks = b.acks.items;
     } };
 
-    ghost invariant = { λ b. IsBatch b.turn b.reads.items b.told.items b.acks.items b.counted };
+    ghost invariant = { λ b. IsRunningBatch b.turn b.reads.items b.told.items b.acks.items b.counted };
 }
 
 impl Batch {
@@ -224,7 +224,7 @@ impl Batch {
         Ok(more)
     }
 
-    /// Forgets which matchmakers were counted. It takes no memory.
+    /// Forgets which matchmakers were counted.
     pub fn recount(&mut self)
         ensures { self.new ≡ record self.old { told = [] } }
     {

@@ -14,7 +14,5 @@ mod records;
 mod requests;
 mod rows;
 mod sends;
-#[cfg(test)]
-mod turn_tests;
 
 pub use reader::Reader;

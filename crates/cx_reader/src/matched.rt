@@ -1,10 +1,10 @@
-//! What the matchmakers answered (JSys 2021): the greatest watermark, and the grids that are not retired.
+//! What the matchmakers answered (JSys 2021): the greatest retirement watermark, and the grids that are not retired.
 
 ghost use Rattle.std.specs.Prelude.{◌≡◌};
 ghost use Rattle.cx_role.specs.Prelude.{true, list_any, MatchAnswer as AnswerOf, later_round, is_counted};
 ghost use Rattle.cx_role.specs.Prelude.{greatest_watermark, entries_told, live_entries, is_member_of, rows_whole};
 ghost use Rattle.cx_role.specs.Prelude.{Entry as EntryOf};
-ghost use Rattle.cx_model.specs.Matchmaker.{entries_from};
+ghost use Rattle.cx_model.specs.Matchmaker.{entries_since};
 ghost use Rattle.cx_reader.specs.Live.{is_live, some_live, some_live_with};
 
 use cx_base::Round;
@@ -12,7 +12,7 @@ use cx_field::Entry;
 use cx_grid::{Marks, is_member, row_whole};
 use cx_model::MatchAnswer;
 
-fn later(a: Round, b: Round) -> Round
+fn later_round(a: Round, b: Round) -> Round
     ensures { result ≡ later_round a b }
 {
     if a.is_before(&b) { b } else { a }
@@ -23,7 +23,7 @@ pub fn greatest_watermark(told: &[MatchAnswer]) -> Round
 {
     match told {
         [] => Round::ZERO,
-        [answer, rest @ ..] => later(answer.watermark, greatest_watermark(rest)),
+        [answer, rest @ ..] => later_round(answer.watermark, greatest_watermark(rest)),
     }
 }
 
@@ -79,7 +79,7 @@ pub fn is_live_member(told: &[MatchAnswer], acceptor: u16) -> bool
 }
 
 fn live_whole(entries: &[Entry], watermark: Round, marks: &Marks) -> bool
-    ensures { result ≡ rows_whole (entries_from watermark entries.now) marks.now }
+    ensures { result ≡ rows_whole (entries_since watermark entries.now) marks.now }
 {
     for entry in entries {
         if is_live(entry, watermark) && !row_whole(&entry.grid, marks) {
@@ -90,7 +90,7 @@ fn live_whole(entries: &[Entry], watermark: Round, marks: &Marks) -> bool
 }
 
 fn live_whole_told(told: &[MatchAnswer], watermark: Round, marks: &Marks) -> bool
-    ensures { result ≡ rows_whole (entries_from watermark (entries_told told.now)) marks.now }
+    ensures { result ≡ rows_whole (entries_since watermark (entries_told told.now)) marks.now }
 {
     for answer in told {
         if !live_whole(answer.entries.as_slice(), watermark, marks) {

@@ -2,7 +2,7 @@
 
 ghost use Rattle.std.specs.Prelude.{◌≡◌};
 ghost use Rattle.cx_role.specs.Prelude.{IsTrue};
-ghost use Rattle.cx_model.specs.Reader.{ReaderDurable, ReaderVolatile, reader_rules, token};
+ghost use Rattle.cx_model.specs.Reader.{ReaderDurable, ReaderVolatile, reader_rules, make_token};
 ghost use Rattle.cx_field.specs.Fields as field;
 
 use crate::asked::Asked;
@@ -53,7 +53,7 @@ impl Model for Reader {
 #[tactic(auto, unfolding(cx_field::specs::Fields::token, cx_wire::specs::Format::u16))]
 fn token(client: u16, seq: u64) -> Token
     requires { IsTrue (field.seq.fits seq) }
-    ensures token { result ≡ token client seq }
+    ensures token { result ≡ make_token client seq }
     ensures fits { IsTrue (field.token.fits result) }
 {
     Token { client, seq }

@@ -17,7 +17,7 @@ use cx_model::{Acked, MatchAnswer};
 use cx_role::{Outbox, StepFault};
 
 impl Reader {
-    /// A matchmaker answers with its watermark and its entries. Only those of the known set are counted.
+    /// A matchmaker answers with its retirement watermark and its entries. Only those of the known set are counted.
     #[tactic(auto, using(crate::proofs::Ranges::few_with))]
     pub(crate) fn match_answer<K: Keeper>(
         &mut self,

@@ -6,7 +6,7 @@ use Rattle.std.specs.List.{list_all}
 use Rattle.std.specs.Str.Parse.{AllDigits}
 use Rattle.std.proofs.lemmas.Bool.Decides.{nat_tests}
 use Rattle.std.proofs.lemmas.Fmt.{decimal_is_IsNumeral, length-decimal-le}
-use Rattle.cx_script.specs.Words.{is_empty, is_number, number_of}
+use Rattle.cx_script.specs.Words.{is_empty, is_number, word_number}
 use Rattle.cx_record.proofs.Words.{Avoids, IsWord, is_break}
 
 digit_so : (b : ℕ) → digit_value b < 10 → is_ascii_digit b ≡ true
@@ -23,7 +23,7 @@ some_byte (d ∷ ds) some = refl
 fits_so : (n : ℕ) → n < 2 ^ 64 → nat_lt n (2 ^ 64) ≡ true
 fits_so n small = grind (arith, nat_tests)
 
-pub number_back : (n : ℕ) → n < 2 ^ 64 → number_of (decimal n) ≡ Some n
+pub number_back : (n : ℕ) → n < 2 ^ 64 → word_number (decimal n) ≡ Some n
 number_back n small =
     let is = decimal_is_IsNumeral n small in
     let numeral : is_number (decimal n) ≡ true = rw (some_byte (decimal n) is.0.0, digits_so (decimal n) is.0.1, is.1, fits_so n small) refl in

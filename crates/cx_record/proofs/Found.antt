@@ -4,7 +4,7 @@ use Rattle.std.proofs.Common.{◌≡◌, ◌+◌, ◌∙◌, ℕ, zero, suc, tru
 use Rattle.std.proofs.lemmas.Bool.{cases_Bool}
 use Rattle.cx_msg.specs.Letter.{Letter, spelling}
 use Rattle.cx_record.specs.Numbers.{Numbered, last_from, last_sent, numbered, or_else}
-use Rattle.cx_record.specs.Table.{AreNumbers, number_of}
+use Rattle.cx_record.specs.Table.{AreNumbers, datagram_number}
 
 -- one datagram more
 last_more : (n : ℕ) (bytes : List ℕ) (ds : List Letter) (d : Letter)
@@ -51,7 +51,7 @@ are_none bytes = refl
 
 -- the numbers once one datagram more was sent, under the next number
 pub one_more : (old new : List (Vec ℕ Global × ℕ)) (sent : List Letter) (d : Letter) → AreNumbers old sent
-    → ((bytes : List ℕ) → number_of bytes new ≡ (if bytes_eq (spelling d) bytes then Some (length sent) else number_of bytes old)) → AreNumbers new (sent ++ d ∷ [])
+    → ((bytes : List ℕ) → datagram_number bytes new ≡ (if bytes_eq (spelling d) bytes then Some (length sent) else datagram_number bytes old)) → AreNumbers new (sent ++ d ∷ [])
 unfolding last_sent
 one_more old new sent d are puts bytes =
     let count : 0 + length sent ≡ length sent = omega arith in
@@ -83,5 +83,5 @@ in_table bytes number sent (Some x) is e =
     }
 
 pub is_last : (entries : List (Vec ℕ Global × ℕ)) (sent : List Letter) (bytes : List ℕ) (number : ℕ) → AreNumbers entries sent
-    → number_of bytes entries ≡ Some number → IsLast bytes number sent
+    → datagram_number bytes entries ≡ Some number → IsLast bytes number sent
 is_last entries sent bytes number are e = in_table bytes number sent (last_sent bytes sent) refl (sym (are bytes) ∙ e)

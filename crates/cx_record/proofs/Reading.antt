@@ -19,7 +19,7 @@ use Rattle.cx_base.specs.declared.role.RoleId.{RoleId}
 use Rattle.cx_base.specs.Cluster.{count_of}
 use Rattle.cx_base.specs.Grid.{IsGrid, Shape}
 use Rattle.cx_base.specs.Role.{role_text}
-use Rattle.cx_script.specs.Grammar.{collect_event, deliver_event, event_in, event_of, line_event, op_at, read_event, replace_event, round_of, server_of, session_event, snap_event, write_event}
+use Rattle.cx_script.specs.Grammar.{collect_event, deliver_event, event_in, event_of, line_event, op_at, read_event, replace_event, grid_order_of, server_of, session_event, snap_event, write_event}
 use Rattle.cx_script.specs.Lines.{lines_of, schedule_of, spelled_from}
 use Rattle.cx_script.specs.Names.{is_client, names_members, names_server, names_set}
 use Rattle.cx_script.specs.Unended.{lines_text}
@@ -170,8 +170,8 @@ restart_line c r named =
 round_are_words : (c : Cluster) (l : ℕ) (g : Shape) (cut : Cut) → IsGrid g → nat_lt l c.leaders ≡ true → names_members c g ≡ true → AreWords (round_words l g cut)
 round_are_words c l g cut is leader members = (role_word c Leader l leader, (sides_are_word g is, (members_are_word c g is members, cut_are_words cut)))
 
-round_said : (c : Cluster) (l : ℕ) (g : Shape) (cut : Cut) → IsGrid g → nat_lt l c.leaders ≡ true → names_members c g ≡ true → round_of c (round_words l g cut) ≡ Ok (l, g, cut)
-unfolding round_of
+round_said : (c : Cluster) (l : ℕ) (g : Shape) (cut : Cut) → IsGrid g → nat_lt l c.leaders ≡ true → names_members c g ≡ true → grid_order_of c (round_words l g cut) ≡ Ok (l, g, cut)
+unfolding grid_order_of
 round_said c l g cut is leader members = rw (index_back c Leader l leader, sides_back g is, members_back c g is members, cut_back cut) refl
 
 lead_line : (c : Cluster) (l : ℕ) (g : Shape) (cut : Cut) → IsRecordable c (event.Order l (Lead g) cut) → IsLine c (line_words (event.Order l (Lead g) cut)) (event.Order l (Lead g) cut)
@@ -216,8 +216,8 @@ is_line c (event.Tick r) is = tick_line c r is.named
 is_line c (event.Order l (Lead g) cut) is = lead_line c l g cut is
 is_line c (event.Order l (Change g) cut) is = change_line c l g cut is
 is_line c (event.Order l Collect Whole) is = collect_line c l (and_parts (nat_lt l c.leaders) true is.named).0
-is_line c (event.Order l Collect Torn) is = absurd (true≢false (sym is.told))
-is_line c (event.Order l Collect Kept) is = absurd (true≢false (sym is.told))
+is_line c (event.Order l Collect Torn) is = absurd (true≢false (sym is.complete))
+is_line c (event.Order l Collect Kept) is = absurd (true≢false (sym is.complete))
 is_line c (event.Order l (Replace s) cut) is = absurd (true≢false (sym (and_parts (nat_lt l c.leaders) false is.named).1))
 is_line c (event.Replace replacer s cut) is = replace_line c replacer s cut is
 is_line c (event.Snap replica cut) is = snap_line c replica cut is.named

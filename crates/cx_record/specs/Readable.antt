@@ -50,7 +50,7 @@ pub record IsRecordable (c : Cluster) (e : Event) : Type 0 where
   pub ranges : HasRanges e
   pub valid : is_valid_event e ≡ true
   pub named : names_event c e ≡ true
-  pub told : tells_all e ≡ true
+  pub complete : tells_all e ≡ true
 
 -- the lines of these events are read as these events
 abbrev pub AreRead : Cluster → List Event → Type 0

@@ -6,9 +6,9 @@ use Rattle.cx_msg.specs.Letter.{Letter}
 use Rattle.cx_record.specs.Numbers.{Numbered, last_sent}
 
 -- the number that stands beside these bytes
-abbrev pub number_of : List ℕ → List (Vec ℕ Global × ℕ) → Option ℕ
-number_of bytes entries = lookup (λ (key : Vec ℕ Global). bytes_eq bytes key.items) entries
+abbrev pub datagram_number : List ℕ → List (Vec ℕ Global × ℕ) → Option ℕ
+datagram_number bytes entries = lookup (λ (key : Vec ℕ Global). bytes_eq bytes key.items) entries
 
 -- beside all bytes that were sent stands the number of the last datagram with them, and no others are there
 abbrev pub AreNumbers : List (Vec ℕ Global × ℕ) → List Letter → Type 0
-AreNumbers entries sent = (bytes : List ℕ) → number_of bytes entries ≡ option_map (λ (found : Numbered). found.number) (last_sent bytes sent)
+AreNumbers entries sent = (bytes : List ℕ) → datagram_number bytes entries ≡ option_map (λ (found : Numbered). found.number) (last_sent bytes sent)

@@ -3,7 +3,7 @@
 ghost use Rattle.std.specs.Prelude.{◌≡◌, ◌+◌, ◌<◌, ◌++◌, ◌∷◌, [], ℕ, List, true, IfOk, OnOk, OnErr, Some, bytes_eq, if◌then◌else◌};
 ghost use Rattle.indexmap.specs.IndexMap.{spare};
 ghost use Rattle.cx_record.specs.Numbers.{blank, has_room, last_sent};
-ghost use Rattle.cx_record.specs.Table.{number_of};
+ghost use Rattle.cx_record.specs.Table.{datagram_number};
 
 use cx_base::NoMemory;
 use cx_history::Sent;
@@ -53,8 +53,8 @@ impl Model for Recorder {
 }
 
 // The number beside these bytes.
-fn number_of(numbers: &IndexMap<Vec<u8>, u64>, bytes: &[u8]) -> Option<u64>
-    ensures { result ≡ number_of bytes.now numbers.now.entries }
+fn datagram_number(numbers: &IndexMap<Vec<u8>, u64>, bytes: &[u8]) -> Option<u64>
+    ensures { result ≡ datagram_number bytes.now numbers.now.entries }
 {
     numbers.get(bytes).copied()
 }
@@ -62,8 +62,8 @@ fn number_of(numbers: &IndexMap<Vec<u8>, u64>, bytes: &[u8]) -> Option<u64>
 // Puts a number beside these bytes, in the place of the one before. Room was taken beforehand.
 fn put_number(numbers: &mut IndexMap<Vec<u8>, u64>, bytes: Vec<u8>, number: u64)
     requires { 0 < spare numbers.old }
-    ensures { (others : List ℕ) → number_of others numbers.new.entries
-        ≡ (if bytes_eq bytes.items others then Some number else number_of others numbers.old.entries) }
+    ensures { (others : List ℕ) → datagram_number others numbers.new.entries
+        ≡ (if bytes_eq bytes.items others then Some number else datagram_number others numbers.old.entries) }
 {
     match numbers.insert(bytes, number) {
         Ok(_) => {}
@@ -85,14 +85,14 @@ impl Recorder {
         }
     }
 
-    /// Whether the record has room for so many lines more: it has 65,535 at most. It takes no memory.
+    /// Whether the record has room for so many lines more: it has 65,535 at most.
     pub fn has_room(&self, more: u64) -> bool
         ensures { result ≡ has_room more self.now }
     {
         self.lines.saturating_add(more) <= MOST_LINES
     }
 
-    /// Counts lines that were written. It takes no memory.
+    /// Counts lines that were written.
     pub fn count(&mut self, more: u64)
         requires { has_room more self.old ≡ true }
         ensures { self.new ≡ record { sent = self.old.sent; lines = self.old.lines + more } }
@@ -119,7 +119,7 @@ impl Recorder {
     pub fn find(&self, bytes: &[u8]) -> Result<Option<Numbered>, NoMemory>
         ensures { IfOk result (λ found. found ≡ last_sent bytes.now self.now.sent) }
     {
-        let Some(number) = number_of(&self.numbers, bytes) else {
+        let Some(number) = datagram_number(&self.numbers, bytes) else {
             return Ok(None);
         };
         match self.sent.get(number)? {

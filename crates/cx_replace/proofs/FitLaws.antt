@@ -7,9 +7,9 @@ use Rattle.cx_base.specs.Sets.{is_above}
 use Rattle.cx_grid.specs.Quorum.{with_mark}
 use Rattle.cx_msg.specs.declared.input.Input.TheVariants as input
 use Rattle.cx_model.specs.Matched.{enough}
-use Rattle.cx_model.specs.Replacer.{ReplacerDurable, ReplacerVolatile, boot_b_row, boot_counted, decide, halt_counted, has_halted, is_booting}
-use Rattle.cx_model.specs.Replacer.{is_deciding, is_resting, is_stopping, joined, next_b_row, next_counted, replacer_row, replacer_rules}
-use Rattle.cx_model.specs.Replacer.{replacer_takes, sets_row, stop_b_row, stop_nack_row, to_decide}
+use Rattle.cx_model.specs.Replacer.{ReplacerDurable, ReplacerVolatile, boot_b_row, decide, halt_counted, has_halted, is_booting}
+use Rattle.cx_model.specs.Replacer.{is_deciding, is_resting, is_stopping, joined_entries, next_b_row, replacer_row, replacer_rules}
+use Rattle.cx_model.specs.Replacer.{replacer_takes, stop_b_row, to_decide}
 
 abbrev KeepsNone : Outcome ReplacerVolatile → Type 0
 KeepsNone o = o.kept ≡ None
@@ -20,7 +20,7 @@ module _ (c : Cluster) (me : RoleId) (d : ReplacerDurable) where
 
   halt_counted_none : (v : ReplacerVolatile) → KeepsNone (halt_counted c me d v)
   halt_counted_none v =
-      either_way KeepsNone (nat_lt (length v.halts) (enough c)) _ _ refl (decide_none v (joined v.halts) (to_decide v.next v.halts))
+      either_way KeepsNone (nat_lt (length v.halts) (enough c)) _ _ refl (decide_none v (joined_entries v.halts) (to_decide v.next v.halts))
 
   module _ (v : ReplacerVolatile) (from : RoleId) where
     stop_b_none : (b w : Round) (es : List Entry) (a : Round) (s : List ℕ) → KeepsNone (stop_b_row c me d v from b w es a s)

@@ -13,8 +13,8 @@ use Rattle.cx_field.specs.Fields.{entries, joined, round0}
 use Rattle.cx_field.specs.Ranges.{entry_in_range, rounds_rise}
 use Rattle.cx_field.proofs.ListLaws.{entries_apart, joined_fit}
 use Rattle.cx_model.specs.declared.states.Halt.{Halt}
-use Rattle.cx_model.specs.Matchmaker.{entries_from}
-use Rattle.cx_model.specs.Replacer.{answers_of, joined as joined_of, sorted_into, with_entry}
+use Rattle.cx_model.specs.Matchmaker.{entries_since}
+use Rattle.cx_model.specs.Replacer.{answers_of, joined_entries as joined_of, sorted_into, with_entry}
 use Rattle.cx_replace.specs.Joining.{earlier}
 use Rattle.cx_replace.specs.State.{halt_fits}
 
@@ -84,16 +84,16 @@ sorted-append xs (e ∷ es) more = sorted-append (with_entry e xs) es more
 
 -- the entries of one answer, then those of the rest
 pub joined_on : (w : Round) (xs : List Entry) (h : Halt) (rest : List Halt)
-    → sorted_into (sorted_into xs (entries_from w h.answer.entries)) (entries_from w (entries_told (answers_of rest)))
-    ≡ sorted_into xs (entries_from w (entries_told (answers_of (h ∷ rest))))
+    → sorted_into (sorted_into xs (entries_since w h.answer.entries)) (entries_since w (entries_told (answers_of rest)))
+    ≡ sorted_into xs (entries_since w (entries_told (answers_of (h ∷ rest))))
 joined_on w xs h rest =
     sym (ap (sorted_into xs) (filter-append _ h.answer.entries (entries_told (answers_of rest)))
-    ∙ sorted-append xs (entries_from w h.answer.entries) (entries_from w (entries_told (answers_of rest))))
+    ∙ sorted-append xs (entries_since w h.answer.entries) (entries_since w (entries_told (answers_of rest))))
 
 -- and of the last one
 pub joined_last : (w : Round) (xs : List Entry) (h : Halt)
-    → sorted_into xs (entries_from w h.answer.entries) ≡ sorted_into xs (entries_from w (entries_told (answers_of (h ∷ []))))
-joined_last w xs h = ap (λ es. sorted_into xs (entries_from w es)) (sym (append-nil h.answer.entries))
+    → sorted_into xs (entries_since w h.answer.entries) ≡ sorted_into xs (entries_since w (entries_told (answers_of (h ∷ []))))
+joined_last w xs h = ap (λ es. sorted_into xs (entries_since w es)) (sym (append-nil h.answer.entries))
 
 pub ruleset more_told = (common_steps, joined_on, joined_last)
 

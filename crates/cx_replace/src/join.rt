@@ -6,11 +6,11 @@ ghost use Rattle.std.specs.Prelude.{slice_get, vec_len};
 ghost use Rattle.std.specs.List.{insert};
 ghost use Rattle.std.specs.Option.{option_map_or};
 ghost use Rattle.cx_role.specs.Prelude.{Entry as EntryOf};
-ghost use Rattle.cx_model.specs.Matchmaker.{entries_from};
-ghost use Rattle.cx_model.specs.Replacer.{answers_of, has_halted, joined, latest, sorted_into, to_decide, with_entry};
+ghost use Rattle.cx_model.specs.Matchmaker.{entries_since};
+ghost use Rattle.cx_model.specs.Replacer.{answers_of, has_halted, joined_entries, latest, sorted_into, to_decide, with_entry};
 ghost use Rattle.cx_replace.specs.Joining.{earlier};
 
-use crate::rounds::{is_same, later};
+use crate::rounds::{is_same, later_round};
 use cx_base::{NoMemory, Round, Set};
 use cx_field::Entry;
 use cx_model::Halt;
@@ -25,13 +25,13 @@ pub fn has_halted(halts: &[Halt], matchmaker: u16) -> bool
         .any(|halt| halt.answer.matchmaker == matchmaker)
 }
 
-/// The greatest watermark of these answers and one more.
+/// The greatest retirement watermark of these answers and one more.
 pub fn watermark(halts: &[Halt], last: &Halt) -> Round
     ensures { result ≡ greatest_watermark (answers_of (halts.now ++ last.now ∷ [])) }
 {
     match halts {
-        [] => later(last.answer.watermark, Round::ZERO),
-        [halt, rest @ ..] => later(halt.answer.watermark, watermark(rest, last)),
+        [] => later_round(last.answer.watermark, Round::ZERO),
+        [halt, rest @ ..] => later_round(halt.answer.watermark, watermark(rest, last)),
     }
 }
 
@@ -113,9 +113,9 @@ fn is_live(entry: &Entry, watermark: Round) -> bool
     !entry.round.is_before(&watermark)
 }
 
-// Puts the entries from the watermark on.
+// Puts the entries from the retirement watermark on.
 fn put_live(joined: &mut Vec<Entry>, entries: &[Entry], watermark: Round) -> Result<(), NoMemory>
-    ensures { IfOk result (λ _. joined.new.items ≡ sorted_into joined.old.items (entries_from watermark entries.now)) }
+    ensures { IfOk result (λ _. joined.new.items ≡ sorted_into joined.old.items (entries_since watermark entries.now)) }
 {
     for entry in entries {
         if is_live(entry, watermark) {
@@ -125,10 +125,10 @@ fn put_live(joined: &mut Vec<Entry>, entries: &[Entry], watermark: Round) -> Res
     Ok(())
 }
 
-/// The entries of these answers and one more, from their greatest watermark on.
+/// The entries of these answers and one more, from their greatest retirement watermark on.
 #[tactic(auto, using(crate::proofs::JoinLaws::more_told))]
 pub fn join(alloc: Global, halts: &[Halt], last: &Halt) -> Result<Vec<Entry>, NoMemory>
-    ensures { IfOk result (λ list. list.items ≡ joined (halts.now ++ last.now ∷ [])) }
+    ensures { IfOk result (λ list. list.items ≡ joined_entries (halts.now ++ last.now ∷ [])) }
 {
     let watermark = watermark(halts, last);
     let mut list = Vec::new(alloc);

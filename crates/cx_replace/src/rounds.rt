@@ -11,7 +11,7 @@ pub fn is_same(a: Round, b: Round) -> bool
     a.r == b.r && a.id == b.id && a.s == b.s
 }
 
-pub fn later(a: Round, b: Round) -> Round
+pub fn later_round(a: Round, b: Round) -> Round
     ensures { result ≡ later_round a b }
 {
     if a.is_before(&b) { b } else { a }

@@ -5,7 +5,7 @@ ghost use Rattle.std.specs.Prelude.{◌≡◌, ◌≤◌, ◌+◌, ◌==◌, ◌
 ghost use Rattle.cx_role.specs.Prelude.{[], map, filter, not, length, IsTrue, OnOk, OnErr, below, role};
 ghost use Rattle.cx_role.specs.Prelude.kind;
 ghost use Rattle.cx_field.specs.Fields as field;
-ghost use Rattle.cx_model.specs.Replacer.{boot_a_to, next_a_to, others, sets_to, stop_a_to, tells};
+ghost use Rattle.cx_model.specs.Replacer.{boot_a_to, next_a_to, sets_to, stop_a_to, sets_to_all};
 
 use cx_base::{Cluster, Duplicate, NoMemory, Round, Set};
 use cx_field::Entries;
@@ -128,7 +128,7 @@ pub fn tell_all(
     out: &mut Outbox,
 ) -> Result<(), NoMemory>
     requires empty { out.old.list ≡ [] }
-    ensures sent { OnOk result (out.new.list ≡ tells cluster.now (role kind.Replacer replacer) set.now) }
+    ensures sent { OnOk result (out.new.list ≡ sets_to_all cluster.now (role kind.Replacer replacer) set.now) }
     ensures none { OnErr result (out.new.list ≡ []) }
 {
     out.room(usize::from(cluster.leaders + cluster.readers + cluster.replacers))?;

@@ -1,8 +1,8 @@
 //! A replacer that stops the known set: what its members had is joined, and the next set is asked for.
 
-ghost use Rattle.std.specs.Prelude.{◌≡◌, ◌&&◌, ◌∷◌, ◌++◌};
+ghost use Rattle.std.specs.Prelude.{◌≡◌, ◌&&◌};
 ghost use Rattle.cx_role.specs.Prelude.{[], IsTrue, is_in, same_round, IsReply};
-ghost use Rattle.cx_model.specs.Replacer.{decide, halt_counted, is_stopping, joined, replacer_rules, stop_b_row, to_decide};
+ghost use Rattle.cx_model.specs.Replacer.{decide, halt_counted, is_stopping, joined_entries, replacer_rules, stop_b_row, to_decide};
 ghost use Rattle.cx_replace.specs.State.{halt_fits, with_halt};
 ghost use Rattle.cx_field.specs.Fields as field;
 
@@ -34,7 +34,7 @@ impl Replacer {
         requires halt { IsTrue (halt_fits halt) }
         requires empty { out.old.list ≡ [] }
         ensures { let s = self.old in let v = with_halt halt s.volatile in
-            IsReply replacer_rules s (decide s.me s.durable v (joined v.halts) (to_decide v.next v.halts))
+            IsReply replacer_rules s (decide s.me s.durable v (joined_entries v.halts) (to_decide v.next v.halts))
             result self.new out.new.list }
     {
         self.halts.reserve(1)?;

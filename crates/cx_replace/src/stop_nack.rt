@@ -4,7 +4,7 @@ ghost use Rattle.cx_role.specs.Prelude.{[], Replies};
 ghost use Rattle.cx_model.specs.Replacer.{replacer_rules, stop_nack_row};
 
 use crate::Replacer;
-use crate::rounds::{is_same, later};
+use crate::rounds::{is_same, later_round};
 use cx_base::{Round, Why};
 use cx_model::Replacing;
 
@@ -15,7 +15,7 @@ impl Replacer {
         ensures { let s = self.old in
             Replies replacer_rules s (stop_nack_row s.durable s.volatile ballot other) result self.new [] }
     {
-        self.seen = later(self.seen, other);
+        self.seen = later_round(self.seen, other);
         if !is_same(ballot, self.own)
             || matches!(self.mode, Replacing::Idle)
             || matches!(self.mode, Replacing::Booting)

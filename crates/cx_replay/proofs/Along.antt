@@ -9,44 +9,44 @@ use Rattle.cx_base.specs.declared.event.Event.{Event}
 use Rattle.cx_base.specs.declared.status.Status.{Status}
 use Rattle.cx_base.specs.declared.status.Status.TheVariants as status
 use Rattle.cx_base.specs.Faults.{Rises}
-use Rattle.cx_edge.specs.Lines.{LinesState, Hands, BeginsLong, IsOpen, GivesLine, GivesLast}
+use Rattle.cx_edge.specs.Lines.{LinesState, Hands, BeginsLong, IsOpenLine, GivesLine, GivesLast}
 use Rattle.cx_edge.specs.Sink.{AppendsPart}
 use Rattle.cx_model.specs.World.{World, run, run_from, start}
-use Rattle.cx_replay.specs.Heard.{Heard, Nothing, BadHeader, Lines}
+use Rattle.cx_replay.specs.ReplayInput.{ReplayInput, Nothing, BadHeader, Lines}
 use Rattle.cx_replay.specs.Input.{bad_line, header_says, input_of, lines}
 use Rattle.cx_replay.specs.Replay.{summary, trace, trace_of, summary_of, text_of, Prints, PrintsLines, ComesOfReplay, Replayed}
-use Rattle.cx_replay.specs.Streamed.{AtEnd, Leaves, StandsBehind, Spells, IsBadAt, StopsIn, Sums, WritesFront}
+use Rattle.cx_replay.specs.Streamed.{AtEnd, WritesRest, StandsBehind, Spells, IsBadAt, StopsIn, Sums, WritesFront}
 use Rattle.cx_replay.proofs.Ends.{done_replayed, bad_replayed, fault_replayed, write_replayed, memory_replayed}
 use Rattle.cx_replay.proofs.Pieces.{Writing, writing_begins, writing_goes, writing_grows, writing_part, writing_whole}
 use Rattle.cx_replay.proofs.Texts.{trace_append, run_append, part_of_more, part_whole, then_part}
 use Rattle.cx_replay.proofs.WholeText.{counted_open, text_push, free_push, line_first, hands_on, hands_held, of_all, some_map}
-use Rattle.cx_script.specs.Header.{header_of}
+use Rattle.cx_script.specs.Header.{header_and_rest}
 use Rattle.cx_script.specs.Input.{begun_input, of_header, whole_input}
-use Rattle.cx_script.specs.Lines.{Spelled, spelled_from, lines_of, schedule_of}
-use Rattle.cx_script.specs.Unended.{but_last, lines_text, counted, is_long_header}
+use Rattle.cx_script.specs.Lines.{ParsedLines, spelled_from, lines_of, schedule_of}
+use Rattle.cx_script.specs.Unended.{but_last, lines_text, settled_text, is_long_header}
 use Rattle.cx_script.proofs.Feeds.{IsFree, AreFree, whole_free, lines_of_unended, first_line_of}
 use Rattle.cx_script.proofs.GoesOn.{some_byte, spelled_long}
 use Rattle.cx_script.proofs.Schedules.{after}
 use Rattle.cx_script.proofs.WholeLines.{parts}
 
 -- whole lines were handed out, n of them after the header, their events run, and the trace of these written but for this text
-pub record Along (c : Cluster) (left now : Option (List ℕ)) (held : List ℕ) (n : ℕ) (w : World) (old out : Option (List ℕ)) (text : List ℕ) (writes writes_now : ℕ) : Type 0 where
+pub record Along (c : Cluster) (left now : Option (List ℕ)) (buffered : List ℕ) (n : ℕ) (w : World) (old out : Option (List ℕ)) (text : List ℕ) (writes writes_now : ℕ) : Type 0 where
   pub ls : List (List ℕ)
   pub free : AreFree ls
-  pub consumed : Consumes left now (lines_text ls ++ held)
+  pub consumed : Consumes left now (lines_text ls ++ buffered)
   pub es : List Event
   pub input : (more : List ℕ) → input_of (lines_text ls ++ more) ≡ Lines c (after es (spelled_from c (n + 1) (lines_of more)))
   pub world : w ≡ run c es
   pub written : Writing (trace (start c) es) text old out writes writes_now
 
-pub begins_along : (c : Cluster) (left now : Option (List ℕ)) (held : List ℕ) (old : Option (List ℕ)) (writes : ℕ) → StandsBehind left now held c
-    → Along c left now held 0 (start c) old old [] writes writes
+pub begins_along : (c : Cluster) (left now : Option (List ℕ)) (buffered : List ℕ) (old : Option (List ℕ)) (writes : ℕ) → StandsBehind left now buffered c
+    → Along c left now buffered 0 (start c) old old [] writes writes
 unfolding schedule_of
-begins_along c left now held old writes b =
+begins_along c left now buffered old writes b =
     record {
       ls = but_last (parts b.bytes);
       free = whole_free b.bytes;
-      consumed = subst (λ l. Consumes left now (l ++ held)) (sym b.whole) b.consumed;
+      consumed = subst (λ l. Consumes left now (l ++ buffered)) (sym b.whole) b.consumed;
       es = [];
       input = λ more. ap (λ l. input_of (l ++ more)) b.whole ∙ b.input more;
       world = refl;
@@ -54,7 +54,7 @@ begins_along c left now held old writes b =
     }
 
 -- the text of all begins with the trace of the events so far
-begins_text : (c : Cluster) (es : List Event) (later : Spelled) (old out : Option (List ℕ)) → AppendsPart old out (trace (start c) es) → AppendsPart old out (text_of (Lines c (after es later)))
+begins_text : (c : Cluster) (es : List Event) (later : ParsedLines) (old out : Option (List ℕ)) → AppendsPart old out (trace (start c) es) → AppendsPart old out (text_of (Lines c (after es later)))
 begins_text c es later old out part =
     part_of_more old out (trace (start c) (es ++ later.events)) (summary_of (Lines c (after es later)))
     (subst (AppendsPart old out) (sym (trace_append (start c) es later.events)) (part_of_more old out (trace (start c) es) (trace (run c es) later.events) part))
@@ -67,40 +67,40 @@ Faces left c es n line = IfSome left (λ all. (later : List (List ℕ)) × (inpu
 abbrev pub IsBad : Option (List ℕ) → Cluster → List Event → ℕ → Type 0
 IsBad left c es n = IfSome left (λ all. input_of all ≡ Lines c (after es (record { events = []; bad = Some n })))
 
-module _ (c : Cluster) (left now : Option (List ℕ)) (held : List ℕ) (n : ℕ) (w : World) (old out : Option (List ℕ)) (text : List ℕ) (writes writes_now : ℕ)
-    (a : Along c left now held n w old out text writes writes_now) where
-  pub faces_line : (next : Option (List ℕ)) (held_next part : List ℕ) → IsFree part → Hands now next held held_next (part ++ 10 ∷ []) → Faces left c a.es (n + 1) (strip_carriage_return part)
-  faces_line next held_next part free h =
+module _ (c : Cluster) (left now : Option (List ℕ)) (buffered : List ℕ) (n : ℕ) (w : World) (old out : Option (List ℕ)) (text : List ℕ) (writes writes_now : ℕ)
+    (a : Along c left now buffered n w old out text writes writes_now) where
+  pub faces_line : (next : Option (List ℕ)) (buffered_next part : List ℕ) → IsFree part → Hands now next buffered buffered_next (part ++ 10 ∷ []) → Faces left c a.es (n + 1) (strip_carriage_return part)
+  faces_line next buffered_next part free h =
       let line = part ++ 10 ∷ [] in
-      of_all left next ((lines_text a.ls ++ line) ++ held_next) (λ all. (later : List (List ℕ)) × (input_of all ≡ Lines c (after a.es (spelled_from c (n + 1) (strip_carriage_return part ∷ later)))))
-      (hands_on left now next (lines_text a.ls) held held_next line a.consumed h)
+      of_all left next ((lines_text a.ls ++ line) ++ buffered_next) (λ all. (later : List (List ℕ)) × (input_of all ≡ Lines c (after a.es (spelled_from c (n + 1) (strip_carriage_return part ∷ later)))))
+      (hands_on left now next (lines_text a.ls) buffered buffered_next line a.consumed h)
       (λ more. (
-        lines_of (held_next ++ more),
-        ap input_of (append_assoc (lines_text a.ls ++ line) held_next more ∙ append_assoc (lines_text a.ls) line (held_next ++ more))
-            ∙ a.input (line ++ (held_next ++ more))
-            ∙ ap (λ ls. Lines c (after a.es (spelled_from c (n + 1) ls))) (line_first part (held_next ++ more) free),
+        lines_of (buffered_next ++ more),
+        ap input_of (append_assoc (lines_text a.ls ++ line) buffered_next more ∙ append_assoc (lines_text a.ls) line (buffered_next ++ more))
+            ∙ a.input (line ++ (buffered_next ++ more))
+            ∙ ap (λ ls. Lines c (after a.es (spelled_from c (n + 1) ls))) (line_first part (buffered_next ++ more) free),
       ))
 
-  pub faces_last : (next : Option (List ℕ)) (part : List ℕ) → IsFree part → 0 < length part → Hands now next held [] part → IsAtEnd next → Faces left c a.es (n + 1) (strip_carriage_return part)
+  pub faces_last : (next : Option (List ℕ)) (part : List ℕ) → IsFree part → 0 < length part → Hands now next buffered [] part → IsAtEnd next → Faces left c a.es (n + 1) (strip_carriage_return part)
   faces_last next part free some h at_end =
       Consumes-whole left next ((lines_text a.ls ++ part) ++ []) (λ all. (later : List (List ℕ)) × (input_of all ≡ Lines c (after a.es (spelled_from c (n + 1) (strip_carriage_return part ∷ later)))))
-      (hands_on left now next (lines_text a.ls) held [] part a.consumed h) at_end
+      (hands_on left now next (lines_text a.ls) buffered [] part a.consumed h) at_end
       ([], ap input_of (append-nil (lines_text a.ls ++ part)) ∙ a.input part ∙ ap (λ ls. Lines c (after a.es (spelled_from c (n + 1) ls))) (lines_of_unended part free some))
 
-  pub faces_long : (next : Option (List ℕ)) (held_next : List ℕ) → Hands now next held held_next [] → BeginsLong 1024 held_next → IsBad left c a.es (n + 1)
-  faces_long next held_next h long =
-      of_all left next (lines_text a.ls ++ held_next) (λ all. input_of all ≡ Lines c (after a.es (record { events = []; bad = Some (n + 1) })))
-      (hands_held left now next (lines_text a.ls) held held_next a.consumed h)
+  pub faces_long : (next : Option (List ℕ)) (buffered_next : List ℕ) → Hands now next buffered buffered_next [] → BeginsLong 1024 buffered_next → IsBad left c a.es (n + 1)
+  faces_long next buffered_next h long =
+      of_all left next (lines_text a.ls ++ buffered_next) (λ all. input_of all ≡ Lines c (after a.es (record { events = []; bad = Some (n + 1) })))
+      (hands_held left now next (lines_text a.ls) buffered buffered_next a.consumed h)
       (λ more.
       let first = first_line_of long.part (long.behind ++ more) long.free (some_byte long.part (omega (arith, long.long))) in
-      let whole : held_next ++ more ≡ long.part ++ (long.behind ++ more) = ap (λ l. l ++ more) long.is ∙ append_assoc long.part long.behind more in
-      ap input_of (append_assoc (lines_text a.ls) held_next more) ∙ a.input (held_next ++ more)
+      let whole : buffered_next ++ more ≡ long.part ++ (long.behind ++ more) = ap (λ l. l ++ more) long.is ∙ append_assoc long.part long.behind more in
+      ap input_of (append_assoc (lines_text a.ls) buffered_next more) ∙ a.input (buffered_next ++ more)
       ∙ ap (λ ls. Lines c (after a.es (spelled_from c (n + 1) ls))) (ap lines_of whole ∙ first.is)
       ∙ ap (λ s. Lines c (after a.es s)) (spelled_long c (n + 1) first.line first.lines (omega (arith, long.long, first.longer))))
 
   -- the front of the text was written
   pub writes_along : (rest : List ℕ) (out_next : Option (List ℕ)) (writes_next : ℕ) → WritesFront text rest out out_next true → writes_next ≡ writes_now
-      → Along c left now held n w old out_next rest writes writes_next
+      → Along c left now buffered n w old out_next rest writes writes_next
   writes_along rest out_next writes_next front still =
       record {
         ls = a.ls;
@@ -123,16 +123,16 @@ module _ (c : Cluster) (left now : Option (List ℕ)) (held : List ℕ) (n : ℕ
       (writing_grows (trace (start c) a.es) text (trace (run c a.es) events) old out writes writes_now a.written))
 
   -- a line was run
-  pub goes_along : (next : Option (List ℕ)) (held_next part : List ℕ) (event : Option Event) (w_next : World) (text_next : List ℕ) → IsFree part → Hands now next held held_next (part ++ 10 ∷ [])
+  pub goes_along : (next : Option (List ℕ)) (buffered_next part : List ℕ) (event : Option Event) (w_next : World) (text_next : List ℕ) → IsFree part → Hands now next buffered buffered_next (part ++ 10 ∷ [])
       → Spells c (n + 1) (strip_carriage_return part) event → w_next ≡ run_from w (option_to_list event) → text_next ≡ text ++ trace w (option_to_list event)
-      → Along c left next held_next (n + 1) w_next old out text_next writes writes_now
-  goes_along next held_next part event w_next text_next free h spells world printed =
+      → Along c left next buffered_next (n + 1) w_next old out text_next writes writes_now
+  goes_along next buffered_next part event w_next text_next free h spells world printed =
       let line = part ++ 10 ∷ [] in
       let events = option_to_list event in
       record {
         ls = a.ls ++ part ∷ [];
         free = free_push a.ls part a.free free;
-        consumed = subst (λ l. Consumes left next (l ++ held_next)) (sym (text_push a.ls part)) (hands_on left now next (lines_text a.ls) held held_next line a.consumed h);
+        consumed = subst (λ l. Consumes left next (l ++ buffered_next)) (sym (text_push a.ls part)) (hands_on left now next (lines_text a.ls) buffered buffered_next line a.consumed h);
         es = a.es ++ events;
         input = λ more.
             let later = spelled_from c (n + 1 + 1) (lines_of more) in
@@ -147,10 +147,10 @@ module _ (c : Cluster) (left now : Option (List ℕ)) (held : List ℕ) (n : ℕ
   -- as much as was written is a part of the text of all
   along_part : (last : Option (List ℕ)) → AppendsPart old last (trace (start c) a.es) → IfSome left (λ all. AppendsPart old last (text_of (input_of all)))
   along_part last part =
-      of_all left now (lines_text a.ls ++ held) (λ all. AppendsPart old last (text_of (input_of all))) a.consumed
+      of_all left now (lines_text a.ls ++ buffered) (λ all. AppendsPart old last (text_of (input_of all))) a.consumed
       (λ more.
-      subst (λ h. AppendsPart old last (text_of h)) (sym (ap input_of (append_assoc (lines_text a.ls) held more) ∙ a.input (held ++ more)))
-      (begins_text c a.es (spelled_from c (n + 1) (lines_of (held ++ more))) old last part))
+      subst (λ h. AppendsPart old last (text_of h)) (sym (ap input_of (append_assoc (lines_text a.ls) buffered more) ∙ a.input (buffered ++ more)))
+      (begins_text c a.es (spelled_from c (n + 1) (lines_of (buffered ++ more))) old last part))
 
   -- a write failed in the text
   pub fails_along : (last : Option (List ℕ)) → AppendsPart out last text → IfSome left (λ all. AppendsPart old last (text_of (input_of all)))
@@ -158,7 +158,7 @@ module _ (c : Cluster) (left now : Option (List ℕ)) (held : List ℕ) (n : ℕ
 
   -- what holds where the trace is written whole
   leaves_along : (Holds : Option (List ℕ) → Type 0)
-      → ((last : Option (List ℕ)) → Appends old last (trace (start c) a.es) → IfSome left (λ all. AppendsPart old last (text_of (input_of all))) → Holds last) → Leaves left old out text Holds
+      → ((last : Option (List ℕ)) → Appends old last (trace (start c) a.es) → IfSome left (λ all. AppendsPart old last (text_of (input_of all))) → Holds last) → WritesRest left old out text Holds
   leaves_along Holds each =
       record {
         whole = λ last p.
@@ -179,7 +179,7 @@ nothing_more : (es : List Event) → after es (record { events = []; bad = None 
 nothing_more es = ap (λ (l : List Event). record { events = l; bad = None }) (append-nil es)
 
 leaves_ended : (c : Cluster) (left now : Option (List ℕ)) (w : World) (old out : Option (List ℕ)) (text : List ℕ) (writes writes_now : ℕ) → Ended c left now w old out text writes writes_now
-    → Leaves left old out text (λ last. AtEnd c left now w old last)
+    → WritesRest left old out text (λ last. AtEnd c left now w old last)
 leaves_ended c left now w old out text writes writes_now e =
     record {
       whole = λ last p.
@@ -196,36 +196,36 @@ leaves_ended c left now w old out text writes writes_now e =
           (part_of_more old last (trace (start c) e.es) (summary (run c e.es)) (writing_part (trace (start c) e.es) old out last writes writes_now writes_now text e.written p))) e.input;
     }
 
-module _ (c : Cluster) (left now next : Option (List ℕ)) (held : List ℕ) (n : ℕ) (w : World) (old out : Option (List ℕ)) (text : List ℕ) (writes writes_now : ℕ)
-    (a : Along c left now held n w old out text writes writes_now) where
-  pub ends_along : Hands now next held [] [] → IsAtEnd next → Leaves left old out text (λ last. AtEnd c left next w old last)
+module _ (c : Cluster) (left now next : Option (List ℕ)) (buffered : List ℕ) (n : ℕ) (w : World) (old out : Option (List ℕ)) (text : List ℕ) (writes writes_now : ℕ)
+    (a : Along c left now buffered n w old out text writes writes_now) where
+  pub ends_along : Hands now next buffered [] [] → IsAtEnd next → WritesRest left old out text (λ last. AtEnd c left next w old last)
   ends_along h at_end =
       leaves_ended c left next w old out text writes writes_now
       (record {
         es = a.es;
         input = Consumes-whole left next (lines_text a.ls ++ []) (λ all. input_of all ≡ Lines c (record { events = a.es; bad = None }))
-            (hands_held left now next (lines_text a.ls) held [] a.consumed h) at_end (a.input [] ∙ ap (Lines c) (nothing_more a.es));
+            (hands_held left now next (lines_text a.ls) buffered [] a.consumed h) at_end (a.input [] ∙ ap (Lines c) (nothing_more a.es));
         at_end = at_end;
         world = a.world;
         written = a.written;
       })
 
   -- the last line was run
-  pub ends_last : (part : List ℕ) (event : Option Event) (w_next : World) (text_next : List ℕ) → IsFree part → 0 < length part → Hands now next held [] part → IsAtEnd next
+  pub ends_last : (part : List ℕ) (event : Option Event) (w_next : World) (text_next : List ℕ) → IsFree part → 0 < length part → Hands now next buffered [] part → IsAtEnd next
       → Spells c (n + 1) (strip_carriage_return part) event → w_next ≡ run_from w (option_to_list event) → text_next ≡ text ++ trace w (option_to_list event)
-      → Leaves left old out text_next (λ last. AtEnd c left next w_next old last)
+      → WritesRest left old out text_next (λ last. AtEnd c left next w_next old last)
   ends_last part event w_next text_next free some h at_end spells world printed =
       let events = option_to_list event in
       leaves_ended c left next w_next old out text_next writes writes_now
       (record {
         es = a.es ++ events;
         input = Consumes-whole left next ((lines_text a.ls ++ part) ++ []) (λ all. input_of all ≡ Lines c (record { events = a.es ++ events; bad = None }))
-            (hands_on left now next (lines_text a.ls) held [] part a.consumed h) at_end
+            (hands_on left now next (lines_text a.ls) buffered [] part a.consumed h) at_end
             (ap input_of (append-nil (lines_text a.ls ++ part)) ∙ a.input part ∙ ap (λ ls. Lines c (after a.es (spelled_from c (n + 1) ls))) (lines_of_unended part free some)
             ∙ ap (λ s. Lines c (after a.es s)) (spells []) ∙ ap (λ (es : List Event). Lines c (record { events = a.es ++ es; bad = None })) (append-nil events));
         at_end = at_end;
         world = world ∙ ap (λ v. run_from v events) a.world ∙ sym (run_append (start c) a.es events);
-        written = grows c left now held n w old out text writes writes_now a text_next event printed;
+        written = grows c left now buffered n w old out text writes writes_now a text_next event printed;
       })
 
 -- a header alone has no events
@@ -343,22 +343,22 @@ stops_comes c n line (status.NotFresh role) t = t
 stops_comes c n line status.RecordFull t = t
 
 -- a header was found, so that it counts which bytes come before it
-same_found : (found : Option (List ℕ × List ℕ)) (without : Heard) (c : Cluster) (s : Spelled) → of_header header_says found BadHeader ≡ Lines c s
+same_found : (found : Option (List ℕ × List ℕ)) (without : ReplayInput) (c : Cluster) (s : ParsedLines) → of_header header_says found BadHeader ≡ Lines c s
     → of_header header_says found without ≡ Lines c s
 same_found None without c s is = cc
 same_found (Some parts) without c s is = is
 
 -- what the loop knows of the next line, and how it stops there
 module _ (c : Cluster) (left now next : Option (List ℕ)) (n : ℕ) (w : World) (lines_old lines_next : LinesState) (old out : Option (List ℕ)) (text : List ℕ) (reads reads_after writes writes_now : ℕ)
-    (a : Along c left now lines_old.held n w old out text writes writes_now) where
+    (a : Along c left now lines_old.buffered n w old out text writes writes_now) where
   abbrev Stops : List ℕ → Status → Type 0
-  Stops text_after s = (writes_now ≡ writes) × Leaves left old out text_after (λ last. Replayed left next reads reads_after old last writes writes_now s)
+  Stops text_after s = (writes_now ≡ writes) × WritesRest left old out text_after (λ last. Replayed left next reads reads_after old last writes writes_now s)
 
   stops_facing : (line : List ℕ) → Faces left c a.es (n + 1) line → reads_after ≡ reads → (text_after : List ℕ) (s : Status) → (text_after ≡ text) × StopsIn c (n + 1) line s → Stops text_after s
   stops_facing line faces read text_after s (same, stops) = (
     a.written.still,
-    subst (λ l. Leaves left old out l (λ last. Replayed left next reads reads_after old last writes writes_now s)) (sym same)
-        (leaves_along c left now lines_old.held n w old out text writes writes_now a (λ last. Replayed left next reads reads_after old last writes writes_now s)
+    subst (λ l. WritesRest left old out l (λ last. Replayed left next reads reads_after old last writes writes_now s)) (sym same)
+        (leaves_along c left now lines_old.buffered n w old out text writes writes_now a (λ last. Replayed left next reads reads_after old last writes writes_now s)
         (λ last written part. stops_replayed c left next reads reads_after old last writes writes_now a.es (n + 1) line read a.written.still faces s stops written part)),
   )
 
@@ -366,38 +366,38 @@ module _ (c : Cluster) (left now next : Option (List ℕ)) (n : ℕ) (w : World)
       → (text_after ≡ text) × StopsIn c (n + 1) line s → Stops text_after s
   stops_at_line read line is gives =
       stops_facing line
-      (subst (Faces left c a.es (n + 1)) (sym (is ∙ gives.text)) (faces_line c left now lines_old.held n w old out text writes writes_now a next lines_next.held gives.part gives.free gives.hands)) read
+      (subst (Faces left c a.es (n + 1)) (sym (is ∙ gives.text)) (faces_line c left now lines_old.buffered n w old out text writes writes_now a next lines_next.buffered gives.part gives.free gives.hands)) read
 
   pub stops_at_last : reads_after ≡ reads → (line : List ℕ) → line ≡ lines_next.text → GivesLast 1024 now next lines_old lines_next → (text_after : List ℕ) (s : Status)
       → (text_after ≡ text) × StopsIn c (n + 1) line s → Stops text_after s
   stops_at_last read line is gives =
       stops_facing line
-      (subst (Faces left c a.es (n + 1)) (sym (is ∙ gives.text)) (faces_last c left now lines_old.held n w old out text writes writes_now a next gives.part gives.free gives.some gives.hands gives.at_end)) read
+      (subst (Faces left c a.es (n + 1)) (sym (is ∙ gives.text)) (faces_last c left now lines_old.buffered n w old out text writes writes_now a next gives.part gives.free gives.some gives.hands gives.at_end)) read
 
-  pub stops_long : reads_after ≡ reads → Hands now next lines_old.held lines_next.held [] → BeginsLong 1024 lines_next.held → Stops text (status.BadInput (n + 1))
+  pub stops_long : reads_after ≡ reads → Hands now next lines_old.buffered lines_next.buffered [] → BeginsLong 1024 lines_next.buffered → Stops text (status.BadInput (n + 1))
   stops_long read hands long = (
     a.written.still,
-    leaves_along c left now lines_old.held n w old out text writes writes_now a (λ last. Replayed left next reads reads_after old last writes writes_now (status.BadInput (n + 1)))
+    leaves_along c left now lines_old.buffered n w old out text writes writes_now a (λ last. Replayed left next reads reads_after old last writes writes_now (status.BadInput (n + 1)))
         (λ last written part. bad_stops c left next reads reads_after old last writes writes_now a.es (n + 1)
-        (faces_long c left now lines_old.held n w old out text writes writes_now a next lines_next.held hands long) written read a.written.still),
+        (faces_long c left now lines_old.buffered n w old out text writes writes_now a next lines_next.buffered hands long) written read a.written.still),
   )
 
   -- the lines that were read whole say what was run
-  prints_lines : Hands now next lines_old.held lines_next.held [] → IsOpen 1024 lines_next.held → (last : Option (List ℕ)) → Appends old last (trace (start c) a.es) → PrintsLines left next old last
+  prints_lines : Hands now next lines_old.buffered lines_next.buffered [] → IsOpenLine 1024 lines_next.buffered → (last : Option (List ℕ)) → Appends old last (trace (start c) a.es) → PrintsLines left next old last
   unfolding begun_input whole_input
   prints_lines h open_yet last written =
-      let bytes = lines_text a.ls ++ lines_next.held in
+      let bytes = lines_text a.ls ++ lines_next.buffered in
       let whole : input_of (lines_text a.ls) ≡ Lines c (record { events = a.es; bad = None }) =
       ap input_of (sym (append-nil (lines_text a.ls))) ∙ a.input [] ∙ ap (Lines c) (nothing_more a.es) in
       let heard : lines bytes ≡ Lines c (record { events = a.es; bad = None }) =
-      ap (λ l. of_header header_says (header_of l) (if is_long_header (counted 16384 bytes) then BadHeader else Nothing)) (counted_open 1024 a.ls lines_next.held a.free open_yet.0 open_yet.1)
-      ∙ same_found (header_of (lines_text a.ls)) (if is_long_header (counted 16384 bytes) then BadHeader else Nothing) c (record { events = a.es; bad = None }) whole in
-      (bytes, hands_held left now next (lines_text a.ls) lines_old.held lines_next.held a.consumed h, ap bad_line heard, subst (Appends old last) (sym (ap trace_of heard)) written)
+      ap (λ l. of_header header_says (header_and_rest l) (if is_long_header (settled_text 16384 bytes) then BadHeader else Nothing)) (counted_open 1024 a.ls lines_next.buffered a.free open_yet.0 open_yet.1)
+      ∙ same_found (header_and_rest (lines_text a.ls)) (if is_long_header (settled_text 16384 bytes) then BadHeader else Nothing) c (record { events = a.es; bad = None }) whole in
+      (bytes, hands_held left now next (lines_text a.ls) lines_old.buffered lines_next.buffered a.consumed h, ap bad_line heard, subst (Appends old last) (sym (ap trace_of heard)) written)
 
   -- a read has failed there
-  pub stops_failed : Rises reads reads_after → Hands now next lines_old.held lines_next.held [] → IsOpen 1024 lines_next.held → Stops text status.ReadFault
+  pub stops_failed : Rises reads reads_after → Hands now next lines_old.buffered lines_next.buffered [] → IsOpenLine 1024 lines_next.buffered → Stops text status.ReadFault
   stops_failed rises hands open_yet = (
     a.written.still,
-    leaves_along c left now lines_old.held n w old out text writes writes_now a (λ last. Replayed left next reads reads_after old last writes writes_now status.ReadFault)
+    leaves_along c left now lines_old.buffered n w old out text writes writes_now a (λ last. Replayed left next reads reads_after old last writes writes_now status.ReadFault)
         (λ last written part. fault_replayed left next reads reads_after old last writes writes_now rises (prints_lines hands open_yet last written) a.written.still),
   )

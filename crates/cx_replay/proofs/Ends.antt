@@ -7,7 +7,7 @@ use Rattle.cx_base.specs.declared.status.Status.TheVariants as status
 use Rattle.cx_base.specs.Faults.{Rises}
 use Rattle.cx_edge.specs.Sink.{AppendsPart}
 use Rattle.cx_replay.specs.Input.{bad_line, input_of}
-use Rattle.cx_replay.specs.Replay.{answer_of, trace_of, text_of, Prints, PrintsLines, ComesOfReplay, Completes, Replayed}
+use Rattle.cx_replay.specs.Replay.{replay_status, trace_of, text_of, Prints, PrintsLines, ComesOfReplay, ReplayCompletes, Replayed}
 
 -- each status that comes of a replay has a number of its own
 abbrev kind : Status → ℕ
@@ -129,11 +129,11 @@ module _ (left left_after : Option (List ℕ)) (reads reads_after : ℕ) (out ou
 
 -- each other status than Done, bad input and out of memory has its cause
 pub completes : (left left_after : Option (List ℕ)) (reads reads_after : ℕ) (out out_after : Option (List ℕ)) (writes writes_after : ℕ) (s : Status)
-    → Replayed left left_after reads reads_after out out_after writes writes_after s → ComesOfReplay s → Completes left reads reads_after writes writes_after s
+    → Replayed left left_after reads reads_after out out_after writes writes_after s → ComesOfReplay s → ReplayCompletes left reads reads_after writes writes_after s
 completes None left_after reads reads_after out out_after writes writes_after s r comes = tt
-completes (Some all) left_after reads reads_after out out_after writes writes_after status.Done r comes = λ no_read no_write. inl (sym (ap answer_of (r.done refl).0))
+completes (Some all) left_after reads reads_after out out_after writes writes_after status.Done r comes = λ no_read no_write. inl (sym (ap replay_status (r.done refl).0))
 completes (Some all) left_after reads reads_after out out_after writes writes_after status.BadWords r comes = absurd comes
-completes (Some all) left_after reads reads_after out out_after writes writes_after (status.BadInput line) r comes = λ no_read no_write. inl (sym (ap answer_of (r.bad_input line refl)))
+completes (Some all) left_after reads reads_after out out_after writes writes_after (status.BadInput line) r comes = λ no_read no_write. inl (sym (ap replay_status (r.bad_input line refl)))
 completes (Some all) left_after reads reads_after out out_after writes writes_after status.ReadFault r comes = λ no_read no_write. absurd (no_read (r.read_fault refl))
 completes (Some all) left_after reads reads_after out out_after writes writes_after status.WriteFault r comes = λ no_read no_write. absurd (no_write (r.write_fault refl))
 completes (Some all) left_after reads reads_after out out_after writes writes_after status.LinkFault r comes = absurd comes

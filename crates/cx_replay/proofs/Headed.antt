@@ -7,39 +7,39 @@ use Rattle.cx_base.specs.declared.cluster.Cluster.{Cluster}
 use Rattle.cx_base.specs.declared.status.Status.TheVariants as status
 use Rattle.cx_cluster.specs.Reading.{header_cluster}
 use Rattle.cx_model.specs.World.{start}
-use Rattle.cx_replay.specs.Heard.{BadHeader}
+use Rattle.cx_replay.specs.ReplayInput.{BadHeader}
 use Rattle.cx_replay.specs.Input.{bad_line, behind, header_says, input_of}
 use Rattle.cx_replay.specs.Replay.{trace_of, Replayed}
-use Rattle.cx_replay.specs.Streamed.{AtEnd, HasHeader, IsHeader, StandsBehind, Says}
+use Rattle.cx_replay.specs.Streamed.{AtEnd, HasHeader, IsHeader, StandsBehind, HeaderSays}
 use Rattle.cx_replay.proofs.Along.{ends_alone}
 use Rattle.cx_replay.proofs.Ends.{bad_replayed}
 use Rattle.cx_replay.proofs.WholeText.{of_all, some_map}
-use Rattle.cx_script.specs.Header.{header_of}
+use Rattle.cx_script.specs.Header.{header_and_rest}
 use Rattle.cx_script.specs.Input.{of_header, whole_input}
 
 -- no header says a cluster
 abbrev IsBadHeader : Option (List ℕ) → Type 0
 IsBadHeader left = IfSome left (λ all. input_of all ≡ BadHeader)
 
-pub no_header : (left : Option (List ℕ)) → IfSome left (λ all. header_of all ≡ None) → IsBadHeader left
+pub no_header : (left : Option (List ℕ)) → IfSome left (λ all. header_and_rest all ≡ None) → IsBadHeader left
 unfolding whole_input
-no_header left none = some_map left (λ all. header_of all ≡ None) (λ all. input_of all ≡ BadHeader) (λ all is. ap (λ found. of_header header_says found BadHeader) is) none
+no_header left none = some_map left (λ all. header_and_rest all ≡ None) (λ all. input_of all ≡ BadHeader) (λ all is. ap (λ found. of_header header_says found BadHeader) is) none
 
-input_is : (bytes text rest : List ℕ) → header_of bytes ≡ Some (text, rest) → input_of bytes ≡ behind (header_cluster text) rest
+input_is : (bytes text rest : List ℕ) → header_and_rest bytes ≡ Some (text, rest) → input_of bytes ≡ behind (header_cluster text) rest
 unfolding whole_input
 input_is bytes text rest is = ap (λ found. of_header header_says found BadHeader) is
 
-pub header_refused : (left now : Option (List ℕ)) (held text : List ℕ) → HasHeader left now held text → Says None (header_cluster text) → IsBadHeader left
-header_refused left now held text h says =
-    of_all left now (h.bytes ++ held) (λ all. input_of all ≡ BadHeader) h.consumed
-    (λ more. ap input_of (append_assoc h.bytes held more) ∙ input_is (h.bytes ++ (held ++ more)) text (held ++ more) (h.header (held ++ more)) ∙ ap (λ said. behind said (held ++ more)) says.1)
+pub header_refused : (left now : Option (List ℕ)) (buffered text : List ℕ) → HasHeader left now buffered text → HeaderSays None (header_cluster text) → IsBadHeader left
+header_refused left now buffered text h says =
+    of_all left now (h.bytes ++ buffered) (λ all. input_of all ≡ BadHeader) h.consumed
+    (λ more. ap input_of (append_assoc h.bytes buffered more) ∙ input_is (h.bytes ++ (buffered ++ more)) text (buffered ++ more) (h.header (buffered ++ more)) ∙ ap (λ said. behind said (buffered ++ more)) says.1)
 
-pub alone_refused : (left now : Option (List ℕ)) (text : List ℕ) → IsHeader left now text → Says None (header_cluster text) → IsBadHeader left
+pub alone_refused : (left now : Option (List ℕ)) (text : List ℕ) → IsHeader left now text → HeaderSays None (header_cluster text) → IsBadHeader left
 alone_refused left now text h says =
     Consumes-whole left now h.bytes (λ all. input_of all ≡ BadHeader) h.consumed h.at_end (input_is h.bytes text [] h.header ∙ ap (λ said. behind said []) says.1)
 
-pub header_taken : (left now : Option (List ℕ)) (held text : List ℕ) (c : Cluster) → HasHeader left now held text → Says (Some c) (header_cluster text) → StandsBehind left now held c
-header_taken left now held text c h says =
+pub header_taken : (left now : Option (List ℕ)) (buffered text : List ℕ) (c : Cluster) → HasHeader left now buffered text → HeaderSays (Some c) (header_cluster text) → StandsBehind left now buffered c
+header_taken left now buffered text c h says =
     record {
       bytes = h.bytes;
       whole = h.whole;
@@ -47,7 +47,7 @@ header_taken left now held text c h says =
       input = λ more. input_is (h.bytes ++ more) text more (h.header more) ∙ ap (λ said. behind said more) says;
     }
 
-pub alone_taken : (left now old : Option (List ℕ)) (text : List ℕ) (c : Cluster) → IsHeader left now text → Says (Some c) (header_cluster text) → AtEnd c left now (start c) old old
+pub alone_taken : (left now old : Option (List ℕ)) (text : List ℕ) (c : Cluster) → IsHeader left now text → HeaderSays (Some c) (header_cluster text) → AtEnd c left now (start c) old old
 alone_taken left now old text c h says =
     ends_alone c left now old h.bytes h.consumed h.at_end (input_is h.bytes text [] h.header ∙ ap (λ said. behind said []) says)
 

@@ -13,16 +13,16 @@ use Rattle.cx_model.specs.Member.{Begins}
 use Rattle.cx_model.specs.World.{run}
 use Rattle.cx_promises.proofs.Lawful.{lawful}
 use Rattle.cx_replay.specs.Generated.{gen_events, gen_state}
-use Rattle.cx_replay.specs.Input.{behind, header_says, heard_of}
+use Rattle.cx_replay.specs.Input.{behind, header_says, input_says}
 use Rattle.cx_replay.specs.Lawful.{IsLawfulAlong, IsLawfulRun, IsLawfulInput, IsLawfulGenerated}
-use Rattle.cx_replay.specs.Heard.{Heard, Nothing, BadHeader}
+use Rattle.cx_replay.specs.ReplayInput.{ReplayInput, Nothing, BadHeader}
 use Rattle.cx_script.proofs.Generated.{generated_is_good}
 use Rattle.cx_script.proofs.Takes.{schedule_is_good}
 use Rattle.cx_script.specs.Generator.{gen_cluster, next_event}
-use Rattle.cx_script.specs.Header.{header_of}
+use Rattle.cx_script.specs.Header.{header_and_rest}
 use Rattle.cx_script.specs.Input.{begun_input, of_header, whole_input}
 use Rattle.cx_script.specs.Lines.{schedule_of}
-use Rattle.cx_script.specs.Unended.{counted, is_long_header}
+use Rattle.cx_script.specs.Unended.{settled_text, is_long_header}
 
 -- events that begin others are taken where all are
 begins_taken : (so_far es : List Event) → Begins so_far es → list_all is_valid_event es ≡ true → list_all is_valid_event so_far ≡ true
@@ -38,7 +38,7 @@ lawful_behind (Ok c) rest = lawful_along c (schedule_of c rest).events (schedule
 lawful_behind (Err fault) rest = tt
 
 -- what a header and the bytes after it say, where there is a header
-lawful_header : (parts : Option (List ℕ × List ℕ)) (without : Heard) → IsLawfulRun without → IsLawfulRun (of_header header_says parts without)
+lawful_header : (parts : Option (List ℕ × List ℕ)) (without : ReplayInput) → IsLawfulRun without → IsLawfulRun (of_header header_says parts without)
 lawful_header None without h = h
 lawful_header (Some parts) without h = lawful_behind (header_cluster parts.0) parts.1
 
@@ -46,11 +46,11 @@ bad_or_nothing : (long : Bool) → IsLawfulRun (if long then BadHeader else Noth
 bad_or_nothing true = tt
 bad_or_nothing false = tt
 
-lawful_heard : (ended : Bool) (bytes : List ℕ) → IsLawfulRun (heard_of ended bytes)
+lawful_heard : (ended : Bool) (bytes : List ℕ) → IsLawfulRun (input_says ended bytes)
 unfolding whole_input begun_input
-lawful_heard true bytes = lawful_header (header_of bytes) BadHeader tt
+lawful_heard true bytes = lawful_header (header_and_rest bytes) BadHeader tt
 lawful_heard false bytes =
-    lawful_header (header_of (counted 1024 bytes)) (if is_long_header (counted 16384 bytes) then BadHeader else Nothing) (bad_or_nothing (is_long_header (counted 16384 bytes)))
+    lawful_header (header_and_rest (settled_text 1024 bytes)) (if is_long_header (settled_text 16384 bytes) then BadHeader else Nothing) (bad_or_nothing (is_long_header (settled_text 16384 bytes)))
 
 pub lawful_input : (left left_after : Option (List ℕ)) → IsLawfulInput left left_after
 lawful_input left left_after bytes given ended = lawful_heard ended bytes

@@ -7,7 +7,7 @@ use Rattle.std.proofs.KnownBytes.{Consumes-trans}
 use Rattle.std.proofs.lemmas.Bool.Decides.{nat_tests}
 use Rattle.cx_edge.specs.Lines.{Hands}
 use Rattle.cx_script.specs.Lines.{lines_of}
-use Rattle.cx_script.specs.Unended.{last_part, but_last, lines_text, unended, whole_lines, counted}
+use Rattle.cx_script.specs.Unended.{last_part, but_last, lines_text, unended, whole_lines, settled_text}
 use Rattle.cx_script.proofs.Cuts.{split_free}
 use Rattle.cx_script.proofs.Feeds.{IsFree, AreFree, split_feed, lines_of_text}
 use Rattle.cx_script.proofs.GoesOn.{overlong}
@@ -40,8 +40,8 @@ pub whole_text : (ls : List (List ℕ)) → AreFree ls → whole_lines (lines_te
 whole_text ls free = ap whole_lines (sym (append-nil (lines_text ls))) ∙ whole_is ls [] free refl
 
 -- what counts of them
-pub counted_text : (most : ℕ) (ls : List (List ℕ)) (last : List ℕ) → AreFree ls → IsFree last → counted most (lines_text ls ++ last) ≡ lines_text ls ++ overlong most last
-unfolding counted
+pub counted_text : (most : ℕ) (ls : List (List ℕ)) (last : List ℕ) → AreFree ls → IsFree last → settled_text most (lines_text ls ++ last) ≡ lines_text ls ++ overlong most last
+unfolding settled_text
 counted_text most ls last free last_free =
     let bytes = lines_text ls ++ last in
     ap (λ l. if nat_lt most (length (strip_carriage_return l)) then bytes else whole_lines bytes) (unended_is ls last free last_free)
@@ -56,7 +56,7 @@ not_overlong most last short =
     let test : nat_lt most (length (strip_carriage_return last)) ≡ false = grind (arith, nat_tests) in
     ap (λ (b : Bool). if b then last else []) test
 
-pub counted_open : (most : ℕ) (ls : List (List ℕ)) (last : List ℕ) → AreFree ls → IsFree last → length (strip_carriage_return last) ≤ most → counted most (lines_text ls ++ last) ≡ lines_text ls
+pub counted_open : (most : ℕ) (ls : List (List ℕ)) (last : List ℕ) → AreFree ls → IsFree last → length (strip_carriage_return last) ≤ most → settled_text most (lines_text ls ++ last) ≡ lines_text ls
 counted_open most ls last free last_free short =
     counted_text most ls last free last_free ∙ ap (λ l. lines_text ls ++ l) (not_overlong most last short) ∙ append-nil (lines_text ls)
 
@@ -73,15 +73,15 @@ free_push (l ∷ ls) part free part_free = (free.0, free_push ls part free.1 par
 pub line_first : (part rest : List ℕ) → IsFree part → lines_of ((part ++ 10 ∷ []) ++ rest) ≡ strip_carriage_return part ∷ lines_of rest
 line_first part rest free = lines_of_text (part ∷ []) rest (free, tt)
 
--- what was handed out, and what is held after it, are the bytes that were read
-pub hands_on : (left now next : Option (List ℕ)) (bytes held held_next out : List ℕ) → Consumes left now (bytes ++ held) → Hands now next held held_next out → Consumes left next ((bytes ++ out) ++ held_next)
-hands_on left now next bytes held held_next out consumed h =
-    subst (Consumes left next) (append_assoc bytes held h.read ∙ ap (λ l. bytes ++ l) h.whole ∙ sym (append_assoc bytes out held_next))
-    (Consumes-trans left now next (bytes ++ held) h.read consumed h.consumed)
+-- what was handed out, and what is buffered after it, are the bytes that were read
+pub hands_on : (left now next : Option (List ℕ)) (bytes buffered buffered_next out : List ℕ) → Consumes left now (bytes ++ buffered) → Hands now next buffered buffered_next out → Consumes left next ((bytes ++ out) ++ buffered_next)
+hands_on left now next bytes buffered buffered_next out consumed h =
+    subst (Consumes left next) (append_assoc bytes buffered h.read ∙ ap (λ l. bytes ++ l) h.whole ∙ sym (append_assoc bytes out buffered_next))
+    (Consumes-trans left now next (bytes ++ buffered) h.read consumed h.consumed)
 
-pub hands_held : (left now next : Option (List ℕ)) (bytes held held_next : List ℕ) → Consumes left now (bytes ++ held) → Hands now next held held_next [] → Consumes left next (bytes ++ held_next)
-hands_held left now next bytes held held_next consumed h =
-    subst (λ l. Consumes left next (l ++ held_next)) (append-nil bytes) (hands_on left now next bytes held held_next [] consumed h)
+pub hands_held : (left now next : Option (List ℕ)) (bytes buffered buffered_next : List ℕ) → Consumes left now (bytes ++ buffered) → Hands now next buffered buffered_next [] → Consumes left next (bytes ++ buffered_next)
+hands_held left now next bytes buffered buffered_next consumed h =
+    subst (λ l. Consumes left next (l ++ buffered_next)) (append-nil bytes) (hands_on left now next bytes buffered buffered_next [] consumed h)
 
 -- what holds of the bytes that were read, whatever comes after them, holds of all
 pub of_all : (left left_after : Option (List ℕ)) (bytes : List ℕ) (P : List ℕ → Type 0) → Consumes left left_after bytes → ((more : List ℕ) → P (bytes ++ more)) → IfSome left P

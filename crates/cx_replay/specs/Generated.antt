@@ -9,18 +9,18 @@ use Rattle.cx_base.specs.Lists.{below}
 use Rattle.cx_edge.specs.Sink.{AppendsPart}
 use Rattle.cx_model.specs.Chosen.{chosen_prefix}
 use Rattle.cx_model.specs.World.{World, run}
-use Rattle.cx_script.specs.Generator.{State, gen_cluster, next_event, next_state}
+use Rattle.cx_script.specs.Generator.{GeneratorState, gen_cluster, next_event, next_state}
 use Rattle.cx_trace.specs.Summary.{replicas_text}
 use Rattle.cx_history.specs.Answers.{answers_in, read_answers_in}
 use Rattle.cx_world.specs.Folded.{folded_of}
 
 -- the generator of a seed after this many events
-abbrev pub gen_state : ℕ → ℕ → State
+abbrev pub gen_state : ℕ → ℕ → GeneratorState
 gen_state seed zero = record { x = seed; made = 0 }
 gen_state seed (suc made) = next_state (gen_state seed made)
 
 -- these events and the next: it is made from its draws, and from how many datagrams the run of these events sent
-abbrev pub with_next : State → List Event → List Event
+abbrev pub with_next : GeneratorState → List Event → List Event
 with_next g es = es ++ next_event g (length (run gen_cluster es).sent) ∷ []
 
 -- this many events of a seed

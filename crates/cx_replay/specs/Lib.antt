@@ -1,7 +1,7 @@
 pub mod Generated
-pub mod Heard
 pub mod Input
-pub mod Replay
-pub mod Sending
 pub mod Lawful
+pub mod Replay
+pub mod ReplayInput
+pub mod Sending
 pub mod Streamed

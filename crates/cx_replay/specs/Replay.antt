@@ -10,7 +10,7 @@ use Rattle.cx_edge.specs.Sink.{AppendsPart}
 use Rattle.cx_model.specs.Chosen.{chosen_prefix}
 use Rattle.cx_model.specs.World.{World, change, step, run, start}
 use Rattle.cx_replay.specs.Input.{bad_line, input_of, lines}
-use Rattle.cx_replay.specs.Heard.{Heard, Nothing, BadHeader, Lines}
+use Rattle.cx_replay.specs.ReplayInput.{ReplayInput, Nothing, BadHeader, Lines}
 use Rattle.cx_trace.specs.Trace.{event_text, datagrams_text}
 use Rattle.cx_trace.specs.Summary.{summary_text}
 use Rattle.cx_world.specs.Folded.{folded_of}
@@ -35,23 +35,23 @@ ending true w = summary w
 ending false w = []
 
 -- the text of the events before the first bad line
-abbrev pub trace_of : Heard → List ℕ
+abbrev pub trace_of : ReplayInput → List ℕ
 trace_of Nothing = []
 trace_of BadHeader = []
 trace_of (Lines c spelled) = trace (start c) spelled.events
 
 -- after it the summary, where no line is bad
-abbrev pub summary_of : Heard → List ℕ
+abbrev pub summary_of : ReplayInput → List ℕ
 summary_of Nothing = []
 summary_of BadHeader = []
 summary_of (Lines c spelled) = ending (is_none spelled.bad) (run c spelled.events)
 
 -- the whole text of an input
-abbrev pub text_of : Heard → List ℕ
+abbrev pub text_of : ReplayInput → List ℕ
 text_of heard = trace_of heard ++ summary_of heard
 
 -- no line is bad, and the whole text was written
-abbrev pub Prints : Heard → Option (List ℕ) → Option (List ℕ) → Type 0
+abbrev pub Prints : ReplayInput → Option (List ℕ) → Option (List ℕ) → Type 0
 Prints heard old new = (bad_line heard ≡ None) × Appends old new (text_of heard)
 
 -- a source has given bytes with this as their first bad line, whatever comes after them
@@ -100,11 +100,11 @@ ComesOfReplay (status.NotFresh role) = ⊥
 ComesOfReplay status.RecordFull = ⊥
 
 -- how a replay ends where nothing fails: in the first bad line, if there is one
-abbrev pub answer_of : Option ℕ → Status
-answer_of None = status.Done
-answer_of (Some line) = status.BadInput line
+abbrev pub replay_status : Option ℕ → Status
+replay_status None = status.Done
+replay_status (Some line) = status.BadInput line
 
 -- Without a fault of source or sink a replay ends as its input says, or memory ran out.
-abbrev pub Completes : Option (List ℕ) → ℕ → ℕ → ℕ → ℕ → Status → Type 0
-Completes left reads reads_after writes writes_after s =
-    IfSome left (λ all. (Rises reads reads_after → ⊥) → (Rises writes writes_after → ⊥) → (s ≡ answer_of (bad_line (input_of all))) ⊎ (s ≡ status.NoMemory))
+abbrev pub ReplayCompletes : Option (List ℕ) → ℕ → ℕ → ℕ → ℕ → Status → Type 0
+ReplayCompletes left reads reads_after writes writes_after s =
+    IfSome left (λ all. (Rises reads reads_after → ⊥) → (Rises writes writes_after → ⊥) → (s ≡ replay_status (bad_line (input_of all))) ⊎ (s ≡ status.NoMemory))

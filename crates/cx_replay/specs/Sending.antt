@@ -4,6 +4,6 @@ use Rattle.cx_msg.specs.Letter.{Letter}
 use Rattle.cx_trace.specs.Trace.{datagram_text}
 
 -- the line of the datagram of a number, and nothing where it wasn't sent
-abbrev pub line_text : ℕ → Option Letter → List ℕ
-line_text n None = []
-line_text n (Some d) = datagram_text n d
+abbrev pub sent_line_text : ℕ → Option Letter → List ℕ
+sent_line_text n None = []
+sent_line_text n (Some d) = datagram_text n d

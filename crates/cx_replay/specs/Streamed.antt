@@ -9,7 +9,7 @@ use Rattle.cx_base.specs.Faults.{Rises}
 use Rattle.cx_cluster.specs.declared.fault.ClusterFault.{ClusterFault}
 use Rattle.cx_edge.specs.Sink.{AppendsPart}
 use Rattle.cx_model.specs.World.{World, run, run_from, start}
-use Rattle.cx_replay.specs.Heard.{Nothing, Lines}
+use Rattle.cx_replay.specs.ReplayInput.{Nothing, Lines}
 use Rattle.cx_replay.specs.Input.{input_of, lines}
 use Rattle.cx_replay.specs.Replay.{summary, text_of, trace, ComesOfReplay, Replayed}
 use Rattle.cx_replay.specs.declared.header.HeaderEnd.{HeaderEnd}
@@ -18,7 +18,7 @@ use Rattle.cx_replay.specs.declared.header.Joined.{Joined}
 use Rattle.cx_replay.specs.declared.header.Joined.TheVariants as joined
 use Rattle.cx_replay.specs.declared.running.LinesEnd.{LinesEnd}
 use Rattle.cx_replay.specs.declared.running.LinesEnd.TheVariants as end
-use Rattle.cx_script.specs.Header.{is_rule, header_of}
+use Rattle.cx_script.specs.Header.{is_rule, header_and_rest}
 use Rattle.cx_script.specs.Lines.{with_line, spelled_from, schedule_of}
 use Rattle.cx_script.specs.Unended.{whole_lines}
 use Rattle.cx_world.specs.World.{WorldState}
@@ -30,38 +30,38 @@ Joins line old new joined.Line = (is_rule line ≡ false) × (new ≡ old ++ (li
 Joins line old new joined.Long = (is_rule line ≡ false) × (16384 < length (old ++ (line ++ 10 ∷ [])))
 Joins line old new joined.NoMemory = Unit {0}
 
--- Whole lines were handed out, and what was read after them is held; they are a header with this text, whatever comes after.
-pub record HasHeader (left now : Option (List ℕ)) (held text : List ℕ) : Type 0 where
+-- Whole lines were handed out, and what was read after them is buffered; they are a header with this text, whatever comes after.
+pub record HasHeader (left now : Option (List ℕ)) (buffered text : List ℕ) : Type 0 where
   pub bytes : List ℕ
   pub whole : whole_lines bytes ≡ bytes
-  pub consumed : Consumes left now (bytes ++ held)
-  pub header : (more : List ℕ) → header_of (bytes ++ more) ≡ Some (text, more)
+  pub consumed : Consumes left now (bytes ++ buffered)
+  pub header : (more : List ℕ) → header_and_rest (bytes ++ more) ≡ Some (text, more)
 
 -- the input was read to its end, and it is a header with this text and nothing after it
 pub record IsHeader (left now : Option (List ℕ)) (text : List ℕ) : Type 0 where
   pub bytes : List ℕ
   pub consumed : Consumes left now bytes
   pub at_end : IsAtEnd now
-  pub header : header_of bytes ≡ Some (text, [])
+  pub header : header_and_rest bytes ≡ Some (text, [])
 
 -- the result of the reading of a header
 abbrev pub ReadsHeader : Option (List ℕ) → Option (List ℕ) → List ℕ → List ℕ → HeaderEnd → Type 0
-ReadsHeader left now held text header.Whole = HasHeader left now held text
-ReadsHeader left now held text header.Alone = IsHeader left now text
-ReadsHeader left now held text header.Bad = IfSome left (λ all. header_of all ≡ None)
-ReadsHeader left now held text header.Failed = (bytes : List ℕ) × Consumes left now bytes × (lines bytes ≡ Nothing)
-ReadsHeader left now held text header.NoMemory = Unit {0}
+ReadsHeader left now buffered text header.Whole = HasHeader left now buffered text
+ReadsHeader left now buffered text header.Alone = IsHeader left now text
+ReadsHeader left now buffered text header.Bad = IfSome left (λ all. header_and_rest all ≡ None)
+ReadsHeader left now buffered text header.Failed = (bytes : List ℕ) × Consumes left now bytes × (lines bytes ≡ Nothing)
+ReadsHeader left now buffered text header.NoMemory = Unit {0}
 
 -- the cluster that a header says, if it says one
-abbrev pub Says : Option Cluster → Result Cluster ClusterFault → Type 0
-Says (Some c) said = said ≡ Ok c
-Says None said = (fault : ClusterFault) × (said ≡ Err fault)
+abbrev pub HeaderSays : Option Cluster → Result Cluster ClusterFault → Type 0
+HeaderSays (Some c) said = said ≡ Ok c
+HeaderSays None said = (fault : ClusterFault) × (said ≡ Err fault)
 
--- Whole lines were handed out, and what was read after them is held; whatever comes after them is the schedule of this cluster.
-pub record StandsBehind (left now : Option (List ℕ)) (held : List ℕ) (c : Cluster) : Type 0 where
+-- Whole lines were handed out, and what was read after them is buffered; whatever comes after them is the schedule of this cluster.
+pub record StandsBehind (left now : Option (List ℕ)) (buffered : List ℕ) (c : Cluster) : Type 0 where
   pub bytes : List ℕ
   pub whole : whole_lines bytes ≡ bytes
-  pub consumed : Consumes left now (bytes ++ held)
+  pub consumed : Consumes left now (bytes ++ buffered)
   pub input : (more : List ℕ) → input_of (bytes ++ more) ≡ Lines c (schedule_of c more)
 
 -- the n-th line is an event or none, whatever lines come after it
@@ -116,7 +116,7 @@ pub record AtEnd (c : Cluster) (left now : Option (List ℕ)) (w : World) (old o
   pub written : Appends old out (trace (start c) es)
 
 -- what holds once the text that is left was written too; and where a part of it was, a part of the whole text was
-pub record Leaves (left old out : Option (List ℕ)) (text : List ℕ) (Holds : Option (List ℕ) → Type 0) : Type 0 where
+pub record WritesRest (left old out : Option (List ℕ)) (text : List ℕ) (Holds : Option (List ℕ) → Type 0) : Type 0 where
   pub whole : (last : Option (List ℕ)) → Appends out last text → Holds last
   pub part : (last : Option (List ℕ)) → AppendsPart out last text
       → IfSome left (λ all. AppendsPart old last (text_of (input_of all)))
@@ -125,10 +125,10 @@ pub record Leaves (left old out : Option (List ℕ)) (text : List ℕ) (Holds : 
 abbrev pub RunsLines : Cluster → Option (List ℕ) → Option (List ℕ) → ℕ → ℕ → Option (List ℕ) → Option (List ℕ) → List ℕ
     → ℕ → ℕ → World → LinesEnd → Type 0
 RunsLines c left now reads reads_after old out text writes writes_after w end.Whole =
-    (reads_after ≡ reads) × (writes_after ≡ writes) × Leaves left old out text (λ last. AtEnd c left now w old last)
+    (reads_after ≡ reads) × (writes_after ≡ writes) × WritesRest left old out text (λ last. AtEnd c left now w old last)
 RunsLines c left now reads reads_after old out text writes writes_after w (end.Stopped s) =
     (writes_after ≡ writes)
-    × Leaves left old out text (λ last. Replayed left now reads reads_after old last writes writes_after s)
+    × WritesRest left old out text (λ last. Replayed left now reads reads_after old last writes writes_after s)
 RunsLines c left now reads reads_after old out text writes writes_after w end.WriteFault =
     Rises writes writes_after × IfSome left (λ all. AppendsPart old out (text_of (input_of all)))
 

@@ -6,7 +6,7 @@ ghost use Rattle.cx_replay.specs.Generated.{ComesOfGen, GenCompletes, Generated,
 ghost use Rattle.cx_replay.specs.Lawful.{IsLawfulGenerated};
 ghost use Rattle.cx_script.specs.Generator.{gen_cluster};
 
-use crate::short::short_into;
+use crate::short::short_summary_into;
 use cx_base::{NoMemory, Status};
 use cx_edge::{Sink, write_all};
 use cx_script::{Gen, gen_cluster, generated_events_are_taken};
@@ -33,7 +33,7 @@ fn gen_into(alloc: Global, seed: u64, count: u64, text: &mut Vec<u8>) -> Result<
     ensures { OnOk result (text.new.items ≡ text.old.items ++ gen_text seed count) }
 {
     let world = run_events(alloc, seed, count)?;
-    short_into(alloc, &world, text)
+    short_summary_into(alloc, &world, text)
 }
 
 /// Runs this many generated events of a seed over the generator's cluster, and writes the short summary of the run.

@@ -65,9 +65,9 @@ fn join(text: &mut Vec<u8>, line: &[u8]) -> Joined
 
 /// Reads the lines of a header up to the one that ends it, and puts each of them with a line feed after the others.
 pub fn read_header<S: Source>(lines: &mut Lines, input: &mut S, text: &mut Vec<u8>) -> HeaderEnd
-    requires none_held { lines.old.held ≡ [] }
+    requires none_buffered { lines.old.buffered ≡ [] }
     requires no_text { text.old.items ≡ [] }
-    ensures reads { ReadsHeader (S.left input.old) (S.left input.new) lines.new.held text.new.items result }
+    ensures reads { ReadsHeader (S.left input.old) (S.left input.new) lines.new.buffered text.new.items result }
     ensures cause { result ≡ end.Failed → Rises (S.faults input.old) (S.faults input.new) }
     ensures still { (result ≡ end.Failed → ⊥) → S.faults input.new ≡ S.faults input.old }
 {

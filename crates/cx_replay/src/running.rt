@@ -61,7 +61,7 @@ fn run_line(
 // sees what each of them prints before the next.
 fn write_printed<W: Sink>(lines: &Lines, text: &mut Vec<u8>, out: &mut W) -> bool
     ensures front { WritesFront text.old.items text.new.items (W.taken out.old) (W.taken out.new) result }
-    ensures none_left { result ≡ true → list_any (λ b. b == 10) lines.now.held ≡ false → text.new.items ≡ [] }
+    ensures none_left { result ≡ true → list_any (λ b. b == 10) lines.now.buffered ≡ false → text.new.items ≡ [] }
     ensures cause { result ≡ false → Rises (W.faults out.old) (W.faults out.new) }
     ensures still { result ≡ true → W.faults out.new ≡ W.faults out.old }
 {
@@ -109,7 +109,7 @@ fn run_each<S: Source, W: Sink>(
     requires fresh { world.old ≡ record { world = start cluster.now; spent = false } }
     requires none { text.old.items ≡ [] }
     ensures comes { ComesOfLines result }
-    ensures runs { (left : Option (List ℕ)) → StandsBehind left (S.left input.old) lines.old.held cluster.now
+    ensures runs { (left : Option (List ℕ)) → StandsBehind left (S.left input.old) lines.old.buffered cluster.now
         → RunsLines cluster.now left (S.left input.new) (S.faults input.old) (S.faults input.new) (W.taken out.old)
         (W.taken out.new) text.new.items (W.faults out.old) (W.faults out.new) world.new.world result }
 {
@@ -151,7 +151,7 @@ fn run_world<S: Source, W: Sink>(
 ) -> Status
     requires fresh { world.old ≡ record { world = start cluster.now; spent = false } }
     ensures comes { ComesOfReplay result }
-    ensures replayed { (left : Option (List ℕ)) → StandsBehind left (S.left input.old) lines.old.held cluster.now
+    ensures replayed { (left : Option (List ℕ)) → StandsBehind left (S.left input.old) lines.old.buffered cluster.now
         → Replayed left (S.left input.new) (S.faults input.old) (S.faults input.new)
         (W.taken out.old) (W.taken out.new) (W.faults out.old) (W.faults out.new) result }
 {
@@ -182,7 +182,7 @@ pub fn run_lines<S: Source, W: Sink>(
     out: &mut W,
 ) -> Status
     ensures comes { ComesOfReplay result }
-    ensures replayed { (left : Option (List ℕ)) → StandsBehind left (S.left input.old) lines.old.held cluster
+    ensures replayed { (left : Option (List ℕ)) → StandsBehind left (S.left input.old) lines.old.buffered cluster
         → Replayed left (S.left input.new) (S.faults input.old) (S.faults input.new)
         (W.taken out.old) (W.taken out.new) (W.faults out.old) (W.faults out.new) result }
 {

@@ -1,7 +1,7 @@
 //! The lines of the datagrams that were sent.
 
 ghost use Rattle.std.specs.Prelude.{◌≡◌, ◌++◌, OnErr, OnOk, drop, length, slice_get, take};
-ghost use Rattle.cx_replay.specs.Sending.{line_text};
+ghost use Rattle.cx_replay.specs.Sending.{sent_line_text};
 ghost use Rattle.cx_trace.specs.Trace.{datagrams_text};
 
 use cx_base::NoMemory;
@@ -12,7 +12,7 @@ use std::alloc::Global;
 
 // Appends the line of the datagram of a number, and nothing where it wasn't sent.
 fn line_into(alloc: Global, sent: &Sent, number: u64, text: &mut Vec<u8>) -> Result<(), NoMemory>
-    ensures ok { OnOk result (text.new.items ≡ text.old.items ++ line_text number (slice_get sent.now number)) }
+    ensures ok { OnOk result (text.new.items ≡ text.old.items ++ sent_line_text number (slice_get sent.now number)) }
     ensures err { OnErr result (text.new.items ≡ text.old.items) }
 {
     match sent.spelled(number)? {

@@ -58,7 +58,7 @@ fn put_replicas(text: &mut Vec<u8>, replicas: &[Folded]) -> Result<(), NoMemory>
 
 /// Puts the short summary at the end of a text: how much happened, how many values are chosen, and what each replica holds.
 #[tactic(auto, unfolding(crate::specs::Generated::short_summary))]
-pub fn short_into(alloc: Global, world: &World, text: &mut Vec<u8>) -> Result<(), NoMemory>
+pub fn short_summary_into(alloc: Global, world: &World, text: &mut Vec<u8>) -> Result<(), NoMemory>
     ensures { OnOk result (text.new.items ≡ text.old.items ++ short_summary world.now.world) }
 {
     let chosen = world.chosen_prefix()?;

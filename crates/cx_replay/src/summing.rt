@@ -12,7 +12,7 @@ ghost use Rattle.cx_world.specs.Folded.{folded_of};
 use cx_base::{NoMemory, Status};
 use cx_choice::Chosen;
 use cx_edge::{Sink, write_all};
-use cx_kv::Executed;
+use cx_kv::ExecutedCommands;
 use cx_trace::{chosen_into, replica_into, slot_into};
 use cx_world::World;
 use std::alloc::Global;
@@ -38,7 +38,7 @@ fn write_put<W: Sink>(put: Result<(), NoMemory>, text: &[u8], out: &mut W) -> Re
 fn slot_lines(
     chosen: &Chosen<'_>,
     slot: u64,
-    before: &mut Executed,
+    before: &mut ExecutedCommands,
     text: &mut Vec<u8>,
 ) -> Result<(), NoMemory>
     ensures text { (value : Value) → slice_get chosen.now slot ≡ Some value
@@ -63,7 +63,7 @@ fn write_slots<W: Sink>(
     ensures { WritesText (slots_text 0 [] chosen.now) (W.taken out.old) (W.taken out.new)
         (W.faults out.old) (W.faults out.new) result }
 {
-    let mut before = Executed::new(alloc);
+    let mut before = ExecutedCommands::new(alloc);
     for slot in 0..chosen.len() {
         let put = slot_lines(chosen, slot, &mut before, text);
         if let Err(status) = write_put(put, text, out) {

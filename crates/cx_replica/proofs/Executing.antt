@@ -14,7 +14,7 @@ use Rattle.cx_base.specs.declared.command.Pair.{Pair}
 use Rattle.cx_base.specs.declared.command.Reply.{Reply}
 use Rattle.cx_base.specs.declared.command.Reply.TheVariants.{Len, Full}
 use Rattle.cx_base.specs.Fold.{reply_of, reply_removed, reply_appended, text_at}
-use Rattle.cx_base.specs.Noted.{Table, floor_of, is_done, is_settled, noted_for, with_answer, with_note, with_told}
+use Rattle.cx_base.specs.Noted.{Table, floor_of, is_done, is_answer_done, noted_for, with_answer, with_note, with_told}
 use Rattle.cx_wire.specs.Format.{u8, u16, u64}
 use Rattle.cx_field.specs.Fields.{at, slot, seq, name, command, command_with, floor_below, told_floor, told_op, reply}
 use Rattle.cx_field.specs.Fields.{answered}
@@ -108,7 +108,7 @@ last_tells n m c at' r e = (let was = noted m.table c.client c.seq at' r e in rw
 pub told_fit : (client floor : ℕ) (t u : Table) → u ≡ with_told client floor t → are_answers t.notes ≡ true
     → are_answers u.notes ≡ true
 told_fit client floor t u is fit =
-    rw is (all_left (λ (x : Answered). answered.fits x) (λ (a : Answered). not (is_settled client floor a)) t.notes fit)
+    rw is (all_left (λ (x : Answered). answered.fits x) (λ (a : Answered). not (is_answer_done client floor a)) t.notes fit)
 
 pub noted_fit : (a : Answered) (floor : ℕ) (t u : Table) → u ≡ with_answer a floor t → answered.fits a ≡ true
     → are_answers t.notes ≡ true → are_answers u.notes ≡ true

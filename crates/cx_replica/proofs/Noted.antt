@@ -15,16 +15,16 @@ use Rattle.std.proofs.lemmas.List.Folds.{list_all-append}
 use Rattle.cx_replica.proofs.Rises.{rises_below}
 use Rattle.cx_base.specs.declared.command.Value.TheVariants.{Noop, Batch}
 use Rattle.cx_base.specs.Asked.{floor_fits}
-use Rattle.cx_base.specs.Noted.{Table, are_rising, comes_before, floor_of, is_answer_of, is_done, is_settled, noted_for, still_noted, with_floor, with_note, with_told}
+use Rattle.cx_base.specs.Noted.{Table, are_rising, comes_before, floor_of, is_answer_of, is_done, is_answer_done, noted_for, still_noted, with_floor, with_note, with_told}
 use Rattle.cx_model.specs.Names.{names_command, names_value}
 use Rattle.cx_model.specs.Ordered.{answer_ordered, told_ordered}
-use Rattle.cx_model.specs.Renewed.{IsOrdered, fits_told, is_above, is_near, is_over}
-use Rattle.cx_model.specs.Replica.{Machine, answer_of, are_notes_above, with_client, execute, execute_all, execute_noted, execute_value, machine_from}
+use Rattle.cx_model.specs.Renewed.{IsOrdered, fits_told, is_above_client_floor, is_near, is_over}
+use Rattle.cx_model.specs.Replica.{Machine, answer_of, are_client_notes, with_client, execute, execute_all, execute_noted, execute_value, machine_from}
 use Rattle.cx_field.specs.Fields.{command, value}
-use Rattle.cx_table.specs.Entries.{raised}
+use Rattle.cx_table.specs.Entries.{max_floor}
 use Rattle.cx_table.proofs.Rising.{all_with}
 use Rattle.cx_table.proofs.Telling.{floor_told}
-use Rattle.cx_replica.specs.Sound.{IsNoted, are_commands, is_own, are_own}
+use Rattle.cx_replica.specs.Sound.{IsTableOfCluster, are_commands, is_cluster_value, are_own}
 use Rattle.cx_field.proofs.RangeLaws.{command_apart}
 use Rattle.cx_replica.proofs.Values.{commands_in}
 
@@ -50,18 +50,18 @@ has_over client floor notes = list_any (λ (a : Answered). a.client == client &&
 -- whether an answer is near its client's floor once that client has told one
 abbrev may_be_near : ℕ → ℕ → List Floor → Answered → Bool
 may_be_near client floor floors a =
-    if client == a.client then not (is_done a.seq (floor_of a.client floors)) && nat_le a.seq (raised (floor_of a.client floors) floor + 64)
+    if client == a.client then not (is_done a.seq (floor_of a.client floors)) && nat_le a.seq (max_floor (floor_of a.client floors) floor + 64)
     else is_near floors a
 
 stood_near : (client floor : ℕ) (floors : List Floor) (a : Answered) → is_near floors a ≡ true → may_be_near client floor floors a ≡ true
 stood_near client floor floors a h = go (cases_Bool (client == a.client)) (floor_of a.client floors) h
   where
-    own : (o : Option ℕ) → fits_told a.seq o ≡ true → (not (is_done a.seq o) && nat_le a.seq (raised o floor + 64)) ≡ true
+    own : (o : Option ℕ) → fits_told a.seq o ≡ true → (not (is_done a.seq o) && nat_le a.seq (max_floor o floor + 64)) ≡ true
     own None h = cc
     own (Some f) h = grind (arith, nat_tests, h)
 
     go : ((client == a.client) ≡ true) ⊎ ((client == a.client) ≡ false) → (o : Option ℕ) → fits_told a.seq o ≡ true
-        → (if client == a.client then not (is_done a.seq o) && nat_le a.seq (raised o floor + 64) else fits_told a.seq o) ≡ true
+        → (if client == a.client then not (is_done a.seq o) && nat_le a.seq (max_floor o floor + 64) else fits_told a.seq o) ≡ true
     go (inl t) o h = rw t (own o h)
     go (inr t) o h = rw t h
 
@@ -84,23 +84,23 @@ near_told client floor floors (a ∷ notes) rising all =
     let parts = and_parts (may_be_near client floor floors a) (list_all (may_be_near client floor floors) notes) all in
     go (cases_Bool (client == a.client)) (cases_Bool (nat_le a.seq floor)) (floor_told client floor 0 floors rising a.client) parts.0 (near_told client floor floors notes rising parts.1)
   where
-    closer : (o : Option ℕ) → (not (is_done a.seq o) && nat_le a.seq (raised o floor + 64)) ≡ true → nat_le a.seq floor ≡ false
-        → fits_told a.seq (Some (raised o floor)) ≡ true
+    closer : (o : Option ℕ) → (not (is_done a.seq o) && nat_le a.seq (max_floor o floor + 64)) ≡ true → nat_le a.seq floor ≡ false
+        → fits_told a.seq (Some (max_floor o floor)) ≡ true
     closer None near v = grind (arith, nat_tests, near, v)
     closer (Some f) near v = grind (arith, nat_tests, near, v)
 
     go : ((client == a.client) ≡ true) ⊎ ((client == a.client) ≡ false)
         → (nat_le a.seq floor ≡ true) ⊎ (nat_le a.seq floor ≡ false)
         → floor_of a.client (with_floor client floor floors)
-        ≡ (if client == a.client then Some (raised (floor_of a.client floors) floor) else floor_of a.client floors)
+        ≡ (if client == a.client then Some (max_floor (floor_of a.client floors) floor) else floor_of a.client floors)
         → may_be_near client floor floors a ≡ true
         → list_all (λ (x : Answered). is_near (with_floor client floor floors) x) (still_noted client floor notes) ≡ true
         → list_all (λ (x : Answered). is_near (with_floor client floor floors) x) (still_noted client floor (a ∷ notes)) ≡ true
     go (inl t) (inl v) is one rest = (let same : (a.client == client) ≡ true = turned a.client client ∙ t in rw (same, v) rest)
     go (inl t) (inr v) is one rest =
         let same : (a.client == client) ≡ true = turned a.client client ∙ t in
-        let floor_is : floor_of a.client (with_floor client floor floors) ≡ Some (raised (floor_of a.client floors) floor) = rw t at is in
-        let near : (not (is_done a.seq (floor_of a.client floors)) && nat_le a.seq (raised (floor_of a.client floors) floor + 64)) ≡ true = rw t at one in
+        let floor_is : floor_of a.client (with_floor client floor floors) ≡ Some (max_floor (floor_of a.client floors) floor) = rw t at is in
+        let near : (not (is_done a.seq (floor_of a.client floors)) && nat_le a.seq (max_floor (floor_of a.client floors) floor + 64)) ≡ true = rw t at one in
         rw (same, v) (and_from (is_near (with_floor client floor floors) a) _ (rw floor_is (closer (floor_of a.client floors) near v)) rest)
     go (inr t) v is one rest =
         let other : (a.client == client) ≡ false = turned a.client client ∙ t in
@@ -148,9 +148,9 @@ each_other q r (f ∷ floors) into all =
 -- a client keeps an answer that is above the floor it tells; others keep theirs
 own_left : (client floor : ℕ) (notes : List Answered) → has_over client floor notes ≡ true → has client (still_noted client floor notes) ≡ true
 own_left client floor [] h = cc
-own_left client floor (a ∷ notes) h = go (cases_Bool (is_settled client floor a)) (either (a.client == client && nat_lt floor a.seq) (has_over client floor notes) h) (own_left client floor notes)
+own_left client floor (a ∷ notes) h = go (cases_Bool (is_answer_done client floor a)) (either (a.client == client && nat_lt floor a.seq) (has_over client floor notes) h) (own_left client floor notes)
   where
-    go : (is_settled client floor a ≡ true) ⊎ (is_settled client floor a ≡ false)
+    go : (is_answer_done client floor a ≡ true) ⊎ (is_answer_done client floor a ≡ false)
         → ((a.client == client && nat_lt floor a.seq) ≡ true) ⊎ (has_over client floor notes ≡ true)
         → (has_over client floor notes ≡ true → has client (still_noted client floor notes) ≡ true)
         → has client (still_noted client floor (a ∷ notes)) ≡ true
@@ -161,9 +161,9 @@ own_left client floor (a ∷ notes) h = go (cases_Bool (is_settled client floor 
 
 other_left : (client floor k : ℕ) (notes : List Answered) → (client == k) ≡ false → has k notes ≡ true → has k (still_noted client floor notes) ≡ true
 other_left client floor k [] other h = cc
-other_left client floor k (a ∷ notes) other h = go (cases_Bool (is_settled client floor a)) (either (a.client == k) (has k notes) h) (other_left client floor k notes other)
+other_left client floor k (a ∷ notes) other h = go (cases_Bool (is_answer_done client floor a)) (either (a.client == k) (has k notes) h) (other_left client floor k notes other)
   where
-    go : (is_settled client floor a ≡ true) ⊎ (is_settled client floor a ≡ false)
+    go : (is_answer_done client floor a ≡ true) ⊎ (is_answer_done client floor a ≡ false)
         → ((a.client == k) ≡ true) ⊎ (has k notes ≡ true)
         → (has k notes ≡ true → has k (still_noted client floor notes) ≡ true)
         → has k (still_noted client floor (a ∷ notes)) ≡ true
@@ -194,13 +194,13 @@ some_told client floor floors notes over all =
 
 -- where a client has an answer above a floor
 done_over : (client floor least : ℕ) (floors : List Floor) (notes : List Answered) → floor_of client floors ≡ Some least → floor ≤ least
-    → list_all (λ (a : Answered). is_above floors a) notes ≡ true → has client notes ≡ true → has_over client floor notes ≡ true
+    → list_all (λ (a : Answered). is_above_client_floor floors a) notes ≡ true → has client notes ≡ true → has_over client floor notes ≡ true
 done_over client floor least floors [] told low above h = cc
 done_over client floor least floors (a ∷ notes) told low above h =
-    let parts = and_parts (is_above floors a) (list_all (λ (x : Answered). is_above floors x) notes) above in
+    let parts = and_parts (is_above_client_floor floors a) (list_all (λ (x : Answered). is_above_client_floor floors x) notes) above in
     go (cases_Bool (a.client == client)) parts.0 (either (a.client == client) (has client notes) h) (done_over client floor least floors notes told low parts.1)
   where
-    go : ((a.client == client) ≡ true) ⊎ ((a.client == client) ≡ false) → is_above floors a ≡ true
+    go : ((a.client == client) ≡ true) ⊎ ((a.client == client) ≡ false) → is_above_client_floor floors a ≡ true
         → ((a.client == client) ≡ true) ⊎ (has client notes ≡ true) → (has client notes ≡ true → has_over client floor notes ≡ true)
         → has_over client floor (a ∷ notes) ≡ true
     go (inl s) one more rest =
@@ -248,20 +248,20 @@ still_has a k (b ∷ notes) h = go (cases_Bool (comes_before a b)) (either (b.cl
 
 -- a command of the cluster, of which the floor fits
 module _ (c : Cluster) (client floor : ℕ) (named : nat_lt client c.clients ≡ true) where
-  told_noted : (t : Table) → IsOrdered t → IsNoted c t → has_over client floor t.notes ≡ true → IsNoted c (with_told client floor t)
+  told_noted : (t : Table) → IsOrdered t → IsTableOfCluster c t → has_over client floor t.notes ≡ true → IsTableOfCluster c (with_told client floor t)
   told_noted t ordered noted over = record {
     near = near_told client floor t.floors t.notes ordered.floors_rise (all_stood client floor t.floors t.notes noted.near);
     clients = each_told (λ (k : ℕ). nat_lt k c.clients) client floor t.floors named noted.clients;
     some = some_told client floor t.floors t.notes over noted.some;
   }
 
-  answer_noted : (a : Answered) → a.client ≡ client → (t : Table) → IsOrdered t → IsNoted c t → floor_fits a.seq floor ≡ true
-      → is_done a.seq (floor_of client t.floors) ≡ false → IsNoted c (with_told client floor (record t { notes = with_note a t.notes }))
+  answer_noted : (a : Answered) → a.client ≡ client → (t : Table) → IsOrdered t → IsTableOfCluster c t → floor_fits a.seq floor ≡ true
+      → is_done a.seq (floor_of client t.floors) ≡ false → IsTableOfCluster c (with_told client floor (record t { notes = with_note a t.notes }))
   answer_noted a own t ordered noted fit free =
       let parts = and_parts (nat_lt floor a.seq) (nat_le a.seq (floor + 64)) fit in
       let same : (client == a.client) ≡ true = grind (arith, nat_tests, own) in
       let undone : is_done a.seq (floor_of a.client t.floors) ≡ false = subst (λ (k : ℕ). is_done a.seq (floor_of k t.floors) ≡ false) (sym own) free in
-      let close : nat_le a.seq (raised (floor_of a.client t.floors) floor + 64) ≡ true = closer (floor_of a.client t.floors) parts.1 in
+      let close : nat_le a.seq (max_floor (floor_of a.client t.floors) floor + 64) ≡ true = closer (floor_of a.client t.floors) parts.1 in
       let one : may_be_near client floor t.floors a ≡ true = rw (same, undone, close) refl in
       let over : has_over client floor (with_note a t.notes) ≡ true = subst (λ (k : ℕ). has_over k floor (with_note a t.notes) ≡ true) own (new_over a floor t.notes parts.0) in
       record {
@@ -272,18 +272,18 @@ module _ (c : Cluster) (client floor : ℕ) (named : nat_lt client c.clients ≡
             (each_other (λ (k : ℕ). has k t.notes) (λ (k : ℕ). has k (with_note a t.notes)) t.floors (λ k h. still_has a k t.notes h) noted.some);
       }
     where
-      closer : (o : Option ℕ) → nat_le a.seq (floor + 64) ≡ true → nat_le a.seq (raised o floor + 64) ≡ true
+      closer : (o : Option ℕ) → nat_le a.seq (floor + 64) ≡ true → nat_le a.seq (max_floor o floor + 64) ≡ true
       closer None h = h
       closer (Some f) h = grind (arith, nat_tests, h)
 
 -- what is so of a machine's table once a command is executed
 module _ (c : Cluster) (n : ℕ) (m : Machine) (k : Command) (named : nat_lt k.client c.clients ≡ true) (fit : floor_fits k.seq k.floor ≡ true)
-    (ordered : IsOrdered m.table) (noted : IsNoted c m.table) where
+    (ordered : IsOrdered m.table) (noted : IsTableOfCluster c m.table) where
   low : nat_lt k.floor k.seq ≡ true
   low = (and_parts (nat_lt k.floor k.seq) (nat_le k.seq (k.floor + 64)) fit).0
 
   by_answer : (o : Option Answered) → noted_for k.client k.seq m.table.notes ≡ o → is_done k.seq (floor_of k.client m.table.floors) ≡ false
-      → IsOrdered (execute_noted n m k o).machine.table × IsNoted c (execute_noted n m k o).machine.table
+      → IsOrdered (execute_noted n m k o).machine.table × IsTableOfCluster c (execute_noted n m k o).machine.table
   by_answer None none free = (
     answer_ordered _ k.floor m.table free none ordered,
     answer_noted c k.client k.floor named _ refl m.table ordered noted fit free,
@@ -294,7 +294,7 @@ module _ (c : Cluster) (n : ℕ) (m : Machine) (k : Command) (named : nat_lt k.c
   )
 
   when_done : (o : Option ℕ) → floor_of k.client m.table.floors ≡ o → is_done k.seq o ≡ true
-      → IsOrdered (with_told k.client k.floor m.table) × IsNoted c (with_told k.client k.floor m.table)
+      → IsOrdered (with_told k.client k.floor m.table) × IsTableOfCluster c (with_told k.client k.floor m.table)
   when_done None is done = cc
   when_done (Some least) is done = (
     told_ordered k.client k.floor m.table ordered,
@@ -303,17 +303,17 @@ module _ (c : Cluster) (n : ℕ) (m : Machine) (k : Command) (named : nat_lt k.c
         (told_one (λ (x : ℕ). has x m.table.notes) k.client least m.table.floors is noted.some)),
   )
 
-  one_noted : IsOrdered (execute n m k).machine.table × IsNoted c (execute n m k).machine.table
+  one_noted : IsOrdered (execute n m k).machine.table × IsTableOfCluster c (execute n m k).machine.table
   one_noted = go (cases_Bool (is_done k.seq (floor_of k.client m.table.floors)))
     where
       go : (is_done k.seq (floor_of k.client m.table.floors) ≡ true) ⊎ (is_done k.seq (floor_of k.client m.table.floors) ≡ false)
-          → IsOrdered (execute n m k).machine.table × IsNoted c (execute n m k).machine.table
+          → IsOrdered (execute n m k).machine.table × IsTableOfCluster c (execute n m k).machine.table
       go (inl d) = rw d (when_done (floor_of k.client m.table.floors) refl d)
       go (inr d) = rw d (by_answer (noted_for k.client k.seq m.table.notes) refl d)
 
 all_noted : (c : Cluster) (n : ℕ) (m : Machine) (ks : List Command) → are_commands ks ≡ true
-    → list_all (λ (k : Command). names_command c k) ks ≡ true → IsOrdered m.table → IsNoted c m.table
-    → IsOrdered (execute_all n m ks).machine.table × IsNoted c (execute_all n m ks).machine.table
+    → list_all (λ (k : Command). names_command c k) ks ≡ true → IsOrdered m.table → IsTableOfCluster c m.table
+    → IsOrdered (execute_all n m ks).machine.table × IsTableOfCluster c (execute_all n m ks).machine.table
 all_noted c n m [] fit named ordered noted = (ordered, noted)
 all_noted c n m (k ∷ ks) fit named ordered noted =
     let f = and_parts (command.fits k) (are_commands ks) fit in
@@ -321,19 +321,19 @@ all_noted c n m (k ∷ ks) fit named ordered noted =
     let one = one_noted c n m k w.0 ((command_apart k f.0).2) ordered noted in
     all_noted c n (execute n m k).machine ks f.1 w.1 one.0 one.1
 
-value_noted : (c : Cluster) (n : ℕ) (m : Machine) (v : Value) → is_own c v ≡ true → IsOrdered m.table → IsNoted c m.table
-    → IsOrdered (execute_value n m v).machine.table × IsNoted c (execute_value n m v).machine.table
+value_noted : (c : Cluster) (n : ℕ) (m : Machine) (v : Value) → is_cluster_value c v ≡ true → IsOrdered m.table → IsTableOfCluster c m.table
+    → IsOrdered (execute_value n m v).machine.table × IsTableOfCluster c (execute_value n m v).machine.table
 value_noted c n m Noop own ordered noted = (ordered, noted)
 value_noted c n m (Batch ks) own ordered noted =
     let parts = and_parts (value.fits (Batch ks)) (names_value c (Batch ks)) own in
     all_noted c (n + 1) m ks (commands_in ks parts.0) parts.1 ordered noted
 
 -- values of the cluster leave a table in order, with what is noted of its clients
-pub values_noted : (c : Cluster) (n : ℕ) (m : Machine) (vs : List Value) → are_own c vs ≡ true → IsOrdered m.table → IsNoted c m.table
-    → IsOrdered (machine_from n m vs).table × IsNoted c (machine_from n m vs).table
+pub values_noted : (c : Cluster) (n : ℕ) (m : Machine) (vs : List Value) → are_own c vs ≡ true → IsOrdered m.table → IsTableOfCluster c m.table
+    → IsOrdered (machine_from n m vs).table × IsTableOfCluster c (machine_from n m vs).table
 values_noted c n m [] own ordered noted = (ordered, noted)
 values_noted c n m (v ∷ vs) own ordered noted =
-    let parts = and_parts (is_own c v) (are_own c vs) own in
+    let parts = and_parts (is_cluster_value c v) (are_own c vs) own in
     let one = value_noted c n m v parts.0 ordered noted in
     values_noted c (n + 1) (execute_value n m v).machine vs parts.1 one.0 one.1
 
@@ -398,8 +398,8 @@ own_has client [] some = absurd (omega arith)
 own_has client (n ∷ notes) some = (let same : (client == client) ≡ true = grind (arith, nat_tests) in or_first (client == client) (has client (map (answer_of client) notes)) same)
 
 pub client_noted : (c : Cluster) (client floor : ℕ) (notes : List Note) (t : Table) → nat_lt client c.clients ≡ true → 1 ≤ length notes
-    → are_rising 0 (t.floors ++ floor_at client floor ∷ []) ≡ true → are_notes_above floor notes ≡ true → IsNoted c t
-    → IsNoted c (with_client client floor notes t)
+    → are_rising 0 (t.floors ++ floor_at client floor ∷ []) ≡ true → are_client_notes floor notes ≡ true → IsTableOfCluster c t
+    → IsTableOfCluster c (with_client client floor notes t)
 client_noted c client floor notes t named some rising above noted =
     let below = (rises_below client floor 0 t.floors rising).1 in
     let fit = (and_parts (rises (λ (n : Note) (later : Note). nat_lt n.seq later.seq) notes) (list_all (λ (n : Note). floor_fits n.seq floor) notes) above).1 in

@@ -6,14 +6,14 @@ use Rattle.cx_base.specs.declared.role.RoleId.{RoleId}
 use Rattle.cx_base.specs.Lists.{rises}
 use Rattle.cx_kv.specs.Rising.{has_lower_key}
 use Rattle.cx_model.specs.declared.states.Deferred.{Deferred}
-use Rattle.cx_model.specs.Renewed.{renewed_fits, renewed_folds}
+use Rattle.cx_model.specs.RenewedLaws.{renewed_fits, renewed_folds}
 use Rattle.cx_model.specs.Replica.{Machine, replica_renewed, replica_rules}
 use Rattle.cx_model.specs.Rules.{Running, refused}
 use Rattle.cx_base.specs.declared.command.Value.{Value}
 use Rattle.cx_model.specs.Renewed.{IsOrdered}
 use Rattle.cx_model.specs.Replica.{ReplicaDurable, ReplicaVolatile}
 use Rattle.cx_replica.specs.Rows.{replica_durable, replica_view}
-use Rattle.cx_replica.specs.Sound.{IsSound, are_own, is_own}
+use Rattle.cx_replica.specs.Sound.{IsSound, are_own, is_cluster_value}
 use Rattle.cx_role.specs.Snap.{snapped_by}
 use Rattle.cx_replica.specs.declared.wanted.Wanted.{Wanted}
 use Rattle.cx_replica.proofs.Rows.{both_parts}
@@ -24,12 +24,12 @@ pub renewed_opens : (c : Cluster) (me : RoleId) (live : Bool) (log : LogState) (
     → refused replica_rules c me (replica_renewed (replica_durable log m w) first) ≡ None
 renewed_opens c me live log m w reads first sound rising later within =
     renewed_fits (replica_durable log m w) first later sound.ordered c me within
-    (record { keys = rising; near = sound.noted.near; clients = sound.noted.clients; values = (both_parts c log.list sound.held).1 })
+    (record { keys = rising; near = sound.noted.near; clients = sound.noted.clients; values = (both_parts c log.list sound.own).1 })
 
 own_later : (c : Cluster) (n : ℕ) (vs : List Value) → are_own c vs ≡ true → are_own c (drop n vs) ≡ true
 own_later c zero vs own = own
 own_later c (suc n) [] own = refl
-own_later c (suc n) (v ∷ vs) own = own_later c n vs (and_parts (is_own c v) (are_own c vs) own).1
+own_later c (suc n) (v ∷ vs) own = own_later c n vs (and_parts (is_cluster_value c v) (are_own c vs) own).1
 
 -- a list that wants nothing more
 abbrev pub nothing_wanted : Wanted
@@ -45,7 +45,7 @@ sound_renewed c me live lives log new m w none reads first sound later within is
     let there : IsSound c me lives (from_slot first log) m nothing_wanted reads = record {
       kind = sound.kind;
       place = sound.place;
-      held = own_later c (first - log.first) log.list sound.held;
+      own = own_later c (first - log.first) log.list sound.own;
       waiting = sound.waiting;
       reads = sound.reads;
       few = sound.few;

@@ -5,7 +5,7 @@ use Rattle.std.specs.List.{list_all}
 use Rattle.std.proofs.lemmas.Bool.{and_from, and_parts, cases_Bool}
 use Rattle.std.proofs.lemmas.Bool.Decides.{nat_tests}
 use Rattle.cx_base.specs.Asked.{floor_fits}
-use Rattle.cx_model.specs.Replica.{are_notes_above}
+use Rattle.cx_model.specs.Replica.{are_client_notes}
 use Rattle.cx_base.specs.declared.command.Floor.{Floor}
 use Rattle.cx_base.specs.declared.command.Note.{Note}
 use Rattle.cx_base.specs.declared.command.Pair.{Pair}
@@ -152,6 +152,6 @@ fits_above floor (n ∷ notes) all =
     let parts = and_parts (floor_fits n.seq floor) (list_all (λ (x : Note). floor_fits x.seq floor) notes) all in
     and_from (nat_lt floor n.seq) (list_all (λ (x : Note). nat_lt floor x.seq) notes) (and_parts (nat_lt floor n.seq) (nat_le n.seq (floor + 64)) parts.0).0 (fits_above floor notes parts.1)
 
-pub notes_above : (floor : ℕ) (notes : List Note) → are_notes_above floor notes ≡ true → list_all (λ (n : Note). nat_lt floor n.seq) notes ≡ true
+pub notes_above : (floor : ℕ) (notes : List Note) → are_client_notes floor notes ≡ true → list_all (λ (n : Note). nat_lt floor n.seq) notes ≡ true
 notes_above floor notes above =
     fits_above floor notes (and_parts (rises has_lower notes) (list_all (λ (n : Note). floor_fits n.seq floor) notes) above).1

@@ -9,13 +9,13 @@ use Rattle.cx_base.specs.Fold.{command_list, commands_of}
 use Rattle.cx_base.specs.declared.command.Command.{Command}
 use Rattle.cx_base.specs.declared.command.Value.{Value}
 use Rattle.cx_table.specs.State.{KeepsRoom, Room, room_for}
-use Rattle.cx_replica.specs.Room.{HasRoom, IsRoomFor, MachineState, count_of}
+use Rattle.cx_replica.specs.Room.{HasRoom, IsRoomFor, MachineState, command_count_of}
 
 count-append : (client : ℕ) (cs ds : List Command)
-    → count_of client (cs ++ ds) ≡ count_of client cs + count_of client ds
+    → command_count_of client (cs ++ ds) ≡ command_count_of client cs + command_count_of client ds
 count-append client [] ds = omega arith
 count-append client (c ∷ cs) ds =
-    go (c.client == client) (count_of client (cs ++ ds)) (count_of client cs) (count_of client ds) (count-append client cs ds)
+    go (c.client == client) (command_count_of client (cs ++ ds)) (command_count_of client cs) (command_count_of client ds) (count-append client cs ds)
   where
     go : (b : Bool) (all n m : ℕ) → all ≡ n + m → (if b then all + 1 else all) ≡ (if b then n + 1 else n) + m
     go true all n m e = omega arith
@@ -30,17 +30,17 @@ front_room m cs ds room = record {
 
 -- room for one command more of a client
 room_more : (old new : List Room) (cs : List Command) (c : Command) → IsRoomFor old cs → KeepsRoom old new
-    → count_of c.client cs + 1 ≤ room_for c.client new → IsRoomFor new (cs ++ c ∷ [])
-room_more old new cs c room kept enough client =
+    → command_count_of c.client cs + 1 ≤ room_for c.client new → IsRoomFor new (cs ++ c ∷ [])
+room_more old new cs c room room_stays enough client =
     rw (count-append client cs (c ∷ [])) (go (cases_Bool (c.client == client)))
   where
     go : ((c.client == client) ≡ true) ⊎ ((c.client == client) ≡ false)
-        → count_of client cs + count_of client (c ∷ []) ≤ room_for client new
+        → command_count_of client cs + command_count_of client (c ∷ []) ≤ room_for client new
     go (inl t) =
-        let own : count_of client cs + 1 ≤ room_for client new =
-        subst (λ (k : ℕ). count_of k cs + 1 ≤ room_for k new) (eqb-true c.client client t) enough in
+        let own : command_count_of client cs + 1 ≤ room_for client new =
+        subst (λ (k : ℕ). command_count_of k cs + 1 ≤ room_for k new) (eqb-true c.client client t) enough in
         rw t (omega arith)
-    go (inr t) = (let before = room client in let after = kept client in rw t (omega arith))
+    go (inr t) = (let before = room client in let after = room_stays client in rw t (omega arith))
 
 commands_behind : (vs : List Value) (v : Value) → command_list (vs ++ v ∷ []) ≡ command_list vs ++ commands_of v
 commands_behind [] v = append-nil (commands_of v)
@@ -60,26 +60,26 @@ module _ {A : Type 0} (list : List A) (i : ℕ) (x : A) (l : i < length list) (e
 module _ (cs : List Command) (i : ℕ) (c : Command) (l : i < length cs) (e : c ≡ get_or cs i c) where
   -- room for it beside those of values
   pub room_on : (old new : List Room) (values : List Value) → IsRoomFor old (command_list values ++ take i cs)
-      → KeepsRoom old new → (before one : ℕ) → before ≡ count_of c.client (command_list values)
-      → one ≡ count_of c.client (take i cs) → before + one + 1 ≤ room_for c.client new
+      → KeepsRoom old new → (before one : ℕ) → before ≡ command_count_of c.client (command_list values)
+      → one ≡ command_count_of c.client (take i cs) → before + one + 1 ≤ room_for c.client new
       → IsRoomFor new (command_list values ++ take (i + 1) cs)
-  room_on old new values room kept before one is here enough =
-      let both : count_of c.client (command_list values ++ take i cs) ≡ before + one =
+  room_on old new values room room_stays before one is here enough =
+      let both : command_count_of c.client (command_list values ++ take i cs) ≡ before + one =
       count-append c.client (command_list values) (take i cs) ∙ rw (is, here) refl in
       rw (one_taken cs i c l e, ← append_assoc (command_list values) (take i cs) (c ∷ []))
-      (room_more old new (command_list values ++ take i cs) c room kept (rw both enough))
+      (room_more old new (command_list values ++ take i cs) c room room_stays (rw both enough))
 
   pub command_room : (m : MachineState) → HasRoom m (drop i cs ++ []) → HasRoom m (c ∷ [])
   command_room m room = front_room m (c ∷ []) (drop (i + 1) cs ++ []) (rw (next_one cs i c l e) at room)
 
 -- one value further
 module _ (values : List Value) (i : ℕ) (v : Value) (l : i < length values) (e : v ≡ get_or values i v) where
-  pub counted_on : (client count n all : ℕ) → n ≡ count_of client (commands_of v)
-      → count + count_of client (command_list (drop i values)) ≡ all
-      → (count + n) + count_of client (command_list (drop (i + 1) values)) ≡ all
+  pub counted_on : (client count n all : ℕ) → n ≡ command_count_of client (commands_of v)
+      → count + command_count_of client (command_list (drop i values)) ≡ all
+      → (count + n) + command_count_of client (command_list (drop (i + 1) values)) ≡ all
   counted_on client count n all is so_far =
-      let rest : count_of client (command_list (drop i values))
-      ≡ count_of client (commands_of v) + count_of client (command_list (drop (i + 1) values)) =
+      let rest : command_count_of client (command_list (drop i values))
+      ≡ command_count_of client (commands_of v) + command_count_of client (command_list (drop (i + 1) values)) =
       rw (next_one values i v l e) (count-append client (commands_of v) (command_list (drop (i + 1) values))) in
       omega arith
 

@@ -25,13 +25,13 @@ use Rattle.cx_msg.specs.declared.kept.Record.TheVariants as kept
 use Rattle.cx_model.specs.declared.states.Deferred.{Deferred}
 use Rattle.cx_model.specs.Names.{names_value}
 use Rattle.cx_model.specs.Outcome.{Outcome, by_test}
-use Rattle.cx_model.specs.Replica.{Machine, ReplicaDurable, ReplicaVolatile, are_notes_above, held as held_of, is_whole, machine_from, with_client}
+use Rattle.cx_model.specs.Replica.{Machine, ReplicaDurable, ReplicaVolatile, are_client_notes, held as held_of, is_renewal_whole, machine_from, with_client}
 use Rattle.cx_base.specs.Noted.{are_rising}
 use Rattle.cx_model.specs.Replica.{replica_rules, replica_fits, still_deferred}
 use Rattle.cx_model.specs.Rules.{Running}
 use Rattle.cx_field.proofs.Rising.{list_all-filter}
-use Rattle.cx_replica.specs.Rows.{chosen_in}
-use Rattle.cx_replica.specs.Sound.{is_own, are_own, are_own_early, are_notes, are_reads, are_values, IsNoted, IsSound}
+use Rattle.cx_replica.specs.Rows.{chosen_row_in}
+use Rattle.cx_replica.specs.Sound.{is_cluster_value, are_own, are_own_early, are_notes, are_reads, are_values, IsTableOfCluster, IsSound}
 use Rattle.cx_replica.proofs.Values.{notes_in, values_in}
 use Rattle.cx_replica.specs.declared.wanted.Wanted.{Wanted}
 use Rattle.cx_replica.proofs.Noted.{values_noted}
@@ -42,11 +42,11 @@ use Rattle.cx_rlog.specs.Taken.{taken_at}
 use Rattle.cx_rlog.specs.declared.taken.Taken.TheVariants as taken
 
 value_for_own : (c : Cluster) (s : ℕ) (early : List Placed) (v : Value) → are_own_early c early ≡ true
-    → value_for s early ≡ Some v → is_own c v ≡ true
+    → value_for s early ≡ Some v → is_cluster_value c v ≡ true
 value_for_own c s [] v own e = cc
 value_for_own c s (p ∷ early) v own e =
-    let parts = and_parts (is_own c p.value) (are_own_early c early) own in
-    elim (cases_Bool (p.slot == s)) as (λ _. is_own c v ≡ true) [
+    let parts = and_parts (is_cluster_value c p.value) (are_own_early c early) own in
+    elim (cases_Bool (p.slot == s)) as (λ _. is_cluster_value c v ≡ true) [
       | inl t ↦ let same : Some p.value ≡ Some v = rw t at e in let here = parts.0 in cc
       | inr f ↦ value_for_own c s early v parts.1 (rw f at e)
     ]
@@ -59,7 +59,7 @@ following_own c early s (suc most) own = go (value_for s early) refl (following_
     go : (o : Option Value) → value_for s early ≡ o → are_own c (following early (s + 1) most) ≡ true
         → are_own c (before_following o (following early (s + 1) most)) ≡ true
     go None e rest = refl
-    go (Some v) e rest = and_from (is_own c v) (are_own c (following early (s + 1) most)) (value_for_own c s early v own e) rest
+    go (Some v) e rest = and_from (is_cluster_value c v) (are_own c (following early (s + 1) most)) (value_for_own c s early v own e) rest
 
 following_few : (early : List Placed) (s most : ℕ) → length (following early s most) ≤ most
 following_few early s zero = omega arith
@@ -71,11 +71,11 @@ following_few early s (suc most) = go (value_for s early) (following_few early (
     go (Some v) rest = omega arith
 
 -- the values that are ready are the cluster's
-pub ready_own : (c : Cluster) (held : ℕ) (early : List Placed) (v : Value) → is_own c v ≡ true
+pub ready_own : (c : Cluster) (held : ℕ) (early : List Placed) (v : Value) → is_cluster_value c v ≡ true
     → are_own_early c early ≡ true → are_own c (ready_values held early v) ≡ true
 ready_own c held early v one own =
     let most = min 31 (1099511627776 - (held + 1)) in
-    and_from (is_own c v) (are_own c (following early (held + 1) most)) one (following_own c early (held + 1) most own)
+    and_from (is_cluster_value c v) (are_own c (following early (held + 1) most)) one (following_own c early (held + 1) most own)
 
 -- slots end at 2^40
 pub ready_short : (held : ℕ) (early : List Placed) (v : Value) → held < 2 ^ 40
@@ -108,24 +108,24 @@ pub fits_at : (c : Cluster) (vs : List Value) (slot : ℕ) (v : Value) → are_o
     → value.fits v ≡ true
 fits_at c [] slot v own e = cc
 fits_at c (w ∷ vs) zero v own e =
-    let parts = and_parts (is_own c w) (are_own c vs) own in
+    let parts = and_parts (is_cluster_value c w) (are_own c vs) own in
     subst (λ (x : Value). value.fits x ≡ true) (same_Some w v e) ((and_parts (value.fits w) (names_value c w) parts.0).0)
-fits_at c (w ∷ vs) (suc slot) v own e = fits_at c vs slot v (and_parts (is_own c w) (are_own c vs) own).1 e
+fits_at c (w ∷ vs) (suc slot) v own e = fits_at c vs slot v (and_parts (is_cluster_value c w) (are_own c vs) own).1 e
 
 pub own-append : (c : Cluster) (log vs : List Value) → are_own c log ≡ true → are_own c vs ≡ true
     → are_own c (log ++ vs) ≡ true
-own-append c log vs held new = list_all-append (λ (v : Value). is_own c v) log vs ∙ and_from (are_own c log) (are_own c vs) held new
+own-append c log vs held new = list_all-append (λ (v : Value). is_cluster_value c v) log vs ∙ and_from (are_own c log) (are_own c vs) held new
 
 pub still_own : (c : Cluster) (held : ℕ) (early : List Placed) → are_own_early c early ≡ true
     → are_own_early c (still_early held early) ≡ true
 still_own c held early own =
     rw (← still_early-filter held early)
-    (list_all-filter (λ (p : Placed). nat_le held p.slot) (λ (p : Placed). is_own c p.value) early own)
+    (list_all-filter (λ (p : Placed). nat_le held p.slot) (λ (p : Placed). is_cluster_value c p.value) early own)
 
 -- a chosen value's record is one that the replica may keep
-pub chosen_fits : (r : Running ReplicaDurable ReplicaVolatile) (s : ℕ) (w : Value) → s < 2 ^ 40 → is_whole r.durable ≡ true
-    → is_own r.cluster w ≡ true → are_own_early r.cluster r.volatile.early ≡ true
-    → MayKeep replica_rules r (chosen_in r s w)
+pub chosen_fits : (r : Running ReplicaDurable ReplicaVolatile) (s : ℕ) (w : Value) → s < 2 ^ 40 → is_renewal_whole r.durable ≡ true
+    → is_cluster_value r.cluster w ≡ true → are_own_early r.cluster r.volatile.early ≡ true
+    → MayKeep replica_rules r (chosen_row_in r s w)
 chosen_fits r s w below whole one own =
     let n = held_of r.durable in
     let Fits : Outcome ReplicaVolatile → Type 0 = λ o. MayKeep replica_rules r o in
@@ -147,7 +147,7 @@ log_fits vs h = values_in vs h
 pub logged_own : (c : Cluster) (me : RoleId) (d : ReplicaDurable) (vs : List Value)
     → are_values vs ≡ true → replica_fits c me d (kept.Log vs) ≡ true → are_own c vs ≡ true
 logged_own c me d vs fit own =
-    let named = (and_parts (is_whole d) (are_named c vs) (and_parts (is_whole d && are_named c vs) (nat_le (held_of d + length vs) 1099511627776) own).0).1 in
+    let named = (and_parts (is_renewal_whole d) (are_named c vs) (and_parts (is_renewal_whole d && are_named c vs) (nat_le (held_of d + length vs) 1099511627776) own).0).1 in
     own_parts c vs ∙ and_from (are_values vs) (are_named c vs) fit named
 
 pub tailed_own : (c : Cluster) (me : RoleId) (d : ReplicaDurable) (vs : List Value)
@@ -163,9 +163,9 @@ tailed_few c me d vs own =
     grind (arith, nat_tests, size)
 
 pub noted_parts : (c : Cluster) (me : RoleId) (d : ReplicaDurable) (client floor : ℕ) (notes : List Note) → replica_fits c me d (kept.Notes client floor notes) ≡ true
-    → (nat_lt client c.clients ≡ true) × (are_rising 0 (with_client client floor notes d.machine.table).floors ≡ true) × (are_notes_above floor notes ≡ true)
+    → (nat_lt client c.clients ≡ true) × (are_rising 0 (with_client client floor notes d.machine.table).floors ≡ true) × (are_client_notes floor notes ≡ true)
 noted_parts c me d client floor notes own =
-    let p = and_parts (d.pairs == 0 && nat_lt 0 d.clients && nat_lt client c.clients && are_rising 0 (with_client client floor notes d.machine.table).floors) (are_notes_above floor notes) own in
+    let p = and_parts (d.pairs == 0 && nat_lt 0 d.clients && nat_lt client c.clients && are_rising 0 (with_client client floor notes d.machine.table).floors) (are_client_notes floor notes) own in
     let q = and_parts (d.pairs == 0 && nat_lt 0 d.clients && nat_lt client c.clients) (are_rising 0 (with_client client floor notes d.machine.table).floors) p.0 in
     let r = and_parts (d.pairs == 0 && nat_lt 0 d.clients) (nat_lt client c.clients) q.0 in
     (r.1, q.1, p.1)
@@ -189,8 +189,8 @@ wants_none pairs clients values whole =
 pub logged_parts : (c : Cluster) (me : RoleId) (d : ReplicaDurable) (vs : List Value) → replica_fits c me d (kept.Log vs) ≡ true
     → ((d.pairs ≡ 0) × (d.clients ≡ 0) × (d.values ≡ 0)) × (held_of d + length vs ≤ 2 ^ 40)
 logged_parts c me d vs own =
-    let p = and_parts (is_whole d && are_named c vs) (nat_le (held_of d + length vs) 1099511627776) own in
-    let whole = (and_parts (is_whole d) (are_named c vs) p.0).0 in
+    let p = and_parts (is_renewal_whole d && are_named c vs) (nat_le (held_of d + length vs) 1099511627776) own in
+    let whole = (and_parts (is_renewal_whole d) (are_named c vs) p.0).0 in
     let short = p.1 in
     (wants_none d.pairs d.clients d.values whole, grind (arith, nat_tests, short))
 
@@ -208,7 +208,7 @@ sound_more c me live log new m n w reads left vs sound none first list own early
     record {
       kind = sound.kind;
       place = sound.place;
-      held = subst (λ (l : List Value). are_own c l ≡ true) (sym list) (own-append c log.list vs sound.held own);
+      own = subst (λ (l : List Value). are_own c l ≡ true) (sym list) (own-append c log.list vs sound.own own);
       waiting = early;
       reads = fit;
       few = few;
@@ -230,7 +230,7 @@ sound_tail c me live log new m w reads vs sound waits first list own early most 
     record {
       kind = sound.kind;
       place = sound.place;
-      held = subst (λ (l : List Value). are_own c l ≡ true) (sym list) (own-append c log.list vs sound.held own);
+      own = subst (λ (l : List Value). are_own c l ≡ true) (sym list) (own-append c log.list vs sound.own own);
       waiting = early;
       reads = sound.reads;
       few = sound.few;
@@ -243,12 +243,12 @@ sound_tail c me live log new m w reads vs sound waits first list own early most 
 
 -- what is noted of one more client
 pub sound_notes : (c : Cluster) (me : RoleId) (live : Bool) (log : LogState) (m n : Machine) (w : Wanted) (reads : List Deferred)
-    → IsSound c me live log m w reads → live ≡ false → IsOrdered n.table → IsNoted c n.table
+    → IsSound c me live log m w reads → live ≡ false → IsOrdered n.table → IsTableOfCluster c n.table
     → IsSound c me live log n (record w { begun = true; clients = w.clients - 1 }) reads
 sound_notes c me live log m n w reads sound waits ordered noted = record {
   kind = sound.kind;
   place = sound.place;
-  held = sound.held;
+  own = sound.own;
   waiting = sound.waiting;
   reads = sound.reads;
   few = sound.few;

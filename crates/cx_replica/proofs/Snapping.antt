@@ -27,7 +27,7 @@ use Rattle.cx_msg.specs.declared.kept.Record.TheVariants as kept
 use Rattle.cx_msg.specs.Records.{kept_record, fits as record_fits}
 use Rattle.cx_table.specs.Entries.{of_client}
 use Rattle.cx_wire.specs.Format.{Format, each_fits, u8, u16, u32, u64}
-use Rattle.cx_replica.specs.Sound.{IsNoted, are_answers, are_clients_below, are_own, are_pairs, are_values, is_own}
+use Rattle.cx_replica.specs.Sound.{IsTableOfCluster, are_answers, are_clients_below, are_own, are_pairs, are_values, is_cluster_value}
 use Rattle.cx_replica.proofs.Values.{values_fit}
 
 -- the floors of the clients from one on
@@ -261,7 +261,7 @@ near_client client floor floors (a ∷ notes) told all =
     go (inr t) near rest = rw t rest
 
 -- at most 64 are noted of a client
-pub few_notes : (c : Cluster) (t : Table) (client floor : ℕ) → IsOrdered t → IsNoted c t → floor_of client t.floors ≡ Some floor
+pub few_notes : (c : Cluster) (t : Table) (client floor : ℕ) → IsOrdered t → IsTableOfCluster c t → floor_of client t.floors ≡ Some floor
     → length (of_client client t.notes) ≤ 64
 few_notes c t client floor ordered noted told =
     let few = few_between client floor (floor + 64) (of_client client t.notes)
@@ -289,7 +289,7 @@ told_some client floor (f ∷ floors) notes told all =
     ]
 
 -- one is noted, of a client that told a floor
-pub some_notes : (c : Cluster) (t : Table) (client floor : ℕ) → IsNoted c t → floor_of client t.floors ≡ Some floor → 1 ≤ length (of_client client t.notes)
+pub some_notes : (c : Cluster) (t : Table) (client floor : ℕ) → IsTableOfCluster c t → floor_of client t.floors ≡ Some floor → 1 ≤ length (of_client client t.notes)
 some_notes c t client floor noted told = has_some client t.notes (told_some client floor t.floors t.notes told noted.some)
 
 -- records in their ranges
@@ -349,7 +349,7 @@ base_fit first held keys clients first_fits held_fits keys_fit clients_fit = gri
 pub are_named : (c : Cluster) (vs : List Value) → are_own c vs ≡ true → list_all (λ (v : Value). names_value c v) vs ≡ true
 are_named c [] all = refl
 are_named c (v ∷ vs) all =
-    let parts = and_parts (is_own c v) (are_own c vs) all in
+    let parts = and_parts (is_cluster_value c v) (are_own c vs) all in
     and_from (names_value c v) (list_all (λ (w : Value). names_value c w) vs) (and_parts (value.fits v) (names_value c v) parts.0).1 (are_named c vs parts.1)
 
 pub pairs_more : (list : List Pair) (p : Pair) → are_pairs list ≡ true → pair.fits p ≡ true → are_pairs (list ++ p ∷ []) ≡ true

@@ -17,13 +17,13 @@ pub record MachineState : Type 0 where
   pub rooms : List Room
 
 -- how many of these commands are a client's
-abbrev pub count_of : ℕ → List Command → ℕ
-count_of client [] = 0
-count_of client (c ∷ cs) = if c.client == client then count_of client cs + 1 else count_of client cs
+abbrev pub command_count_of : ℕ → List Command → ℕ
+command_count_of client [] = 0
+command_count_of client (c ∷ cs) = if c.client == client then command_count_of client cs + 1 else command_count_of client cs
 
 -- there is room for the answers of commands
 abbrev pub IsRoomFor : List Room → List Command → Type 0
-IsRoomFor rooms commands = (client : ℕ) → count_of client commands ≤ room_for client rooms
+IsRoomFor rooms commands = (client : ℕ) → command_count_of client commands ≤ room_for client rooms
 
 -- commands can be executed without taking memory
 pub record HasRoom (m : MachineState) (commands : List Command) : Type 0 where

@@ -38,8 +38,8 @@ replica_view c me live log machine wanted reads fetched =
     }
 
 -- the row of a value that was chosen for a slot
-abbrev pub chosen_in : Running ReplicaDurable ReplicaVolatile → ℕ → Value → Outcome ReplicaVolatile
-chosen_in r slot value = chosen_row r.cluster r.me r.durable r.volatile slot value
+abbrev pub chosen_row_in : Running ReplicaDurable ReplicaVolatile → ℕ → Value → Outcome ReplicaVolatile
+chosen_row_in r slot value = chosen_row r.cluster r.me r.durable r.volatile slot value
 
 -- the row that applies the next slot's value, with those that wait after it
 abbrev pub applied_in : Running ReplicaDurable ReplicaVolatile → Value → Outcome ReplicaVolatile

@@ -22,14 +22,14 @@ use Rattle.cx_replica.specs.declared.wanted.Wanted.{Wanted}
 use Rattle.cx_rlog.specs.State.{LogState, held as held_in}
 
 -- whether a value's fields are in their ranges, and its clients in the cluster
-abbrev pub is_own : Cluster → Value → Bool
-is_own c v = value.fits v && names_value c v
+abbrev pub is_cluster_value : Cluster → Value → Bool
+is_cluster_value c v = value.fits v && names_value c v
 
 abbrev pub are_own : Cluster → List Value → Bool
-are_own c vs = list_all (λ (v : Value). is_own c v) vs
+are_own c vs = list_all (λ (v : Value). is_cluster_value c v) vs
 
 abbrev pub are_own_early : Cluster → List Placed → Bool
-are_own_early c early = list_all (λ (p : Placed). is_own c p.value) early
+are_own_early c early = list_all (λ (p : Placed). is_cluster_value c p.value) early
 
 -- whether the reads that wait are in their ranges, or commands, or values, or pairs, or answers
 abbrev pub are_reads : List Deferred → Bool
@@ -57,7 +57,7 @@ are_notes client notes = are_answers (map (answer_of client) notes)
 
 -- What the client table of values of the cluster has, beside its order: each answer is at most 64 above its client's
 -- floor, and each client that told a floor is the cluster's and has an answer.
-pub record IsNoted (c : Cluster) (t : Table) : Type 0 where
+pub record IsTableOfCluster (c : Cluster) (t : Table) : Type 0 where
   pub near : IsTrue (list_all (λ (a : Answered). is_near t.floors a) t.notes)
   pub clients : IsTrue (are_clients_below c.clients t.floors)
   pub some : IsTrue (list_all (λ (f : Floor). list_any (λ (a : Answered). a.client == f.client) t.notes) t.floors)
@@ -69,12 +69,12 @@ pub record IsSound (c : Cluster) (me : RoleId) (live : Bool) (log : LogState) (m
     (deferred : List Deferred) : Type 0 where
   pub kind : me.kind ≡ Replica
   pub place : me.index < c.replicas
-  pub held : IsTrue (are_own c log.list)
+  pub own : IsTrue (are_own c log.list)
   pub waiting : IsTrue (are_own_early c log.early)
   pub reads : IsTrue (are_reads deferred)
   pub few : length deferred ≤ 64
   pub ordered : IsOrdered m.table
-  pub noted : IsNoted c m.table
+  pub noted : IsTableOfCluster c m.table
   pub short : held_in log + wanted.values ≤ 2 ^ 40
   pub fresh : wanted.begun ≡ false → (log.first ≡ 0) × (log.list ≡ [])
   pub whole : live ≡ true → (wanted.pairs ≡ 0) × (wanted.clients ≡ 0) × (wanted.values ≡ 0)

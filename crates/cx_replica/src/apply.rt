@@ -1,11 +1,11 @@
-//! The row of a chosen value.
+//! The row of a chosen value: it waits for its turn, or is stored and executed.
 
 ghost use Rattle.std.specs.Prelude.{◌≡◌, ◌<◌, ◌^◌, [], true, IsTrue};
 ghost use Rattle.cx_model.specs.Replica.{held, replica_rules};
 ghost use Rattle.cx_field.specs.Fields as field;
 ghost use Rattle.cx_replica.specs.Room.{is_log, values_of};
-ghost use Rattle.cx_replica.specs.Rows.{applied_in, chosen_in};
-ghost use Rattle.cx_replica.specs.Sound.{is_own};
+ghost use Rattle.cx_replica.specs.Rows.{applied_in, chosen_row_in};
+ghost use Rattle.cx_replica.specs.Sound.{is_cluster_value};
 ghost use Rattle.cx_role.specs.Role.{IsStep, MayKeep};
 
 use crate::reads::drop_answered;
@@ -32,15 +32,16 @@ impl Replica {
         requires live { self.old.live ≡ true }
         requires empty { out.old.list ≡ [] }
         requires slot { IsTrue (field.slot.fits slot) }
-        requires value { IsTrue (is_own self.old.cluster value.now) }
-        ensures step { IsStep K.append_gives K.tells replica_rules self.old (chosen_in self.old slot value.now)
+        requires value { IsTrue (is_cluster_value self.old.cluster value.now) }
+        ensures step { IsStep K.append_gives K.tells replica_rules self.old (chosen_row_in self.old slot value.now)
             result self.new keeper.old keeper.new out.new.list }
-        ensures fits { MayKeep replica_rules self.old (chosen_in self.old slot value.now) }
+        ensures fits { MayKeep replica_rules self.old (chosen_row_in self.old slot value.now) }
     {
         match self.log.take(self.alloc, slot, value)? {
             Taken::Past => Ok(Why::Past),
             Taken::Full => Ok(Why::Window),
             Taken::Early => Ok(Why::Early),
+            // The log is as it was: a failure leaves nothing to undo.
             Taken::Next => self.apply(keeper, value, out),
         }
     }
@@ -55,7 +56,7 @@ impl Replica {
         requires live { self.old.live ≡ true }
         requires empty { out.old.list ≡ [] }
         requires slot { held self.old.durable < 2 ^ 40 }
-        requires value { IsTrue (is_own self.old.cluster value.now) }
+        requires value { IsTrue (is_cluster_value self.old.cluster value.now) }
         ensures { IsStep K.append_gives K.tells replica_rules self.old (applied_in self.old value.now)
             result self.new keeper.old keeper.new out.new.list }
     {
@@ -69,9 +70,11 @@ impl Replica {
         let values = into_values(record);
         let held = self.log.held();
         self.machine.execute_values(&self.cluster, self.me, held, values.as_slice(), rooms, out);
+        // The log holds them only once they are put.
         let held = held + count as u64;
         answer_reads(self.me, held, &self.machine, &self.deferred, out);
         self.log.put(values);
+        // Its list has a record now.
         self.wanted.begun = true;
         drop_answered(&mut self.deferred, self.log.held());
         Ok(Why::Applied)

@@ -2,7 +2,7 @@
 
 ghost use Rattle.std.specs.Prelude.{◌≡◌, ◌*◌, ◌^◌, ◌≤◌, ◌++◌, length, OnOk};
 ghost use Rattle.cx_base.specs.Fold.{command_list, commands_of};
-ghost use Rattle.cx_replica.specs.Room.{IsRoomFor, count_of};
+ghost use Rattle.cx_replica.specs.Room.{IsRoomFor, command_count_of};
 
 use cx_base::{Command, NoMemory, Value};
 use cx_table::Table;
@@ -19,8 +19,8 @@ fn commands_of(value: &Value) -> &[Command]
 }
 
 /// How many of these commands are a client's.
-fn count_of(client: u16, commands: &[Command]) -> usize
-    ensures count { result ≡ count_of client commands.now }
+fn command_count_of(client: u16, commands: &[Command]) -> usize
+    ensures count { result ≡ command_count_of client commands.now }
     ensures bound { result ≤ length commands.now }
 {
     let mut count = 0;
@@ -35,12 +35,12 @@ fn count_of(client: u16, commands: &[Command]) -> usize
 /// How many commands of values are a client's.
 fn count_in(client: u16, values: &[Value]) -> usize
     requires { length values.now ≤ 2 ^ 40 }
-    ensures count { result ≡ count_of client (command_list values.now) }
+    ensures count { result ≡ command_count_of client (command_list values.now) }
     ensures bound { result ≤ 8 * length values.now }
 {
     let mut count = 0;
     for value in values {
-        count += count_of(client, commands_of(value));
+        count += command_count_of(client, commands_of(value));
     }
     count
 }
@@ -59,7 +59,8 @@ fn make_room_beside(
 {
     for (index, command) in commands.iter().enumerate() {
         let client = command.client;
-        let before = count_in(client, earlier) + count_of(client, &commands[..index]);
+        // The client's commands before this one need their room too.
+        let before = count_in(client, earlier) + command_count_of(client, &commands[..index]);
         table.make_room(client, before + 1)?;
     }
     Ok(())

@@ -12,7 +12,7 @@ ghost use Rattle.cx_base.specs.Fold.{command_list, commands_of, text_at};
 ghost use Rattle.cx_field.specs.Fields as field;
 ghost use Rattle.cx_model.specs.Replica.{new_machine, acting, execute, execute_all, execute_value};
 ghost use Rattle.cx_model.specs.Renewed.{IsOrdered};
-ghost use Rattle.cx_model.specs.Replica.{are_notes_above, machine_from, results_from, with_client};
+ghost use Rattle.cx_model.specs.Replica.{are_client_notes, machine_from, results_from, with_client};
 ghost use Rattle.cx_replica.specs.Room.{HasRoom, LeavesRoom};
 ghost use Rattle.cx_replica.specs.Sound.{are_answers, are_clients_below, are_commands, are_notes, are_values};
 ghost use Rattle.cx_table.specs.Entries.{of_client};
@@ -25,7 +25,7 @@ use crate::rooms::{COMMANDS, Rooms};
 use crate::sending::send_results;
 use cx_base::{Answered, Cluster, Command, Key, NoMemory, Note, Pair, RoleId, Text, Value};
 use cx_field::reply_fits;
-use cx_kv::Pairs;
+use cx_kv::PairMap;
 use cx_role::Outbox;
 use cx_table::{Judge, Table};
 use std::alloc::Global;
@@ -35,7 +35,7 @@ use std::marker::Model;
 /// ranges.
 #[derive(Drop)]
 pub struct Machine {
-    store: Pairs,
+    store: PairMap,
     table: Table,
 }
 
@@ -46,6 +46,7 @@ impl Model for Machine {
 
     ghost Value = { MachineState };
 
+    // What values left, and for how many more keys, and answers of each client, there is room.
     ghost view = { λ m. record {
       left = record { map = m.store.pairs; table = m.table.table };
       spare = m.store.spare;
@@ -61,19 +62,19 @@ impl Machine {
         ensures { result.left ≡ new_machine }
     {
         Machine {
-            store: Pairs::new(alloc),
+            store: PairMap::new(alloc),
             table: Table::new(alloc),
         }
     }
 
-    /// The text of a key. It takes no memory.
+    /// The text of a key.
     pub fn text_at(&self, key: &Key) -> Option<Text>
         ensures { result ≡ text_at key.now self.now.left.map }
     {
         self.store.get(key).copied()
     }
 
-    /// Whether pairs may follow those of the map, their keys rising. It takes no memory.
+    /// Whether pairs may follow those of the map, their keys rising.
     pub fn may_push(&self, pairs: &[Pair]) -> bool
         ensures { result ≡ rises has_lower_key (self.now.left.map ++ pairs.now) }
     {
@@ -84,12 +85,13 @@ impl Machine {
         rise_behind(self.store.at(count - 1), pairs)
     }
 
-    /// Whether a client's number is above those of all that told a floor, which are below a count. It takes no memory.
+    /// Whether a client's index is above those of all that told a floor, which are below `clients`.
     pub fn is_behind(&self, clients: u16, client: u16) -> bool
         requires { are_clients_below clients self.now.left.table.floors ≡ true }
         ensures { (floor : ℕ) → result
             ≡ are_rising 0 (self.now.left.table.floors ++ record { client = client; floor = floor } ∷ []) }
     {
+        // For its contract: the clients of floors rise.
         let _rising = self.table.notes(client);
         let mut above = clients;
         while client < above {
@@ -115,13 +117,14 @@ impl Machine {
         requires fit { IsTrue (are_notes client notes.now) }
         requires some { 1 ≤ length notes.now }
         requires behind { are_rising 0 (self.left.table.floors ++ record { client = client; floor = floor } ∷ []) ≡ true }
-        requires above { are_notes_above floor notes.now ≡ true }
+        requires above { are_client_notes floor notes.now ≡ true }
         ensures left { IfOk result (λ m. m.left
             ≡ record self.left { table = with_client client floor notes.now self.left.table }) }
         ensures ordered { IfOk result (λ m. IsOrdered m.left.table) }
     {
         let Machine { store, mut table } = self;
         table.push(client, floor, notes)?;
+        // For its contract: the table is in order.
         let _in_order = table.notes(client);
         Ok(Machine { store, table })
     }
@@ -132,12 +135,14 @@ impl Machine {
         ensures left { self.new.left ≡ self.old.left }
         ensures room { OnOk result (HasRoom self.new (command_list values.now)) }
     {
+        // A command adds at most one key.
         self.store.make_room(COMMANDS * values.len())?;
         clients::make_room(&mut self.table, values)?;
         Ok(())
     }
 
-    /// Executes a command that acts, and adds its answer; `at` is one more than its slot.
+    /// Executes a command that acts, and adds its answer; `at` is one more than its slot: how many slots a replica holds that
+    /// has executed it.
     #[tactic(auto, using(crate::proofs::Executing::reply_length))]
     fn act(&mut self, at: u64, command: &Command, answers: &mut Vec<Answered>)
         requires at { IsTrue (field.at.fits at) }
@@ -154,6 +159,7 @@ impl Machine {
         ensures capacity { vec_capacity answers.new ≡ vec_capacity answers.old }
     {
         let reply = self.store.apply(command);
+        // It does nothing when it runs: its contract says that the reply has a spelling, its bytes in a record.
         reply_fits(&reply);
         answers.push_reserved(Answered {
             client: command.client,
@@ -172,7 +178,7 @@ impl Machine {
     }
 
     /// Executes a command as the table judges it, and adds its answer, if it has one; `at` is one more than its slot.
-    /// Its client is told to be done with its floor whether or not it acts.
+    /// Its floor is noted whether or not it acts.
     fn execute(&mut self, at: u64, command: &Command, answers: &mut Vec<Answered>)
         requires at { IsTrue (field.at.fits at) }
         requires command { IsTrue (field.command.fits command.now) }
@@ -190,6 +196,7 @@ impl Machine {
         let seq = command.seq;
         match self.table.judge(client, seq) {
             Judge::New => self.act(at, command, answers),
+            // It was executed before: the same answer again.
             Judge::Last { at, reply } => {
                 self.table.tell(client, command.floor);
                 answers.push_reserved(Answered {
@@ -199,6 +206,7 @@ impl Machine {
                     reply,
                 });
             }
+            // Its client needs no answer any more.
             Judge::Past => self.table.tell(client, command.floor),
         }
     }
@@ -290,7 +298,7 @@ impl Machine {
 
 // What a renewed list is made of.
 impl Machine {
-    /// How many keys the map has, which rise. It takes no memory.
+    /// How many keys the map has, which rise.
     pub fn keys(&self) -> usize
         ensures len { result ≡ length self.now.left.map }
         ensures rises { rises has_lower_key self.now.left.map ≡ true }
@@ -298,7 +306,7 @@ impl Machine {
         self.store.len()
     }
 
-    /// The pair at a place in the rising order of the keys. It takes no memory.
+    /// The pair at a place in the rising order of the keys.
     pub fn pair_at(&self, place: usize) -> &Pair
         requires { place < length self.now.left.map }
         ensures { (d : PairOf) → slice_index_or self.now.left.map place d ≡ result.now }
@@ -306,14 +314,14 @@ impl Machine {
         self.store.at(place)
     }
 
-    /// The greatest floor that a client told, if it told one. It takes no memory.
+    /// The greatest floor that a client told, if it told one.
     pub fn floor(&self, client: u16) -> Option<u64>
         ensures { result ≡ floor_of client self.now.left.table.floors }
     {
         self.table.floor(client)
     }
 
-    /// The answers to a client's numbers above its floor, by rising number. It takes no memory.
+    /// The answers to a client's numbers above its floor, by rising number.
     pub fn notes(&self, client: u16) -> &[Answered]
         ensures notes { result.now ≡ of_client client self.now.left.table.notes }
         ensures fit { IsTrue (are_answers self.now.left.table.notes) }

@@ -1,4 +1,5 @@
-//! How a replica is opened from its records, one by one.
+//! How a replica is opened from its records, one by one. `wanted` counts down what the base of a renewed list said: first
+//! pairs, then clients, then values. Records of pairs and of values are full but for the last. Log records come behind.
 
 ghost use Rattle.std.specs.Prelude.{◌≡◌, ◌≤◌, ◌^◌, [], true, false, length, IfOk, IsTrue};
 ghost use Rattle.std.specs.List.{list_all};
@@ -9,7 +10,7 @@ ghost use Rattle.cx_msg.specs.Records.{fits as record_fits};
 ghost use Rattle.cx_msg.specs.declared.kept.Record.TheVariants as kept;
 ghost use Rattle.cx_replica.specs.Sound.{are_notes, are_values};
 
-use crate::orders::are_notes_above;
+use crate::orders::are_client_notes;
 use crate::replica::Replica;
 use crate::wanted::Wanted;
 use cx_base::{Cluster, NoMemory, Note, PAIRS, Pair, SLOTS, Value, WINDOW};
@@ -45,11 +46,12 @@ impl Replica {
         ensures { result
             ≡ replica_fits self.now.cluster self.now.me self.now.durable (kept.Notes client floor notes.now) }
     {
+        // Behind all pairs, one record for each client, and the clients rise.
         self.wanted.pairs == 0
             && 0 < self.wanted.clients
             && client < self.cluster.clients
             && self.machine.is_behind(self.cluster.clients, client)
-            && are_notes_above(floor, notes)
+            && are_client_notes(floor, notes)
     }
 
     fn fits_tail(&self, values: &[Value]) -> bool
@@ -61,7 +63,7 @@ impl Replica {
             && values.len() as u64 == WINDOW.min(self.wanted.values)
     }
 
-    /// Whether it could have appended this record, or a renewal have it in this place. It takes no memory.
+    /// Whether it could have appended this record, or a renewal have it in this place.
     pub(crate) fn fits(&self, what: &Record) -> bool
         ensures { result ≡ replica_fits self.now.cluster self.now.me self.now.durable what.now }
     {
@@ -98,6 +100,7 @@ impl Replica {
             deferred,
             fetched,
         } = self;
+        // In this order: the first slot of these values is the number of slots held before.
         machine.replay(alloc, log.held(), values)?;
         log.restore(alloc, values)?;
         wanted.begun = true;
@@ -114,7 +117,7 @@ impl Replica {
         })
     }
 
-    // The list begins anew at a slot. It takes no memory.
+    // A renewed list begins: its values are those from `first` to before `held`, and what all before `held` left follows.
     fn remember_base(self, first: u64, held: u64, pairs: u32, clients: u8) -> Self
         requires held { held ≤ 2 ^ 40 }
         requires own { replica_fits self.cluster self.me self.durable (kept.Base first held pairs clients) ≡ true }
@@ -181,6 +184,7 @@ impl Replica {
         })
     }
 
+    // These values aren't executed: pairs and notes are what they left.
     fn remember_tail(self, values: &[Value]) -> Result<Self, NoMemory>
         requires ranges { IsTrue (are_values values.now) }
         requires own { replica_fits self.cluster self.me self.durable (kept.Tail values.now) ≡ true }

@@ -1,4 +1,4 @@
-//! Whether lists of a record rise.
+//! Whether the pairs or the notes of a record are in order, as a renewal writes them.
 
 ghost use Rattle.std.specs.Prelude.{◌≡◌, ◌∷◌, ◌&&◌, nat_lt};
 ghost use Rattle.std.specs.List.{list_all};
@@ -7,7 +7,7 @@ ghost use Rattle.cx_base.specs.Fold.{is_less};
 ghost use Rattle.cx_base.specs.Lists.{rises};
 ghost use Rattle.cx_base.specs.declared.command.Note.{Note as NoteOf};
 ghost use Rattle.cx_kv.specs.Rising.{has_lower_key};
-ghost use Rattle.cx_model.specs.Replica.{are_notes_above};
+ghost use Rattle.cx_model.specs.Replica.{are_client_notes};
 ghost use Rattle.cx_table.specs.Entries.{has_lower};
 
 use cx_base::{Key, Note, Pair};
@@ -21,7 +21,7 @@ fn is_less(one: &Key, other: &Key) -> bool
     one < other
 }
 
-/// Whether the keys of pairs rise, behind that of a first one. It takes no memory.
+/// Whether the keys of pairs rise, behind that of a first one.
 pub fn rise_behind(first: &Pair, pairs: &[Pair]) -> bool
     ensures { result ≡ rises has_lower_key (first.now ∷ pairs.now) }
 {
@@ -35,7 +35,7 @@ pub fn rise_behind(first: &Pair, pairs: &[Pair]) -> bool
     true
 }
 
-/// Whether the keys of pairs rise. It takes no memory.
+/// Whether the keys of pairs rise.
 pub fn pairs_rise(pairs: &[Pair]) -> bool
     ensures { result ≡ rises has_lower_key pairs.now }
 {
@@ -68,7 +68,7 @@ fn numbers_rise(notes: &[Note]) -> bool
     }
 }
 
-/// Whether a client may tell a floor with a number.
+/// Whether a client may tell a floor with a number: one below it, and not too far.
 fn floor_fits(seq: u64, floor: u64) -> bool
     ensures { result ≡ floor_fits seq floor }
 {
@@ -81,10 +81,9 @@ fn floors_fit(floor: u64, notes: &[Note]) -> bool
     notes.iter().all(|note| floor_fits(note.seq, floor))
 }
 
-/// Whether notes are those of a client with this floor: their numbers rise, and it may tell the floor with each. It
-/// takes no memory.
-pub fn are_notes_above(floor: u64, notes: &[Note]) -> bool
-    ensures { result ≡ are_notes_above floor notes.now }
+/// Whether notes are those of a client with this floor: their numbers rise, and it may tell the floor with each.
+pub fn are_client_notes(floor: u64, notes: &[Note]) -> bool
+    ensures { result ≡ are_client_notes floor notes.now }
 {
     numbers_rise(notes) && floors_fit(floor, notes)
 }

@@ -11,7 +11,7 @@ ghost use Rattle.cx_field.specs.Fields as field;
 ghost use Rattle.cx_role.specs.Role.{IsReply};
 
 use crate::replica::Replica;
-use crate::sending::answer;
+use crate::sending::answer_at;
 use cx_base::{NoMemory, READS, RoleId, Why};
 use cx_field::Token;
 use cx_model::Deferred;
@@ -24,7 +24,7 @@ fn is_deferred(deferred: &[Deferred], token: Token) -> bool
     deferred.iter().any(|other| token == other.token)
 }
 
-/// Drops the reads that waited for no more slots than are held. It takes no memory.
+/// Drops the reads that waited for no more slots than are held.
 pub fn drop_answered(deferred: &mut Vec<Deferred>, held: u64)
     ensures { deferred.new.items ≡ still_deferred held deferred.old.items }
 {
@@ -34,6 +34,7 @@ pub fn drop_answered(deferred: &mut Vec<Deferred>, held: u64)
 impl Replica {
     /// A reader, or a client in a session, asks for a key's text, once the slots that it names are held. It is answered at
     /// once where they are, and else waits.
+    /// A reader is a role that reads for a client, which the token names; in a session the client asks by itself.
     #[tactic(auto, using(crate::proofs::Values::mark_fits))]
     pub(crate) fn read(&mut self, one: Deferred, out: &mut Outbox) -> Result<Why, NoMemory>
         requires token { IsTrue (field.token.fits one.token) }
@@ -44,7 +45,7 @@ impl Replica {
         let held = self.log.held();
         if one.mark <= held {
             out.room(1)?;
-            out.push(answer(self.me, held, &self.machine, &one));
+            out.push(answer_at(self.me, held, &self.machine, &one));
             return Ok(Why::Answered);
         }
         if is_deferred(&self.deferred, one.token) {
@@ -57,7 +58,7 @@ impl Replica {
         Ok(Why::Deferred)
     }
 
-    /// The replica that asks this one for values.
+    /// The replica that asks this one for values: each asks the next one, the last asks the first.
     fn before(&self) -> u32
         ensures { result ≡ before self.now.cluster self.now.me }
     {
@@ -65,8 +66,8 @@ impl Replica {
         (u32::from(self.me.index) + replicas - 1) % replicas
     }
 
-    /// The replica before this one asked for the value of a slot: no other asks for lower ones any more. It takes no
-    /// memory.
+    /// The replica before this one asked for the value of a slot: it holds all lower ones, and no other replica asks this
+    /// one.
     fn note_fetch(&mut self, from: RoleId, slot: u64)
         ensures { self.new ≡ record self.old {
           volatile = fetched_by self.old.cluster self.old.me self.old.volatile from slot;
@@ -99,6 +100,7 @@ impl Replica {
             self.note_fetch(from, slot);
             return Ok(Why::Idle);
         }
+        // Noted only after this, which may run out of memory.
         let Some(value) = self.log.value(self.alloc, slot)? else {
             self.note_fetch(from, slot);
             return Ok(Why::Idle);

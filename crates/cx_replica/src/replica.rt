@@ -3,7 +3,7 @@
 ghost use Rattle.std.specs.Prelude.{◌≡◌, ◌<◌, [], true, false, is_some, IfOk, IfSome, IsTrue};
 ghost use Rattle.cx_base.specs.declared.role.Kind.TheVariants as kind;
 ghost use Rattle.cx_field.specs.Fields as field;
-ghost use Rattle.cx_model.specs.Replica.{ReplicaDurable, ReplicaVolatile, held, is_whole, replica_rules};
+ghost use Rattle.cx_model.specs.Replica.{ReplicaDurable, ReplicaVolatile, held, is_renewal_whole, replica_rules};
 ghost use Rattle.cx_model.specs.Rules.{opened};
 
 use crate::machine::Machine;
@@ -26,12 +26,16 @@ pub struct Replica {
     pub(crate) alloc: Global,
     pub(crate) cluster: Cluster,
     pub(crate) me: RoleId,
+    // Whether it may take a step: once its list is whole, until its keeper fails.
     pub(crate) live: bool,
     pub(crate) log: Log,
+    // What executing all values left, also those that it has forgotten.
     pub(crate) machine: Machine,
+    // What its list has still to say while it is opened.
     pub(crate) wanted: Wanted,
+    // The reads that wait until more slots are held.
     pub(crate) deferred: Vec<Deferred>,
-    // The greatest slot that the replica before this one asked for.
+    // The greatest slot that the replica before this one asked for; that one holds all slots below.
     pub(crate) fetched: u64,
 }
 
@@ -49,9 +53,9 @@ impl Model for Replica {
     ghost invariant = { λ r. IsSound r.cluster r.me r.live r.log r.machine.left r.wanted r.deferred.items };
 }
 
-// What a client asks for in a session, once so many slots are held: it is the client's that sent it.
+// A read that a client sends itself, in a session, and so doesn't name its client.
 #[tactic(auto, unfolding(cx_field::specs::Fields::token, cx_wire::specs::Format::u16))]
-fn session(client: u16, seq: u64, mark: u64, key: Key) -> Deferred
+fn session_read(client: u16, seq: u64, mark: u64, key: Key) -> Deferred
     requires { IsTrue (field.seq.fits seq) }
     ensures read { result ≡ record { token = record { client = client; seq = seq }; mark = mark; key = key } }
     ensures fits { IsTrue (field.token.fits result.token) }
@@ -64,7 +68,7 @@ fn session(client: u16, seq: u64, mark: u64, key: Key) -> Deferred
 }
 
 impl Replica {
-    /// How many slots it holds: all below it. It takes no memory.
+    /// How many slots it holds: all below it.
     pub fn held(&self) -> u64
         ensures { result ≡ held self.now.durable }
     {
@@ -90,7 +94,7 @@ impl Replica {
         })
     }
 
-    /// What its records left, before it takes a step again. It takes no memory.
+    /// What its records left, before it takes a step again.
     fn stopped(self) -> Self
         ensures { result ≡ record self { live = false; volatile = replica_rules.fresh self.cluster } }
     {
@@ -102,10 +106,10 @@ impl Replica {
         replica
     }
 
-    /// It takes steps from now on, where its list is whole. It takes no memory.
+    /// It takes steps from now on, where its list has all that its base said.
     fn started(self) -> Option<Self>
         ensures some { IfSome result (λ replica. replica ≡ record self { live = true }) }
-        ensures whole { is_some result ≡ is_whole self.durable }
+        ensures whole { is_some result ≡ is_renewal_whole self.durable }
     {
         let mut replica = self;
         if !replica.wanted.is_whole() {
@@ -144,6 +148,7 @@ impl Role for Replica {
         }
         match replica.started() {
             Some(replica) => Ok(replica),
+            // The record that is missing would be the next one.
             None => Err(WakeFault::Record {
                 index: records.len(),
             }),
@@ -170,7 +175,7 @@ impl Role for Replica {
                 Ok(self.read(one, out)?)
             }
             Msg::SessRead { seq, mark, key } => {
-                let one = session(datagram.from().index, *seq, *mark, *key);
+                let one = session_read(datagram.from().index, *seq, *mark, *key);
                 Ok(self.read(one, out)?)
             }
             Msg::Fetch { mark } => Ok(self.fetch(datagram.from(), *mark, out)?),
@@ -189,6 +194,7 @@ impl Role for Replica {
 
     #[tactic(auto, using(crate::proofs::Values::mark_fits))]
     fn tick(&mut self, out: &mut Outbox) -> Result<Why, NoMemory> {
+        // One for each leader, one for the next replica.
         out.room(usize::from(self.cluster.leaders) + 1)?;
         let held = self.log.held();
         tell_held(&self.cluster, self.me, held, out);

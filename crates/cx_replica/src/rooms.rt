@@ -40,7 +40,7 @@ impl Rooms {
         Ok(Rooms { list })
     }
 
-    /// Room for the answers of one value. It takes no memory.
+    /// Room for the answers of one value.
     pub fn take(&mut self) -> Vec<Answered>
         requires { 0 < self.old }
         ensures empty { result.items ≡ [] }

@@ -14,7 +14,7 @@ use cx_model::Deferred;
 use cx_msg::{Datagram, fetch, held, read_answer, results};
 use cx_role::Outbox;
 
-/// Sends the answers of a slot, if there are any and this replica is the one to do so. It takes no memory.
+/// Sends the answers of a slot, if there are any and this replica is the one to do so.
 #[tactic(auto, using(crate::proofs::Values::answers_fit))]
 pub fn send_results(
     cluster: &Cluster,
@@ -31,6 +31,7 @@ pub fn send_results(
     ensures list { out.new.list ≡ out.old.list ++ results_at cluster.now me slot answers.items }
     ensures spare { out.old.spare ≤ out.new.spare + 1 }
 {
+    // Replicas take turns, and so do unbatchers.
     if slot % u64::from(cluster.replicas) != u64::from(me.index) || answers.is_empty() {
         return;
     }
@@ -38,7 +39,7 @@ pub fn send_results(
     out.push(results(me.index, unbatcher, slot, Few::from_vec(answers)));
 }
 
-/// Reports to every leader how many slots are held. It takes no memory.
+/// Reports to every leader how many slots are held.
 pub fn tell_held(cluster: &Cluster, me: RoleId, mark: u64, out: &mut Outbox)
     requires kind { me.kind ≡ kind.Replica }
     requires mark { IsTrue (field.mark.fits mark) }
@@ -51,7 +52,7 @@ pub fn tell_held(cluster: &Cluster, me: RoleId, mark: u64, out: &mut Outbox)
     }
 }
 
-/// Asks the next replica, if there is another, for the value of the first slot that isn't held. It takes no memory.
+/// Asks the next replica, if there is another, for the value of the first slot that isn't held.
 pub fn ask_next(cluster: &Cluster, me: RoleId, mark: u64, out: &mut Outbox)
     requires kind { me.kind ≡ kind.Replica }
     requires mark { IsTrue (field.mark.fits mark) }
@@ -65,9 +66,9 @@ pub fn ask_next(cluster: &Cluster, me: RoleId, mark: u64, out: &mut Outbox)
     }
 }
 
-/// The answer to a read where `held` slots are held: the key's text in the map. It takes no memory.
+/// The answer to a read where `held` slots are held: the key's text in the map.
 #[tactic(auto, unfolding(cx_field::specs::Fields::token))]
-pub fn answer(me: RoleId, held: u64, machine: &Machine, one: &Deferred) -> Datagram
+pub fn answer_at(me: RoleId, held: u64, machine: &Machine, one: &Deferred) -> Datagram
     requires kind { me.kind ≡ kind.Replica }
     requires held { IsTrue (field.mark.fits held) }
     requires token { IsTrue (field.token.fits one.now.token) }
@@ -99,7 +100,7 @@ pub fn answer_reads(
 {
     for one in deferred {
         if one.mark <= held {
-            out.push(answer(me, held, machine, one));
+            out.push(answer_at(me, held, machine, one));
         }
     }
 }

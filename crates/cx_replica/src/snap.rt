@@ -1,4 +1,4 @@
-//! A replica forgets the values that no other will ask it for, and puts its list anew.
+//! A replica forgets the values that no other will ask it for, and puts its list anew: a snapshot, and log compaction.
 
 ghost use Rattle.std.specs.Prelude.{◌≡◌, ◌≤◌, ◌<◌, ◌-◌, ◌^◌, ◌++◌, ℕ, [], true, false, drop, length, map, take};
 ghost use Rattle.std.specs.Prelude.{IfOk, IsErrOf, IsTrue, None, Ok, Err, OnOk, Some, slice_get, vec_len};
@@ -11,7 +11,7 @@ ghost use Rattle.cx_model.specs.Replica.{held, note_of, notes_of, pieces, replic
 ghost use Rattle.cx_model.specs.Rules.{refused};
 ghost use Rattle.cx_msg.specs.Records.{fits as record_fits};
 ghost use Rattle.cx_msg.specs.declared.kept.Record.TheVariants as kept;
-ghost use Rattle.cx_replica.specs.Sound.{IsNoted, are_pairs, are_values};
+ghost use Rattle.cx_replica.specs.Sound.{IsTableOfCluster, are_pairs, are_values};
 ghost use Rattle.cx_rlog.specs.State.{held as held_in};
 ghost use Rattle.cx_role.specs.Snap.{IsSnap};
 
@@ -26,7 +26,7 @@ use cx_rlog::Log;
 use cx_role::{Outbox, StepFault};
 use std::alloc::Global;
 
-// Each pair has a spelling. It does nothing when it runs.
+// Each pair has a spelling, its bytes in a record. It does nothing when it runs.
 #[tactic(auto, unfolding(cx_field::specs::Fields::pair))]
 fn pair_fits(pair: &Pair)
     ensures { IsTrue (field.pair.fits pair.now) }
@@ -82,6 +82,7 @@ fn push_pairs(alloc: Global, machine: &Machine, records: &mut Vec<Record>) -> Re
     while 0 < left {
         let what = pairs_record(alloc, machine, count - left)?;
         records.push(what)?;
+        // The last record may have fewer.
         left = left.saturating_sub(PAIRS);
     }
     Ok(())
@@ -118,7 +119,7 @@ fn notes_record(
 ) -> Result<Record, NoMemory>
     requires told { floor_of client machine.now.left.table.floors ≡ Some floor }
     requires ordered { IsOrdered machine.now.left.table }
-    requires noted { IsNoted cluster.now machine.now.left.table }
+    requires noted { IsTableOfCluster cluster.now machine.now.left.table }
     ensures is { IfOk result (λ what. what
         ≡ notes_of machine.now.left.table (record { client = client; floor = floor })) }
     ensures fits { IfOk result (λ what. IsTrue (record_fits what)) }
@@ -134,7 +135,7 @@ fn notes_record(
 // The records of the client table, one for each client that told a floor.
 fn all_notes(alloc: Global, cluster: &Cluster, machine: &Machine) -> Result<Vec<Record>, NoMemory>
     requires ordered { IsOrdered machine.now.left.table }
-    requires noted { IsNoted cluster.now machine.now.left.table }
+    requires noted { IsTableOfCluster cluster.now machine.now.left.table }
     ensures items { IfOk result (λ records. records.items
         ≡ map (notes_of machine.now.left.table) machine.now.left.table.floors) }
     ensures few { IfOk result (λ records. vec_len records ≤ 64) }
@@ -206,6 +207,7 @@ fn push_tail(alloc: Global, log: &Log, records: &mut Vec<Record>) -> Result<(), 
     while 0 < left {
         let what = tail_record(alloc, log, held - left)?;
         records.push(what)?;
+        // The last record may have fewer.
         left = left.saturating_sub(WINDOW);
     }
     Ok(())
@@ -218,7 +220,7 @@ fn renew<K: Renew>(keeper: &mut K, live: &mut bool, records: &[Record]) -> Resul
     ensures lives { OnOk result (live.new ≡ live.old) }
     ensures refused { IsErrOf result StepFault.NoMemory
         → K.renew_gives keeper.old records.now (Err fault.NoMemory) keeper.new }
-    ensures told { K.tells keeper.new ≡ K.tells keeper.old }
+    ensures tells_same { K.tells keeper.new ≡ K.tells keeper.old }
     ensures lives_on { IsErrOf result StepFault.NoMemory → live.new ≡ live.old }
     ensures failed { IsErrOf result StepFault.Failed
         → K.renew_gives keeper.old records.now (Err fault.Failed) keeper.new }
@@ -244,6 +246,7 @@ impl Replica {
         ensures items { IfOk result (λ records. records.items ≡ replica_renewed self.now.durable tail.now.first) }
         ensures fit { IfOk result (λ records. IsTrue (all_fit records.items)) }
     {
+        // Made before the base, which says how many they are.
         let mut notes = all_notes(self.alloc, &self.cluster, &self.machine)?;
         let mut records = Vec::new(self.alloc);
         records.push(Record::Base {
@@ -258,9 +261,9 @@ impl Replica {
         Ok(records)
     }
 
-    // Below which slot it may forget values, if it may.
-    fn snap_mark(&self) -> Option<u64>
-        ensures mark { result ≡ replica_snap self.now.cluster self.now.me self.now.durable self.now.volatile }
+    // Below which slot it may forget values, if it may: a base counts the map's pairs in four bytes, so not of more pairs.
+    fn snap_slot(&self) -> Option<u64>
+        ensures slot { result ≡ replica_snap self.now.cluster self.now.me self.now.durable self.now.volatile }
         ensures later { (first : ℕ) → result ≡ Some first → self.now.durable.first ≤ first }
         ensures within { (first : ℕ) → result ≡ Some first → first ≤ held self.now.durable }
         ensures short { (first : ℕ) → result ≡ Some first → length self.now.durable.machine.map < 2 ^ 32 }
@@ -268,15 +271,16 @@ impl Replica {
             → refused replica_rules self.now.cluster self.now.me (replica_renewed self.now.durable first) ≡ None }
     {
         let held = self.log.held();
-        let mark = if self.cluster.replicas == 1 {
+        // Only the replica before this one asks it for values, from `fetched` on; nobody asks the only one.
+        let slot = if self.cluster.replicas == 1 {
             held
         } else {
             held.min(self.fetched)
         };
-        if mark <= self.log.first() || KEYS <= self.machine.keys() as u64 {
+        if slot <= self.log.first() || KEYS <= self.machine.keys() as u64 {
             return None;
         }
-        Some(mark)
+        Some(slot)
     }
 
     // Forgets the values below a slot: memory first, then the renewal, then the state.
@@ -309,7 +313,7 @@ impl Replica {
             → replica_snap self.old.cluster self.old.me self.old.durable self.old.volatile ≡ Some first
             → refused replica_rules self.old.cluster self.old.me (replica_renewed self.old.durable first) ≡ None }
     {
-        match self.snap_mark() {
+        match self.snap_slot() {
             Some(first) => self.forget_below(keeper, first),
             None => Ok(Why::Idle),
         }

@@ -2,7 +2,8 @@
 
 ghost use Rattle.std.specs.Prelude.{◌≡◌, ◌==◌, ◌&&◌, true, false};
 
-/// Whether a record was read, and how many pairs, clients and values of a renewed list are still to come.
+/// Whether a record was read or appended, after which no base may come, and how many pairs, clients and values of a renewed
+/// list are still to come.
 #[derive(Clone, Copy)]
 pub struct Wanted {
     pub begun: bool,
@@ -12,7 +13,7 @@ pub struct Wanted {
 }
 
 impl Wanted {
-    /// No record was read. It takes no memory.
+    /// No record was read.
     pub fn new() -> Self
         ensures { result ≡ record { begun = false; pairs = 0; clients = 0; values = 0 } }
     {
@@ -24,7 +25,7 @@ impl Wanted {
         }
     }
 
-    /// A list that wants nothing more. It takes no memory.
+    /// A list that wants nothing more.
     pub fn nothing() -> Self
         ensures { result ≡ record { begun = true; pairs = 0; clients = 0; values = 0 } }
     {
@@ -36,7 +37,7 @@ impl Wanted {
         }
     }
 
-    /// Whether nothing more is to come. It takes no memory.
+    /// Whether nothing more is to come.
     pub fn is_whole(&self) -> bool
         ensures { result ≡ (self.now.pairs == 0 && self.now.clients == 0 && self.now.values == 0) }
     {

@@ -1,3 +1,3 @@
-pub mod Kept
 pub mod Made
+pub mod Steps
 pub mod Window

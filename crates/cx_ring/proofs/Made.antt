@@ -1,4 +1,4 @@
--- Steps of the walk of `Told::of`.
+-- Steps of the walk of `GhostList::of`.
 use Rattle.std.proofs.Common.{List, [], ◌∷◌, refl}
 use seplogic.Ra.Ura.{Ura}
 use mir.Val.{Val, vstruct, vcons, vnil}

@@ -5,7 +5,7 @@ use Rattle.std.proofs.lemmas.Bool.Decides.{nat_tests}
 use Rattle.std.proofs.lemmas.Nat.{div-add-mod'}
 use Rattle.std.proofs.lemmas.List.{get_or-set_other, length-set}
 use Rattle.std.proofs.lemmas.List.Elements.{All-nil, All-cons, All-head, All-tail}
-use Rattle.cx_ring.specs.Ring.{IsNear, value_at, with_value, values_from}
+use Rattle.cx_ring.specs.Ring.{IsNear, value_at, with_value, values_from_slot}
 use Rattle.cx_ring.specs.Places.{emptied}
 
 -- two slots of one window have places of their own
@@ -57,23 +57,23 @@ module _ {A : Type 0} (at : A → ℕ) where
     | inr e ↦ rw e (All-cons P x (with_value at one xs) (All-head P x xs all) (All-with_value P one xs h (All-tail P x xs all)))
   ]
 
-  pub value_at-from : (first s : ℕ) (xs : List A) → first ≤ s → value_at at s (values_from at first xs) ≡ value_at at s xs
+  pub value_at-from : (first s : ℕ) (xs : List A) → first ≤ s → value_at at s (values_from_slot at first xs) ≡ value_at at s xs
   value_at-from first s [] l = refl
-  value_at-from first s (x ∷ xs) l = elim (cases_Bool (nat_le first (at x))) as (λ _. value_at at s (values_from at first (x ∷ xs)) ≡ value_at at s (x ∷ xs)) [
-    | inl e ↦ rw e (elim (cases_Bool (at x == s)) as (λ _. value_at at s (x ∷ values_from at first xs) ≡ value_at at s (x ∷ xs)) [
+  value_at-from first s (x ∷ xs) l = elim (cases_Bool (nat_le first (at x))) as (λ _. value_at at s (values_from_slot at first (x ∷ xs)) ≡ value_at at s (x ∷ xs)) [
+    | inl e ↦ rw e (elim (cases_Bool (at x == s)) as (λ _. value_at at s (x ∷ values_from_slot at first xs) ≡ value_at at s (x ∷ xs)) [
       | inl t ↦ rw t refl
       | inr t ↦ rw t (value_at-from first s xs l)
     ])
     | inr e ↦ let t : (at x == s) ≡ false = grind (arith, nat_tests) in rw e (rw t (value_at-from first s xs l))
   ]
 
-  pub near_from : (first more : ℕ) (xs : List A) → first ≤ more → All (λ x. IsNear first (at x)) xs → All (λ x. IsNear more (at x)) (values_from at more xs)
+  pub near_from : (first more : ℕ) (xs : List A) → first ≤ more → All (λ x. IsNear first (at x)) xs → All (λ x. IsNear more (at x)) (values_from_slot at more xs)
   near_from first more [] l all = All-nil (λ x. IsNear more (at x))
-  near_from first more (x ∷ xs) l all = elim (cases_Bool (nat_le more (at x))) as (λ _. All (λ y. IsNear more (at y)) (values_from at more (x ∷ xs))) [
+  near_from first more (x ∷ xs) l all = elim (cases_Bool (nat_le more (at x))) as (λ _. All (λ y. IsNear more (at y)) (values_from_slot at more (x ∷ xs))) [
     | inl e ↦
         let near : IsNear first (at x) = All-head (λ y. IsNear first (at y)) x xs all in
         let is : IsNear more (at x) = record { low = grind (arith, nat_tests); high = omega (arith, near.high) } in
-        rw e (All-cons (λ y. IsNear more (at y)) x (values_from at more xs) is (near_from first more xs l (All-tail (λ y. IsNear first (at y)) x xs all)))
+        rw e (All-cons (λ y. IsNear more (at y)) x (values_from_slot at more xs) is (near_from first more xs l (All-tail (λ y. IsNear first (at y)) x xs all)))
     | inr e ↦ rw e (near_from first more xs l (All-tail (λ y. IsNear first (at y)) x xs all))
   ]
 

@@ -17,12 +17,12 @@ with_value at one [] = one ∷ []
 with_value at one (x ∷ xs) = if at x == at one then one ∷ xs else x ∷ with_value at one xs
 
 -- the values from a slot on
-abbrev pub values_from : {A : Type 0} → (A → ℕ) → ℕ → List A → List A
-values_from at s xs = filter (λ x. nat_le s (at x)) xs
+abbrev pub values_from_slot : {A : Type 0} → (A → ℕ) → ℕ → List A → List A
+values_from_slot at s xs = filter (λ x. nat_le s (at x)) xs
 
 -- a greater beginning drops the values below it
-abbrev pub raised : {A : Type 0} → (A → ℕ) → ℕ → RingState A → RingState A
-raised at s r = record r { first = max r.first s; items = values_from at (max r.first s) r.items }
+abbrev pub raise_ring : {A : Type 0} → (A → ℕ) → ℕ → RingState A → RingState A
+raise_ring at s r = record r { first = max r.first s; items = values_from_slot at (max r.first s) r.items }
 
 -- a slot of the window
 pub record IsNear (first s : ℕ) : Type 0 where

@@ -2,13 +2,13 @@
 //!
 //! A replica's log, the first phase, leaders and proxy leaders hold their slots in it. Its theorem
 //! is: a ring is the list of its values in the order in which their slots came (a list in proofs
-//! alone, `Told`), of which `Ring::get` gives the one of a slot.
+//! alone, `GhostList`), of which `Ring::get` gives the one of a slot.
 #![tactic(auto)]
 
+mod ghost_list;
 mod order;
 mod ring;
-mod told;
 
+pub use ghost_list::{GhostList, GhostListOf};
 pub use order::Slotted;
 pub use ring::Ring;
-pub use told::{Tells, Told};

@@ -2,11 +2,11 @@
 
 ghost use Rattle.std.specs.Prelude.{◌≡◌, ◌==◌, ◌<◌, ◌≤◌, ◌+◌, ◌%◌, ◌^◌, [], true, false, length, replicate, get_or, slice_set, None, IfOk, OnOk, OnErr};
 ghost use Rattle.std.specs.Option.{option_copied};
-ghost use Rattle.cx_ring.specs.Ring.{value_at, with_value, raised};
+ghost use Rattle.cx_ring.specs.Ring.{value_at, with_value, raise_ring};
 ghost use Rattle.cx_ring.specs.Places.{emptied};
 
-use crate::order::{Slotted, from, kept, none, with};
-use crate::told::Told;
+use crate::ghost_list::GhostList;
+use crate::order::{Slotted, from, none, same_values, with};
 use cx_base::{Duplicate, NoMemory, WINDOW};
 use std::alloc::Global;
 use std::marker::{Model, PhantomData};
@@ -18,7 +18,7 @@ pub struct Ring<T: Drop, S: Slotted<T>> {
     first: u64,
     // The value of a slot is at the place of its number modulo 32.
     places: Vec<Option<T>>,
-    told: Told<T>,
+    values: GhostList<T>,
     by: PhantomData<S>,
 }
 
@@ -28,9 +28,9 @@ impl<T: Drop, S: Slotted<T>> Model for Ring<T, S> {
 
     ghost Value = { RingState T };
 
-    ghost view = { λ r. record { first = r.first; items = r.told.items; room = vec_len r.places == 32 } };
+    ghost view = { λ r. record { first = r.first; items = r.values.items; room = vec_len r.places == 32 } };
 
-    ghost invariant = { λ r. IsRing S.at r.first r.places.items r.told.items };
+    ghost invariant = { λ r. IsRing S.at r.first r.places.items r.values.items };
 }
 
 // The place of a slot.
@@ -86,7 +86,7 @@ impl<T: Drop, S: Slotted<T>> Ring<T, S> {
         Ring {
             first,
             places: Vec::new(alloc),
-            told: none(),
+            values: none(),
             by: PhantomData,
         }
     }
@@ -102,7 +102,7 @@ impl<T: Drop, S: Slotted<T>> Ring<T, S> {
         Ok(())
     }
 
-    /// The slot at which the window begins. It takes no memory.
+    /// The slot at which the window begins.
     pub fn first(&self) -> u64
         ensures first { result ≡ self.now.first }
         ensures limit { self.now.first ≤ 2 ^ 40 }
@@ -110,7 +110,7 @@ impl<T: Drop, S: Slotted<T>> Ring<T, S> {
         self.first
     }
 
-    /// The value of a slot. It takes no memory.
+    /// The value of a slot.
     pub fn get(&self, slot: u64) -> Option<&T>
         ensures { option_copied result ≡ value_at S.at slot self.now.items }
     {
@@ -120,7 +120,7 @@ impl<T: Drop, S: Slotted<T>> Ring<T, S> {
         value_of(&self.places, place_of(slot))
     }
 
-    /// Whether it has no value. It takes no memory.
+    /// Whether it has no value.
     pub fn is_empty(&self) -> bool
         ensures { result ≡ (length self.now.items == 0) }
     {
@@ -132,7 +132,7 @@ impl<T: Drop, S: Slotted<T>> Ring<T, S> {
         true
     }
 
-    /// Puts a value of a slot of the window into the place of the earlier one of its slot, which it answers. It takes no memory.
+    /// Puts a value of a slot of the window into the place of the earlier one of its slot, which it answers.
     pub fn put(&mut self, one: T) -> Option<T>
         requires room { self.old.room ≡ true }
         requires low { self.old.first ≤ S.at one }
@@ -140,29 +140,29 @@ impl<T: Drop, S: Slotted<T>> Ring<T, S> {
         ensures items { self.new ≡ record self.old { items = with_value S.at one self.old.items } }
         ensures earlier { result ≡ value_at S.at (S.at one) self.old.items }
     {
-        self.told = with::<T, S>(&self.told, &one);
+        self.values = with::<T, S>(&self.values, &one);
         let place = place_of(S::slot(&one));
         self.places[place].replace(one)
     }
 
-    /// Lets the window begin at a slot, or leaves a later beginning; the values below it are dropped. It takes no memory.
+    /// Lets the window begin at a slot, or leaves a later beginning; the values below it are dropped.
     pub fn raise(&mut self, first: u64)
         requires { first ≤ 2 ^ 40 }
-        ensures { self.new ≡ raised S.at first self.old }
+        ensures { self.new ≡ raise_ring S.at first self.old }
     {
         let first = self.first.max(first);
         let count = (first - self.first).min(WINDOW);
         empty(&mut self.places, self.first, count);
-        self.told = from::<T, S>(first, &self.told);
+        self.values = from::<T, S>(first, &self.values);
         self.first = first;
     }
 
-    /// Drops all values. It takes no memory.
+    /// Drops all values.
     pub fn clear(&mut self)
         ensures { self.new ≡ record self.old { items = [] } }
     {
         empty(&mut self.places, self.first, WINDOW);
-        self.told = none();
+        self.values = none();
     }
 }
 
@@ -188,7 +188,7 @@ impl<T: Duplicate, S: Slotted<T>> Duplicate for Ring<T, S> {
         Ok(Ring {
             first: self.first,
             places: copy_places(alloc, &self.places)?,
-            told: kept(&self.told),
+            values: same_values(&self.values),
             by: PhantomData,
         })
     }

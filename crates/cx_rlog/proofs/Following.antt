@@ -5,7 +5,7 @@ use Rattle.std.proofs.lemmas.Bool.{cases_Bool}
 use Rattle.cx_base.specs.Log.{following, still_early, value_for}
 use Rattle.cx_base.specs.declared.command.Value.{Value}
 use Rattle.cx_base.specs.declared.command.Placed.{Placed}
-use Rattle.cx_ring.specs.Ring.{RingState, raised}
+use Rattle.cx_ring.specs.Ring.{RingState, raise_ring}
 
 -- the value of a slot, and those that follow it
 pub following_more : (early : List Placed) (slot next later left : ℕ) (v : Value) → next ≡ slot + 1 → left ≡ suc later
@@ -28,7 +28,7 @@ still_early-filter held (p ∷ early) = elim (cases_Bool (nat_le held p.slot)) a
 ]
 
 -- those that still wait once the window begins at the slots held
-pub still_raised : (s new : ℕ) (r later : RingState Placed) → later ≡ raised (λ (p : Placed). p.slot) s r
+pub still_raised : (s new : ℕ) (r later : RingState Placed) → later ≡ raise_ring (λ (p : Placed). p.slot) s r
     → max r.first s ≡ new → later.items ≡ still_early new r.items
 still_raised s new r later e n =
     ap (λ (x : RingState Placed). x.items) e ∙ ap (λ k. filter (λ (p : Placed). nat_le k p.slot) r.items) n ∙ still_early-filter new r.items

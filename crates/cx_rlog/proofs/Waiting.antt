@@ -5,7 +5,7 @@ use Rattle.std.proofs.lemmas.Bool.{cases_Bool, leb-true, eqb-false}
 use Rattle.cx_base.specs.Log.{following, ready_values, still_early, value_for}
 use Rattle.cx_base.specs.declared.command.Value.{Value}
 use Rattle.cx_base.specs.declared.command.Placed.{Placed}
-use Rattle.cx_rlog.specs.State.{AreEarly, IsEarly, IsReady, LogState, held as held_in}
+use Rattle.cx_rlog.specs.State.{AreEarly, IsEarly, AreReadyValues, LogState, held as held_in}
 use Rattle.cx_rlog.specs.Taken.{waiting_with}
 
 AreEarly-push : (held : ℕ) (early : List Placed) (p : Placed) → AreEarly held early → IsEarly held p
@@ -65,7 +65,7 @@ following_stops early slot zero = inl refl
 following_stops early slot (suc most) = following_step early slot most (value_for slot early) refl (following_stops early (slot + 1) most)
 
 -- what still waits after the values that were ready
-pub ready_waiting : (s : LogState) (values : List Value) (held new : ℕ) → held ≡ held_in s → IsReady s values
+pub ready_waiting : (s : LogState) (values : List Value) (held new : ℕ) → held ≡ held_in s → AreReadyValues s values
     → AreEarly held s.early
     → new ≡ held + length values → new ≤ 2 ^ 40 → AreEarly new (still_early new s.early)
 ready_waiting s [] held new e h waiting n short = absurd h

@@ -26,7 +26,7 @@ HasText Del text = Unit {0}
 HasText App text = IsName 64 text
 
 -- the bytes of a key come first, and those of a text after them
-pub record IsShort (verb : Verb) (middle end : ℕ) (bytes : List ℕ) : Type 0 where
+pub record IsShortCommand (verb : Verb) (middle end : ℕ) (bytes : List ℕ) : Type 0 where
   pub within : end ≤ length bytes
   pub front : middle ≤ end
   pub key : IsName 32 (take middle (take end bytes))

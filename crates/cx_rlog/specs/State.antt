@@ -36,9 +36,9 @@ AreEarly held [] = Unit {0}
 AreEarly held (p ∷ early) = IsEarly held p × AreEarly held early
 
 -- the values are all that can be held now: one for the slot held, and those waiting that follow it
-abbrev pub IsReady : LogState → List Value → Type 0
-IsReady s [] = ⊥
-IsReady s (v ∷ later) = v ∷ later ≡ ready_values (held s) s.early v
+abbrev pub AreReadyValues : LogState → List Value → Type 0
+AreReadyValues s [] = ⊥
+AreReadyValues s (v ∷ later) = v ∷ later ≡ ready_values (held s) s.early v
 
 -- there is the room that was asked for, slots end at 2^40, what waits is near, and its window begins at the slots held
 pub record IsLog (first count capacity spare window : ℕ) (early : List Placed) : Type 0 where

@@ -2,7 +2,7 @@
 
 ghost use Rattle.std.specs.Prelude.{◌≡◌, ◌+◌, ◌-◌, ◌++◌, ◌<◌, ◌≤◌, ◌^◌, [], length, IfOk, OnErr, OnOk};
 ghost use Rattle.cx_base.specs.Log.{ready_values, still_early};
-ghost use Rattle.cx_rlog.specs.State.{IsReady, LogState, from_slot, held, value_in};
+ghost use Rattle.cx_rlog.specs.State.{AreReadyValues, LogState, from_slot, held, value_in};
 ghost use Rattle.cx_rlog.specs.Taken.{early_after, taken_at};
 ghost use Rattle.cx_rlog.specs.declared.taken.Taken.TheVariants.{Early};
 
@@ -57,7 +57,7 @@ impl Log {
         })
     }
 
-    /// How many slots are held: all below it. It takes no memory.
+    /// How many slots are held: all below it.
     pub fn held(&self) -> u64
         ensures held { result ≡ held self.now }
         ensures short { result ≤ 2 ^ 40 }
@@ -65,7 +65,7 @@ impl Log {
         self.first + self.list.len() as u64
     }
 
-    /// The first slot whose value it has, or the number of slots held where it has none. It takes no memory.
+    /// The first slot whose value it has, or the number of slots held where it has none.
     pub fn first(&self) -> u64
         ensures { result ≡ self.now.first }
     {
@@ -119,7 +119,7 @@ impl Log {
     ) -> Result<Few<Value, 1, WINDOW_LENGTH>, NoMemory>
         requires { held self.old < 2 ^ 40 }
         ensures values { IfOk result (λ values. values ≡ ready_values (held self.old) self.old.early value.now) }
-        ensures ready { IfOk result (IsReady self.new) }
+        ensures ready { IfOk result (AreReadyValues self.new) }
         ensures room { IfOk result (λ values. length values ≤ self.new.spare) }
         ensures short { IfOk result (λ values. held self.new + length values ≤ 2 ^ 40) }
         ensures first { self.new.first ≡ self.old.first }
@@ -135,9 +135,9 @@ impl Log {
         Ok(Few::from_vec(values))
     }
 
-    /// Holds the values that are ready, and drops those that wait no longer. It takes no memory.
+    /// Holds the values that are ready, and drops those that wait no longer.
     pub fn put(&mut self, values: Few<Value, 1, WINDOW_LENGTH>)
-        requires ready { IsReady self.old values }
+        requires ready { AreReadyValues self.old values }
         requires room { length values ≤ self.old.spare }
         requires short { held self.old + length values ≤ 2 ^ 40 }
         ensures first { self.new.first ≡ self.old.first }
@@ -152,7 +152,7 @@ impl Log {
         self.early.raise(held);
     }
 
-    /// Drops the values that wait. It takes no memory.
+    /// Drops the values that wait.
     pub fn forget_early(&mut self)
         ensures { self.new ≡ record self.old { early = [] } }
     {
@@ -174,7 +174,7 @@ impl Log {
         Ok(())
     }
 
-    /// Begins at a slot, before it has a value: for a log that is opened from its records. It takes no memory.
+    /// Begins at a slot, before it has a value: for a log that is opened from its records.
     pub fn restore_at(&mut self, first: u64)
         requires none { self.old.list ≡ [] }
         requires none_early { self.old.early ≡ [] }

@@ -24,7 +24,7 @@ pub enum Verb {
 
 /// A command whose key and text are short, and whose floor is the number before its own.
 #[derive(Drop)]
-pub struct Short {
+pub struct ShortCommand {
     seq: u64,
     client: u16,
     verb: Verb,
@@ -35,16 +35,16 @@ pub struct Short {
     bytes: [u8; ROOM],
 }
 
-impl Model for Short {
+impl Model for ShortCommand {
     ghost use Rattle.std.specs.Prelude.{take};
     ghost use Rattle.cx_base.specs.declared.command.Command.{Command};
-    ghost use Rattle.cx_rlog.specs.Short.{IsShort, command_of};
+    ghost use Rattle.cx_rlog.specs.Short.{IsShortCommand, command_of};
 
     ghost Value = { Command };
 
     ghost view = { λ s. command_of s.client s.seq s.verb s.key (take s.end s.bytes) };
 
-    ghost invariant = { λ s. IsShort s.verb s.key s.end s.bytes };
+    ghost invariant = { λ s. IsShortCommand s.verb s.key s.end s.bytes };
 }
 
 /// Writes one list and then the other at the front of a longer one.
@@ -58,7 +58,7 @@ fn lay(bytes: &mut [u8], one: &[u8], other: &[u8])
     rest[..other.len()].copy_from_slice(other);
 }
 
-impl Short {
+impl ShortCommand {
     /// The command with these parts, where it is short.
     fn of(client: u16, seq: u64, verb: Verb, key: &[u8], text: &[u8]) -> Option<Self>
         requires key { IsName 32 key.now }
@@ -71,7 +71,7 @@ impl Short {
         }
         let mut bytes = [0; ROOM];
         lay(&mut bytes, key, text);
-        Some(Short {
+        Some(ShortCommand {
             seq,
             client,
             verb,
@@ -81,7 +81,7 @@ impl Short {
         })
     }
 
-    /// The command in place, where it is short. It takes no memory.
+    /// The command in place, where it is short.
     fn from_command(command: &Command) -> Option<Self>
         ensures { IfSome result (λ short. short ≡ command.now) }
     {
@@ -92,16 +92,16 @@ impl Short {
         }
         match &command.op {
             Op::Put(key, text) => {
-                Short::of(client, seq, Verb::Put, key.as_bytes(), text.as_bytes())
+                ShortCommand::of(client, seq, Verb::Put, key.as_bytes(), text.as_bytes())
             }
-            Op::Del(key) => Short::of(client, seq, Verb::Del, key.as_bytes(), &[]),
+            Op::Del(key) => ShortCommand::of(client, seq, Verb::Del, key.as_bytes(), &[]),
             Op::App(key, text) => {
-                Short::of(client, seq, Verb::App, key.as_bytes(), text.as_bytes())
+                ShortCommand::of(client, seq, Verb::App, key.as_bytes(), text.as_bytes())
             }
         }
     }
 
-    /// The command. It takes no memory.
+    /// The command.
     fn command(&self) -> Command
         ensures { result ≡ self.now }
     {
@@ -126,7 +126,7 @@ impl Short {
 #[derive(Drop)]
 pub enum Form {
     Noop,
-    Short(Short),
+    Short(ShortCommand),
     Long(Commands),
 }
 
@@ -151,20 +151,20 @@ impl Model for Packed {
 const _: () = prove!(size_of::<Packed>() == 40);
 
 /// The one command of a value, where it has one and that is short.
-fn only_short(value: &Value) -> Option<Short>
+fn only_short(value: &Value) -> Option<ShortCommand>
     ensures { IfSome result (λ short. value.now ≡ Batch (short ∷ [])) }
 {
     match value {
         Value::Noop => None,
         Value::Batch(commands) => match commands.as_slice() {
-            [command] => Short::from_command(command),
+            [command] => ShortCommand::from_command(command),
             _ => None,
         },
     }
 }
 
 impl Packed {
-    /// A value, held in as few bytes as it needs. It takes no memory.
+    /// A value, held in as few bytes as it needs.
     pub fn hold(value: Value) -> Self
         ensures { result ≡ value }
     {
@@ -202,7 +202,7 @@ impl Duplicate for Packed {
     }
 }
 
-/// Holds values after those that are held. It takes no memory.
+/// Holds values after those that are held.
 pub fn hold_all(list: &mut Vec<Packed>, values: Vec<Value>)
     requires { vec_len list.old + vec_len values ≤ vec_capacity list.old }
     ensures items { list.new.items ≡ list.old.items ++ values.items }

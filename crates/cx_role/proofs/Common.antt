@@ -18,7 +18,7 @@ pub use Rattle.cx_role.specs.Prelude.{Reader, Replacer, RoleId, Round, Why, in_w
 pub use Rattle.cx_role.specs.Prelude.{entries_told, greatest_watermark, is_member_of, live_entries, rows_whole, names}
 pub use Rattle.cx_role.specs.Prelude.{names_ballot, names_set}
 pub use Rattle.cx_role.specs.Prelude.{names_body, names_entry, names_grid, names_role, names_round, names_value}
-pub use Rattle.cx_role.specs.Prelude.{Outcome, answered, by_test, either_way, replied, IsFit, Running, folded_from}
+pub use Rattle.cx_role.specs.Prelude.{Outcome, only_word, by_test, either_way, replied, IsFit, Running, folded_from}
 pub use Rattle.cx_role.specs.Prelude.{outcome_of, refused_from, Acked, MatchAnswer, Pending, Plan, Promised, Letter}
 pub use Rattle.cx_role.specs.Prelude.{Take, Record, Msg, Outgoing, IsReply, MayKeep, list_all, list_any}
 pub use Rattle.cx_role.specs.Prelude.kind

@@ -9,15 +9,15 @@ use Rattle.cx_role.specs.Role.{Appending, FailsAt, IsStep, Keeps, KeepsDurable, 
 
 module _ {K D V : Type 0} {gives : Appending K} {tells : K → Bool} {rules : Rules D V} {before after : Running D V} {row : Outcome V} {old new : K} {sent : List Letter} where
   pub done : {w : Why} → Steps gives rules before row w old new after sent → tells new ≡ tells old → IsStep gives tells rules before row (Ok w) after old new sent
-  done step told = record { ok = step; no_memory = λ e. cc; spared = λ e. cc; told = told; failed = λ e. cc; keeps = λ e. cc }
+  done step tells_same = record { ok = step; no_memory = λ e. cc; spared = λ e. cc; tells_same = tells_same; failed = λ e. cc; keeps = λ e. cc }
 
   pub spared : StaysAt gives before after old new sent → takes_no_memory row.why ≡ false → tells new ≡ tells old
       → IsStep gives tells rules before row (Err NoMemory) after old new sent
-  spared stays free told = record { ok = tt; no_memory = λ e. stays; spared = λ e. free; told = told; failed = λ e. cc; keeps = λ e. cc }
+  spared stays free tells_same = record { ok = tt; no_memory = λ e. stays; spared = λ e. free; tells_same = tells_same; failed = λ e. cc; keeps = λ e. cc }
 
   pub failed : FailsAt gives row old new after sent → KeepsDurable before after → tells new ≡ tells old
       → IsStep gives tells rules before row (Err Failed) after old new sent
-  failed fails keeps told = record { ok = tt; no_memory = λ e. cc; spared = λ e. cc; told = told; failed = λ e. fails; keeps = λ e. keeps }
+  failed fails keeps tells_same = record { ok = tt; no_memory = λ e. cc; spared = λ e. cc; tells_same = tells_same; failed = λ e. fails; keeps = λ e. keeps }
 
 -- a reply is a step that leaves the store alone
 pub still : {K D V : Type 0} {gives : Appending K} {rules : Rules D V} {before after : Running D V} {row : Outcome V} {w : Why} {store : K} {sent : List Letter}

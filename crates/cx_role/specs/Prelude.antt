@@ -29,7 +29,7 @@ pub use Rattle.cx_model.specs.Matched.{entries_told, greatest_watermark, is_coun
 pub use Rattle.cx_model.specs.Matched.{live_entries, members_in, members_of, rows_whole}
 pub use Rattle.cx_model.specs.Names.{names, names_body, names_entry, names_grid, names_role, names_round, names_value}
 pub use Rattle.cx_model.specs.Names.{names_ballot, names_set}
-pub use Rattle.cx_model.specs.Outcome.{Outcome, answered, by_test, either_way, replied}
+pub use Rattle.cx_model.specs.Outcome.{Outcome, only_word, by_test, either_way, replied}
 pub use Rattle.cx_model.specs.Rules.{IsFit, Running, folded_from, opened, outcome_of, refused_from}
 pub use Rattle.cx_model.specs.declared.states.Acked.{Acked}
 pub use Rattle.cx_model.specs.declared.states.MatchAnswer.{MatchAnswer}

@@ -75,7 +75,7 @@ pub record IsStep {K D V : Type 0} (append_gives : Appending K) (tells : K → B
   pub ok : IfOk result (λ w. Steps append_gives rules before row w old new after sent)
   pub no_memory : IsErrOf result NoMemory → StaysAt append_gives before after old new sent
   pub spared : IsErrOf result NoMemory → takes_no_memory row.why ≡ false
-  pub told : tells new ≡ tells old
+  pub tells_same : tells new ≡ tells old
   pub failed : IsErrOf result Failed → FailsAt append_gives row old new after sent
   pub keeps : IsErrOf result Failed → KeepsDurable before after
 

@@ -55,6 +55,6 @@ pub record IsSnap {K D V : Type 0} (renew_gives : Renewing K) (tells : K → Boo
   pub ok : IfOk result (λ w. Snaps renew_gives rules before first w old new after sent)
   pub no_memory : IsErrOf result NoMemory → SnapStays renew_gives before after old new sent
   pub spared : IsErrOf result NoMemory → takes_no_memory (snap_word first) ≡ false
-  pub told : tells new ≡ tells old
+  pub tells_same : tells new ≡ tells old
   pub failed : IsErrOf result Failed → SnapFails renew_gives rules before first old new after sent
   pub keeps : IsErrOf result Failed → KeepsDurable before after

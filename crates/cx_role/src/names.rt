@@ -13,14 +13,14 @@ use cx_base::{Answered, Cluster, Command, Grid, RoleId, Round, Set, Value, count
 use cx_field::{Asking, Entry, Token, Vote};
 use cx_msg::{Datagram, Msg};
 
-/// Whether a role is one of the cluster's. It takes no memory.
+/// Whether a role is one of the cluster's.
 pub fn names_role(cluster: &Cluster, role: RoleId) -> bool
     ensures { result ≡ names_role cluster.now role }
 {
     role.index < count_of(cluster, role.kind)
 }
 
-/// Whether the leader that a round names is in the cluster. It takes no memory.
+/// Whether the leader that a round names is in the cluster.
 pub fn names_round(cluster: &Cluster, round: Round) -> bool
     ensures { result ≡ names_round cluster.now round }
 {
@@ -33,7 +33,7 @@ fn are_acceptors(acceptors: u16, ids: &[u16]) -> bool
     ids.iter().all(|id| *id < acceptors)
 }
 
-/// Whether all members of a grid are in the cluster. It takes no memory.
+/// Whether all members of a grid are in the cluster.
 pub fn names_grid(cluster: &Cluster, grid: &Grid) -> bool
     ensures { result ≡ names_grid cluster.now grid.now }
 {
@@ -48,7 +48,7 @@ fn names_commands(cluster: &Cluster, commands: &[Command]) -> bool
         .all(|command| command.client < cluster.clients)
 }
 
-/// Whether the clients of all commands of a value are in the cluster. It takes no memory.
+/// Whether the clients of all commands of a value are in the cluster.
 pub fn names_value(cluster: &Cluster, value: &Value) -> bool
     ensures { result ≡ names_value cluster.now value.now }
 {
@@ -64,7 +64,7 @@ fn names_entry(cluster: &Cluster, entry: &Entry) -> bool
     names_round(cluster, entry.round) && names_grid(cluster, &entry.grid)
 }
 
-/// Whether the rounds of all entries, and their grids, are in the cluster. It takes no memory.
+/// Whether the rounds of all entries, and their grids, are in the cluster.
 pub fn names_entries(cluster: &Cluster, entries: &[Entry]) -> bool
     ensures { result ≡ list_all (λ (e : Entry). names_entry cluster.now e) entries.now }
 {
@@ -101,7 +101,7 @@ fn names_asking(cluster: &Cluster, asking: Asking) -> bool
     asking.reader < cluster.readers
 }
 
-/// Whether the replacer that a ballot names is in the cluster. It takes no memory.
+/// Whether the replacer that a ballot names is in the cluster.
 pub fn names_ballot(cluster: &Cluster, ballot: Round) -> bool
     ensures { result ≡ names_ballot cluster.now ballot }
 {
@@ -114,7 +114,7 @@ fn are_matchmakers(pool: u16, ids: &[u16]) -> bool
     ids.iter().all(|id| *id < pool)
 }
 
-/// Whether a set has 2f + 1 members, each a matchmaker of the cluster. It takes no memory.
+/// Whether a set has 2f + 1 members, each a matchmaker of the cluster.
 pub fn names_set(cluster: &Cluster, set: &Set) -> bool
     ensures { result ≡ names_set cluster.now set.now }
 {
@@ -231,7 +231,7 @@ fn names_body(cluster: &Cluster, msg: &Msg) -> bool
     }
 }
 
-/// Whether a datagram is to this role, and each name in it lies in the cluster. It takes no memory.
+/// Whether a datagram is to this role, and each name in it lies in the cluster.
 pub fn is_for(cluster: &Cluster, me: RoleId, datagram: &Datagram) -> bool
     ensures { result ≡ (same_role datagram.now.to me && names cluster.now datagram.now) }
 {

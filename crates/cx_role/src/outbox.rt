@@ -78,7 +78,7 @@ impl Outbox {
         &self.list
     }
 
-    /// Forgets what was sent. It takes no memory.
+    /// Forgets what was sent.
     pub fn clear(&mut self)
         ensures { self.new.list ≡ [] }
     {

@@ -117,7 +117,7 @@ pub trait Role: Sized {
         ensures { IsReply rules (state self.old) (outcome_of rules (state self.old) input.Tick) result
             (state self.new) out.new.list };
 
-    /// Whether the role may take a step: until an append fails. It takes no memory.
+    /// Whether the role may take a step: until an append fails.
     fn live(&self) -> bool
         ensures { result ≡ (state self.now).live };
 }

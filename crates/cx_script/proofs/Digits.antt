@@ -2,7 +2,7 @@
 use Rattle.std.proofs.Common.{◌≡◌, ◌≤◌, ◌+◌, ◌*◌, ◌^◌, ◌&&◌, ℕ, Bool, true, false, List, [], ◌∷◌, Option, Some, None, nat_lt, if◌then◌else◌, ◌<◌, length, refl, inl, inr, arith}
 use Rattle.std.proofs.lemmas.Bool.{cases_Bool}
 use Rattle.std.proofs.lemmas.Bool.Decides.{nat_tests}
-use Rattle.cx_script.specs.Words.{number_of}
+use Rattle.cx_script.specs.Words.{word_number}
 use Rattle.std.specs.Char.{is_ascii_digit}
 use Rattle.std.specs.List.{list_all}
 use Rattle.std.specs.Str.Parse.{digits_value_after}
@@ -34,7 +34,7 @@ stopped n b bs =
       | inr other ↦ λ none. rw other refl
     ]
 
-pub all_digits : (word : List ℕ) → 0 < length word → number_of word ≡ after 0 word
+pub all_digits : (word : List ℕ) → 0 < length word → word_number word ≡ after 0 word
 all_digits [] some = absurd (omega arith)
 all_digits (b ∷ bs) some = refl
 

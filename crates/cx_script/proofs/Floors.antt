@@ -20,10 +20,10 @@ use Rattle.cx_base.specs.declared.event.Cut.TheVariants.{Whole}
 use Rattle.cx_base.specs.declared.role.Kind.TheVariants.{Client, Batcher, Leader, Replica, Reader, Replacer}
 use Rattle.cx_script.specs.declared.fault.LineFault.{LineFault}
 use Rattle.cx_script.specs.declared.fault.LineFault.TheVariants.{Long, Number}
-use Rattle.cx_script.specs.Grammar.{◌>>=◌, next, op_at, cut_at, write_event, read_event, session_event, deliver_event, round_of, collect_event, snap_event, replace_event, server_of, event_of, is_comment, event_in, line_event}
+use Rattle.cx_script.specs.Grammar.{◌>>=◌, next_word, op_at, cut_at, write_event, read_event, session_event, deliver_event, grid_order_of, collect_event, snap_event, replace_event, server_of, event_of, is_comment, event_in, line_event}
 use Rattle.cx_script.specs.Places.{fitting, seq_and_floor, seq_word, number_word, key_word, index_word, set_word}
 use Rattle.cx_script.specs.Requests.{has_slash, request_line, tells_no_floor, without_floor}
-use Rattle.cx_script.specs.Words.{is_blank, is_empty, number_of, parts_of, words_of}
+use Rattle.cx_script.specs.Words.{is_blank, is_empty, word_number, parts_of, words_of}
 use Rattle.cx_script.proofs.Cuts.{split_free, split_none, split_some}
 use Rattle.cx_script.proofs.Parts.{and_then_some, anything, either_ok, ended_ok, some_ok, then_ok, whatever}
 use Rattle.cx_script.proofs.Takes.{IsGood, spelled_is_good}
@@ -33,7 +33,7 @@ no_number : (some small : Bool) (n : ℕ) → (if some && false && small then So
 no_number true small n = refl
 no_number false small n = refl
 
-slashed : (word : List ℕ) (i : ℕ) → position (λ b. b == 47) word ≡ Some i → number_of word ≡ None
+slashed : (word : List ℕ) (i : ℕ) → position (λ b. b == 47) word ≡ Some i → word_number word ≡ None
 slashed word i found =
     let is = position-Some (λ b. b == 47) word i 0 found in
     let slash : get_or word i 0 ≡ 47 = eqb-true (get_or word i 0) 47 is.1 in
@@ -51,16 +51,16 @@ no_floor None = refl
 no_floor (Some n) = refl
 
 pub read_at_slash : (seq : List ℕ) (behind : Option (List ℕ))
-    → seq_and_floor (seq ∷ parts_of 47 behind) ≡ option_and_then (λ n. option_and_then (fitting n) (option_map_or number_of behind (Some (n - 1)))) (number_of seq)
+    → seq_and_floor (seq ∷ parts_of 47 behind) ≡ option_and_then (λ n. option_and_then (fitting n) (option_map_or word_number behind (Some (n - 1)))) (word_number seq)
 read_at_slash seq None = refl
 read_at_slash seq (Some rest) = by_place (position (λ b. b == 47) rest) refl
   where
     by_place : (o : Option ℕ) → position (λ b. b == 47) rest ≡ o
-        → seq_and_floor (seq ∷ slice_split (λ b. b == 47) rest) ≡ option_and_then (λ n. option_and_then (fitting n) (number_of rest)) (number_of seq)
+        → seq_and_floor (seq ∷ slice_split (λ b. b == 47) rest) ≡ option_and_then (λ n. option_and_then (fitting n) (word_number rest)) (word_number seq)
     by_place None none = rw (split_none (λ b. b == 47) rest none) refl
     by_place (Some i) found =
         let more : 0 < length (slice_split (λ b. b == 47) (drop (i + 1) rest)) = omega (arith, length-slice_split (λ b. b == 47) (drop (i + 1) rest)) in
-        rw (split_some (λ b. b == 47) rest i found, of_three seq _ _ more, slashed rest i found, no_floor (number_of seq)) refl
+        rw (split_some (λ b. b == 47) rest i found, of_three seq _ _ more, slashed rest i found, no_floor (word_number seq)) refl
 
 -- the words of a line without a slash have none
 onto_plain : (b : ℕ) (parts : List (List ℕ)) → (b == 47) ≡ false → list_any has_slash parts ≡ false → list_any has_slash (onto_first b parts) ≡ false
@@ -82,7 +82,7 @@ among p q [] none = refl
 among p q (word ∷ words) none =
     let tests = or_parts (p word) (list_any p words) none in
     elim (cases_Bool (q word)) [
-      | inl kept ↦ rw kept (or_from (p word) _ tests.0 (among p q words tests.1))
+      | inl selected ↦ rw selected (or_from (p word) _ tests.0 (among p q words tests.1))
       | inr lost ↦ rw lost (among p q words tests.1)
     ]
 
@@ -91,7 +91,7 @@ words_plain line free = among has_slash (λ word. not (is_empty word)) (slice_sp
 
 -- what the next of such words says, and the words after it
 next_plain : {A : Type 0} (P : A → Type 0) (place : List ℕ → Result A LineFault) → ((word : List ℕ) → has_slash word ≡ false → IfOk (place word) P)
-    → (words : List (List ℕ)) → list_any has_slash words ≡ false → IfOk (next place words) (λ part. P part.0 × (list_any has_slash part.1 ≡ false))
+    → (words : List (List ℕ)) → list_any has_slash words ≡ false → IfOk (next_word place words) (λ part. P part.0 × (list_any has_slash part.1 ≡ false))
 next_plain P place each [] free = tt
 next_plain P place each (word ∷ words) free =
     let tests = or_parts (has_slash word) (list_any has_slash words) free in
@@ -99,7 +99,7 @@ next_plain P place each (word ∷ words) free =
 
 -- a number alone tells the number before it
 abbrev IsPlain : ℕ × ℕ → Type 0
-IsPlain told = (told.1 + 1 == told.0) ≡ true
+IsPlain numbers = (numbers.1 + 1 == numbers.0) ≡ true
 
 fitting_plain : (n : ℕ) (b : Bool) → floor_fits n (n - 1) ≡ b → IfSome (if b then Some (n, n - 1) else None) IsPlain
 fitting_plain n true fits = grind (arith, nat_tests)
@@ -109,7 +109,7 @@ seq_plain : (word : List ℕ) → has_slash word ≡ false → IfOk (seq_word wo
 seq_plain word free =
     subst (λ (parts : List (List ℕ)). IfOk (ok_or (seq_and_floor parts) Number) IsPlain) (sym (split_free (λ b. b == 47) word free))
     (some_ok IsPlain (seq_and_floor (word ∷ [])) Number
-    (and_then_some (λ n. ⊤) IsPlain (number_of word) (λ n. fitting n (n - 1)) (anything (number_of word)) (λ n h. fitting_plain n (floor_fits n (n - 1)) refl)))
+    (and_then_some (λ n. ⊤) IsPlain (word_number word) (λ n. fitting n (n - 1)) (anything (word_number word)) (λ n h. fitting_plain n (floor_fits n (n - 1)) refl)))
 
 -- the event of such words tells no floor of its own
 abbrev TellsNone : Event → Type 0
@@ -118,69 +118,69 @@ TellsNone e = tells_no_floor e ≡ true
 write_plain : (c : Cluster) (words : List (List ℕ)) → list_any has_slash words ≡ false → IfOk (write_event c words) TellsNone
 unfolding write_event
 write_plain c words free =
-    then_ok _ TellsNone (next (index_word c Client) words) _ (next_plain (λ i. ⊤) (index_word c Client) (λ word h. whatever (index_word c Client word)) words free) (λ (client, words) h.
-    then_ok _ TellsNone (next seq_word words) _ (next_plain IsPlain seq_word seq_plain words h.1) (λ (told, words) k.
-    then_ok _ TellsNone (next (index_word c Batcher) words) _ (whatever (next (index_word c Batcher) words)) (λ (batcher, words) l.
+    then_ok _ TellsNone (next_word (index_word c Client) words) _ (next_plain (λ i. ⊤) (index_word c Client) (λ word h. whatever (index_word c Client word)) words free) (λ (client, words) h.
+    then_ok _ TellsNone (next_word seq_word words) _ (next_plain IsPlain seq_word seq_plain words h.1) (λ (numbers, words) k.
+    then_ok _ TellsNone (next_word (index_word c Batcher) words) _ (whatever (next_word (index_word c Batcher) words)) (λ (batcher, words) l.
     then_ok _ TellsNone (op_at words) _ (whatever (op_at words)) (λ (op, words) m.
-    ended_ok TellsNone (Write (record { client = client; seq = told.0; floor = told.1; op = op }) batcher) words k.0))))
+    ended_ok TellsNone (Write (record { client = client; seq = numbers.0; floor = numbers.1; op = op }) batcher) words k.0))))
 
 read_plain : (c : Cluster) (words : List (List ℕ)) → list_any has_slash words ≡ false → IfOk (read_event c words) TellsNone
 unfolding read_event
 read_plain c words free =
-    then_ok _ TellsNone (next (index_word c Client) words) _ (next_plain (λ i. ⊤) (index_word c Client) (λ word h. whatever (index_word c Client word)) words free) (λ (client, words) h.
-    then_ok _ TellsNone (next seq_word words) _ (next_plain IsPlain seq_word seq_plain words h.1) (λ (told, words) k.
-    then_ok _ TellsNone (next (index_word c Reader) words) _ (whatever (next (index_word c Reader) words)) (λ (reader, words) l.
-    then_ok _ TellsNone (next (index_word c Replica) words) _ (whatever (next (index_word c Replica) words)) (λ (replica, words) m.
-    then_ok _ TellsNone (next key_word words) _ (whatever (next key_word words)) (λ (key, words) n.
-    ended_ok TellsNone (Read client told.0 told.1 reader replica key) words k.0)))))
+    then_ok _ TellsNone (next_word (index_word c Client) words) _ (next_plain (λ i. ⊤) (index_word c Client) (λ word h. whatever (index_word c Client word)) words free) (λ (client, words) h.
+    then_ok _ TellsNone (next_word seq_word words) _ (next_plain IsPlain seq_word seq_plain words h.1) (λ (numbers, words) k.
+    then_ok _ TellsNone (next_word (index_word c Reader) words) _ (whatever (next_word (index_word c Reader) words)) (λ (reader, words) l.
+    then_ok _ TellsNone (next_word (index_word c Replica) words) _ (whatever (next_word (index_word c Replica) words)) (λ (replica, words) m.
+    then_ok _ TellsNone (next_word key_word words) _ (whatever (next_word key_word words)) (λ (key, words) n.
+    ended_ok TellsNone (Read client numbers.0 numbers.1 reader replica key) words k.0)))))
 
 session_plain : (c : Cluster) (words : List (List ℕ)) → list_any has_slash words ≡ false → IfOk (session_event c words) TellsNone
 unfolding session_event
 session_plain c words free =
-    then_ok _ TellsNone (next (index_word c Client) words) _ (next_plain (λ i. ⊤) (index_word c Client) (λ word h. whatever (index_word c Client word)) words free) (λ (client, words) h.
-    then_ok _ TellsNone (next seq_word words) _ (next_plain IsPlain seq_word seq_plain words h.1) (λ (told, words) k.
-    then_ok _ TellsNone (next (index_word c Replica) words) _ (whatever (next (index_word c Replica) words)) (λ (replica, words) l.
-    then_ok _ TellsNone (next key_word words) _ (whatever (next key_word words)) (λ (key, words) m.
-    ended_ok TellsNone (Session client told.0 told.1 replica key) words k.0))))
+    then_ok _ TellsNone (next_word (index_word c Client) words) _ (next_plain (λ i. ⊤) (index_word c Client) (λ word h. whatever (index_word c Client word)) words free) (λ (client, words) h.
+    then_ok _ TellsNone (next_word seq_word words) _ (next_plain IsPlain seq_word seq_plain words h.1) (λ (numbers, words) k.
+    then_ok _ TellsNone (next_word (index_word c Replica) words) _ (whatever (next_word (index_word c Replica) words)) (λ (replica, words) l.
+    then_ok _ TellsNone (next_word key_word words) _ (whatever (next_word key_word words)) (λ (key, words) m.
+    ended_ok TellsNone (Session client numbers.0 numbers.1 replica key) words k.0))))
 
 deliver_plain : (words : List (List ℕ)) → IfOk (deliver_event words) TellsNone
 unfolding deliver_event
 deliver_plain words =
-    then_ok _ TellsNone (next number_word words) _ (whatever (next number_word words)) (λ (number, words) h.
+    then_ok _ TellsNone (next_word number_word words) _ (whatever (next_word number_word words)) (λ (number, words) h.
     then_ok _ TellsNone (cut_at words) _ (whatever (cut_at words)) (λ cut k. refl))
 
 collect_plain : (c : Cluster) (words : List (List ℕ)) → IfOk (collect_event c words) TellsNone
 unfolding collect_event
 collect_plain c words =
-    then_ok _ TellsNone (next (index_word c Leader) words) _ (whatever (next (index_word c Leader) words)) (λ (leader, words) h.
+    then_ok _ TellsNone (next_word (index_word c Leader) words) _ (whatever (next_word (index_word c Leader) words)) (λ (leader, words) h.
     ended_ok TellsNone (event.Order leader Collect Whole) words refl)
 
 snap_plain : (c : Cluster) (words : List (List ℕ)) → IfOk (snap_event c words) TellsNone
 unfolding snap_event
 snap_plain c words =
-    then_ok _ TellsNone (next (index_word c Replica) words) _ (whatever (next (index_word c Replica) words)) (λ (replica, words) h.
+    then_ok _ TellsNone (next_word (index_word c Replica) words) _ (whatever (next_word (index_word c Replica) words)) (λ (replica, words) h.
     then_ok _ TellsNone (cut_at words) _ (whatever (cut_at words)) (λ cut k. refl))
 
 replace_plain : (c : Cluster) (words : List (List ℕ)) → IfOk (replace_event c words) TellsNone
 unfolding replace_event
 replace_plain c words =
-    then_ok _ TellsNone (next (index_word c Replacer) words) _ (whatever (next (index_word c Replacer) words)) (λ (replacer, words) h.
-    then_ok _ TellsNone (next (set_word c) words) _ (whatever (next (set_word c) words)) (λ (set, words) k.
+    then_ok _ TellsNone (next_word (index_word c Replacer) words) _ (whatever (next_word (index_word c Replacer) words)) (λ (replacer, words) h.
+    then_ok _ TellsNone (next_word (set_word c) words) _ (whatever (next_word (set_word c) words)) (λ (set, words) k.
     then_ok _ TellsNone (cut_at words) _ (whatever (cut_at words)) (λ cut l. refl)))
 
 event_plain : (c : Cluster) (verb : List ℕ) (words : List (List ℕ)) → list_any has_slash words ≡ false → IfOk (event_of c verb words) TellsNone
 unfolding event_of
 event_plain c verb words free =
     let server = whatever (server_of c words) in
-    let round = whatever (round_of c words) in
+    let round = whatever (grid_order_of c words) in
     let or_else : (b : Bool) (r s : Result Event LineFault) → IfOk r TellsNone → IfOk s TellsNone → IfOk (if b then r else s) TellsNone = λ b r s. either_ok TellsNone b r s in
     or_else (bytes_eq verb (codes "write")) _ _ (write_plain c words free) (
     or_else (bytes_eq verb (codes "read")) _ _ (read_plain c words free) (
     or_else (bytes_eq verb (codes "session")) _ _ (session_plain c words free) (
     or_else (bytes_eq verb (codes "deliver")) _ _ (deliver_plain words) (
     or_else (bytes_eq verb (codes "tick")) _ _ (then_ok _ TellsNone (server_of c words) _ server (λ role h. refl)) (
-    or_else (bytes_eq verb (codes "lead")) _ _ (then_ok _ TellsNone (round_of c words) _ round (λ (leader, grid, cut) h. refl)) (
-    or_else (bytes_eq verb (codes "change")) _ _ (then_ok _ TellsNone (round_of c words) _ round (λ (leader, grid, cut) h. refl)) (
+    or_else (bytes_eq verb (codes "lead")) _ _ (then_ok _ TellsNone (grid_order_of c words) _ round (λ (leader, grid, cut) h. refl)) (
+    or_else (bytes_eq verb (codes "change")) _ _ (then_ok _ TellsNone (grid_order_of c words) _ round (λ (leader, grid, cut) h. refl)) (
     or_else (bytes_eq verb (codes "collect")) _ _ (collect_plain c words) (
     or_else (bytes_eq verb (codes "snap")) _ _ (snap_plain c words) (
     or_else (bytes_eq verb (codes "replace")) _ _ (replace_plain c words) (

@@ -8,7 +8,7 @@ use Rattle.cx_base.specs.declared.event.Event.{Event}
 use Rattle.cx_base.specs.declared.role.Kind.TheVariants.{Batcher}
 use Rattle.cx_base.specs.Grid.{Shape}
 use Rattle.cx_base.specs.Role.{role}
-use Rattle.cx_script.specs.Generator.{State, gen_cluster, gen_servers, gen_server, first_grid, gen_grid, later_event, gen_event, drawn, second, third, fourth, next_event}
+use Rattle.cx_script.specs.Generator.{GeneratorState, gen_cluster, gen_servers, gen_server, gen_first_grid, gen_grid, later_event, gen_event, drawn, second_draw, third_draw, fourth_draw, next_event}
 use Rattle.cx_script.specs.Names.{names_members, names_server}
 use Rattle.cx_script.proofs.Takes.{IsGood}
 
@@ -39,7 +39,7 @@ server_named b =
 grid_named : (c : ℕ) → names_members gen_cluster (gen_grid c) ≡ true
 grid_named c =
     let named : Shape → Type 0 = λ g. names_members gen_cluster g ≡ true in
-    either named (c % 3 == 0) first_grid _ refl (either named (c % 3 == 1) _ _ refl refl)
+    either named (c % 3 == 0) gen_first_grid _ refl (either named (c % 3 == 1) _ _ refl refl)
 
 later_good : (made sent a b c d : ℕ) → IsGood gen_cluster (later_event made sent a b c d)
 later_good made sent a b c d =
@@ -62,6 +62,6 @@ event_good : (made sent a b c d : ℕ) → IsGood gen_cluster (gen_event made se
 unfolding gen_event
 event_good made sent a b c d = either (IsGood gen_cluster) (made == 0) _ _ (record { taken = refl; named = refl }) (later_good made sent (a % 100) b c d)
 
-pub generated_is_good : (g : State) (sent : ℕ) → IsGood gen_cluster (next_event g sent)
+pub generated_is_good : (g : GeneratorState) (sent : ℕ) → IsGood gen_cluster (next_event g sent)
 unfolding next_event
-generated_is_good g sent = event_good g.made sent (drawn g.x) (drawn (second g.x)) (drawn (third g.x)) (drawn (fourth g.x))
+generated_is_good g sent = event_good g.made sent (drawn g.x) (drawn (second_draw g.x)) (drawn (third_draw g.x)) (drawn (fourth_draw g.x))

@@ -9,26 +9,26 @@ use Rattle.cx_script.specs.declared.fault.LineFault.{LineFault}
 use Rattle.cx_script.specs.declared.fault.LineFault.TheVariants.{Long}
 use Rattle.cx_script.specs.Grammar.{line_event}
 use Rattle.cx_script.specs.Header.{is_rule, header_in}
-use Rattle.cx_script.specs.Lines.{Spelled, with_line, spelled_from, lines_of, schedule_of}
+use Rattle.cx_script.specs.Lines.{ParsedLines, with_line, spelled_from, lines_of, schedule_of}
 use Rattle.cx_script.specs.Unended.{lines_text}
 use Rattle.cx_script.proofs.Feeds.{IsFree, AreFree, split_feed, lines_of_text, lines_of_unended, first_line_of}
 use Rattle.cx_script.proofs.WholeLines.{parts}
 
 -- what is spelled goes on: a bad line stays the first one, with the events before it, else others may come
-pub record SpelledOn (s all : Spelled) : Type 0 where
+pub record SpelledOn (s all : ParsedLines) : Type 0 where
   pub bad : (line : ℕ) → s.bad ≡ Some line → all ≡ s
   pub more : List Event
   pub events : all.events ≡ s.events ++ more
 
-pub stays : (s : Spelled) → SpelledOn s s
+pub stays : (s : ParsedLines) → SpelledOn s s
 stays s = record { bad = λ line e. refl; more = []; events = sym (append-nil s.events) }
 
-pub on_test : (test : Bool) (n : ℕ) (s all : Spelled) → SpelledOn s all
+pub on_test : (test : Bool) (n : ℕ) (s all : ParsedLines) → SpelledOn s all
     → SpelledOn (if test then record { events = []; bad = Some n } else s) (if test then record { events = []; bad = Some n } else all)
 on_test true n s all on = stays (record { events = []; bad = Some n })
 on_test false n s all on = on
 
-pub on_line : (n : ℕ) (r : Result (Option Event) LineFault) (s all : Spelled) → SpelledOn s all → SpelledOn (with_line n r s) (with_line n r all)
+pub on_line : (n : ℕ) (r : Result (Option Event) LineFault) (s all : ParsedLines) → SpelledOn s all → SpelledOn (with_line n r s) (with_line n r all)
 on_line n (Err fault) s all on = stays (record { events = []; bad = Some n })
 on_line n (Ok event) s all on = record {
   bad = λ line e. ap (with_line n (Ok event)) (on.bad line e);
@@ -51,7 +51,7 @@ long_line c l long =
 
 pub spelled_long : (c : Cluster) (n : ℕ) (l : List ℕ) (ls : List (List ℕ)) → 1024 < length l → spelled_from c n (l ∷ ls) ≡ record { events = []; bad = Some n }
 spelled_long c n l ls long =
-    let bad : Spelled = record { events = []; bad = Some n } in
+    let bad : ParsedLines = record { events = []; bad = Some n } in
     cond_both (nat_lt 65535 n) bad (with_line n (line_event c l) (spelled_from c (n + 1) ls)) (λ s. s ≡ bad) (λ e. refl) (λ e. rw (long_line c l long) refl)
 
 -- the bytes of a line that isn't ended where it is longer than `most`
@@ -63,7 +63,7 @@ some_byte [] some = absurd (omega arith)
 some_byte (b ∷ last) some = omega arith
 
 -- a line that isn't ended counts where it is too long, and then it is bad, whatever follows
-pub last_on : (spell : List (List ℕ) → Spelled) (n : ℕ) → spell [] ≡ record { events = []; bad = None }
+pub last_on : (spell : List (List ℕ) → ParsedLines) (n : ℕ) → spell [] ≡ record { events = []; bad = None }
     → ((l : List ℕ) (ls : List (List ℕ)) → 1024 < length l → spell (l ∷ ls) ≡ record { events = []; bad = Some n })
     → (last more : List ℕ) → IsFree last → SpelledOn (spell (lines_of (overlong 1024 last))) (spell (lines_of (last ++ more)))
 last_on spell n empty long_is_bad last more free =

@@ -4,7 +4,7 @@ use Rattle.std.specs.Str.Lines.{strip_carriage_return}
 use Rattle.std.proofs.lemmas.Bool.{cond_both}
 use Rattle.std.proofs.lemmas.Bool.Decides.{nat_tests}
 use Rattle.std.proofs.lemmas.List.Splits.{join_with_byte-slice_split}
-use Rattle.cx_script.specs.Header.{header_in, header_of, of_length}
+use Rattle.cx_script.specs.Header.{header_in, header_and_rest, of_length}
 use Rattle.cx_script.specs.Lines.{lines_of}
 use Rattle.cx_script.specs.Unended.{lines_text, is_long_header}
 use Rattle.cx_script.proofs.Cuts.{split_free}
@@ -18,8 +18,8 @@ sized header rest = if nat_le (length header) 16384 then Some (header, rest) els
 
 -- it ends in whole lines
 pub header_found : (ls : List (List ℕ)) (bytes header : List ℕ) (behind : List (List ℕ)) → AreFree ls → header_in ls ≡ Some (header, behind)
-    → header_of (lines_text ls ++ bytes) ≡ sized header (lines_text behind ++ bytes)
-unfolding header_of
+    → header_and_rest (lines_text ls ++ bytes) ≡ sized header (lines_text behind ++ bytes)
+unfolding header_and_rest
 header_found ls bytes header behind free found =
     ap (option_and_then of_length) (header_in_on ls bytes free ∙ ap (λ (f : Option (List ℕ × List (List ℕ))). header_on f ls bytes) found)
     ∙ ap (sized header) (join_with_byte-slice_split 10 (lines_text behind ++ bytes))
@@ -33,8 +33,8 @@ too_long text (Some (front, rest)) long =
     rw test refl
 
 pub header_too_long : (ls : List (List ℕ)) (bytes : List ℕ) → AreFree ls → header_in ls ≡ None
-    → IfSome (header_in (parts bytes)) (λ p. 16384 < length (lines_text (map strip_carriage_return ls)) + length p.0) → header_of (lines_text ls ++ bytes) ≡ None
-unfolding header_of
+    → IfSome (header_in (parts bytes)) (λ p. 16384 < length (lines_text (map strip_carriage_return ls)) + length p.0) → header_and_rest (lines_text ls ++ bytes) ≡ None
+unfolding header_and_rest
 header_too_long ls bytes free none long =
     ap (option_and_then of_length) (header_in_on ls bytes free ∙ ap (λ (f : Option (List ℕ × List (List ℕ))). header_on f ls bytes) none)
     ∙ too_long (lines_text (map strip_carriage_return ls)) (header_in (parts bytes)) long
@@ -53,7 +53,7 @@ none_long None text none = tt
 none_long (Some p) text none = cc
 
 -- the header of whole lines and a long line has not ended
-pub header_not_ended : (ls : List (List ℕ)) (last : List ℕ) → AreFree ls → IsFree last → header_in ls ≡ None → header_of (lines_text ls ++ overlong 1024 last) ≡ None
+pub header_not_ended : (ls : List (List ℕ)) (last : List ℕ) → AreFree ls → IsFree last → header_in ls ≡ None → header_and_rest (lines_text ls ++ overlong 1024 last) ≡ None
 header_not_ended ls last free last_free none =
     header_too_long ls (overlong 1024 last) free none
     (none_long (header_in (parts (overlong 1024 last))) (lines_text (map strip_carriage_return ls)) (no_rule_in 1024 last (omega arith) last_free))
@@ -92,7 +92,7 @@ text_long (Some p) n long = omega (arith, long)
 
 -- a header that is too long ends nowhere after it
 pub long_header_stays : (ls : List (List ℕ)) (last more : List ℕ) → AreFree ls → IsFree last → header_in ls ≡ None
-    → is_long_header (lines_text ls ++ overlong 16384 last) ≡ true → header_of (lines_text ls ++ (last ++ more)) ≡ None
+    → is_long_header (lines_text ls ++ overlong 16384 last) ≡ true → header_and_rest (lines_text ls ++ (last ++ more)) ≡ None
 unfolding is_long_header
 long_header_stays ls last more free last_free none long =
     header_too_long ls (last ++ more) free none (by_last (nat_lt 16384 (length (strip_carriage_return last))) refl long)

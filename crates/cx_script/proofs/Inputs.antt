@@ -2,8 +2,8 @@
 use Rattle.std.proofs.Common.{◌≡◌, ◌≤◌, ◌<◌, ◌+◌, ◌++◌, ℕ, Bool, true, false, List, [], length, refl, sym, ap, ◌∙◌, subst, append_assoc, append-nil, arith, nat_lt, nat_le, if◌then◌else◌, Option, Some, None, IfSome, length-append}
 use Rattle.std.specs.Str.Lines.{strip_carriage_return}
 use Rattle.std.proofs.lemmas.Bool.Decides.{nat_tests}
-use Rattle.cx_script.specs.Header.{header_in, header_of}
-use Rattle.cx_script.specs.Unended.{but_last, last_part, lines_text, unended, whole_lines, counted, is_long_header}
+use Rattle.cx_script.specs.Header.{header_in, header_and_rest}
+use Rattle.cx_script.specs.Unended.{but_last, last_part, lines_text, unended, whole_lines, settled_text, is_long_header}
 use Rattle.cx_script.proofs.Feeds.{IsFree, AreFree, bytes_cut, whole_free, unended_free}
 use Rattle.cx_script.proofs.GoesOn.{overlong}
 use Rattle.cx_script.proofs.Headers.{header_found, header_not_ended, long_header_stays}
@@ -11,8 +11,8 @@ use Rattle.cx_script.proofs.Lengths.{HeaderLength, free_behind, header_length, o
 use Rattle.cx_script.proofs.WholeLines.{parts}
 
 -- the bytes that count are the whole lines and a line that is too long
-counted_is : (most : ℕ) (bytes : List ℕ) → counted most bytes ≡ lines_text (but_last (parts bytes)) ++ overlong most (last_part (parts bytes))
-unfolding counted
+counted_is : (most : ℕ) (bytes : List ℕ) → settled_text most bytes ≡ lines_text (but_last (parts bytes)) ++ overlong most (last_part (parts bytes))
+unfolding settled_text
 counted_is most bytes = by_test (nat_lt most (length (strip_carriage_return (unended bytes))))
   where
     by_test : (test : Bool) → (if test then bytes else whole_lines bytes) ≡ lines_text (but_last (parts bytes)) ++ (if test then last_part (parts bytes) else [])
@@ -41,13 +41,13 @@ found_on P on true long header ls last more free last_free = on.found long heade
 found_on P on false long header ls last more free last_free = none_of_all P on long
 
 open_on : (P : Cut → Bool → Cut → Type 0) → OnHeader P → (ls : List (List ℕ)) (last more : List ℕ) → AreFree ls → IsFree last → header_in ls ≡ None
-    → (long : Bool) → is_long_header (lines_text ls ++ overlong 16384 last) ≡ long → P None long (header_of (lines_text ls ++ (last ++ more)))
+    → (long : Bool) → is_long_header (lines_text ls ++ overlong 16384 last) ≡ long → P None long (header_and_rest (lines_text ls ++ (last ++ more)))
 open_on P on ls last more free last_free none true long = rw (long_header_stays ls last more free last_free none long) on.long
-open_on P on ls last more free last_free none false long = on.open_yet (header_of (lines_text ls ++ (last ++ more)))
+open_on P on ls last more free last_free none false long = on.open_yet (header_and_rest (lines_text ls ++ (last ++ more)))
 
 header_on_lines : (P : Cut → Bool → Cut → Type 0) → OnHeader P → (ls : List (List ℕ)) (last more : List ℕ) → AreFree ls → IsFree last
     → (found : Option (List ℕ × List (List ℕ))) → header_in ls ≡ found
-    → P (header_of (lines_text ls ++ overlong 1024 last)) (is_long_header (lines_text ls ++ overlong 16384 last)) (header_of (lines_text ls ++ (last ++ more)))
+    → P (header_and_rest (lines_text ls ++ overlong 1024 last)) (is_long_header (lines_text ls ++ overlong 16384 last)) (header_and_rest (lines_text ls ++ (last ++ more)))
 header_on_lines P on ls last more free last_free (Some (header, behind)) found =
     let behind_free = subst (λ (f : Option (List ℕ × List (List ℕ))). IfSome f (λ p. AreFree p.1)) found (free_behind ls free) in
     rw (header_found ls (overlong 1024 last) header behind free found, header_found ls (last ++ more) header behind free found)
@@ -58,7 +58,7 @@ header_on_lines P on ls last more free last_free None none =
 
 -- the header in the bytes that count, and in all bytes
 pub header_goes_on : (P : Cut → Bool → Cut → Type 0) → OnHeader P → (bytes more : List ℕ)
-    → P (header_of (counted 1024 bytes)) (is_long_header (counted 16384 bytes)) (header_of (bytes ++ more))
+    → P (header_and_rest (settled_text 1024 bytes)) (is_long_header (settled_text 16384 bytes)) (header_and_rest (bytes ++ more))
 header_goes_on P on bytes more =
     let ls = but_last (parts bytes) in
     let last = last_part (parts bytes) in
@@ -89,7 +89,7 @@ found_length Good short ls last header rest free rest_free last_free found lengt
     cc
 
 lines_length : (Good : Cut → Bool → Type 0) → IsShort Good → (ls : List (List ℕ)) (last : List ℕ) → AreFree ls → IsFree last → (found : Option (List ℕ × List (List ℕ))) → header_in ls ≡ found
-    → Good (header_of (lines_text ls ++ overlong 1024 last)) (is_long_header (lines_text ls ++ overlong 16384 last)) → length (lines_text ls) + length last ≤ 68000000
+    → Good (header_and_rest (lines_text ls ++ overlong 1024 last)) (is_long_header (lines_text ls ++ overlong 16384 last)) → length (lines_text ls) + length last ≤ 68000000
 lines_length Good short ls last free last_free (Some (header, rest)) found good =
     let rest_free = subst (λ (f : Option (List ℕ × List (List ℕ))). IfSome f (λ p. AreFree p.1)) found (free_behind ls free) in
     let lengths = subst (λ (f : Option (List ℕ × List (List ℕ))). IfSome f (HeaderLength ls)) found (header_length ls) in
@@ -100,7 +100,7 @@ lines_length Good short ls last free last_free None none good =
     omega (arith, open_header_length ls last free last_free fits)
 
 -- how many bytes are good
-pub input_length : (Good : Cut → Bool → Type 0) → IsShort Good → (bytes : List ℕ) → Good (header_of (counted 1024 bytes)) (is_long_header (counted 16384 bytes)) → length bytes ≤ 68000000
+pub input_length : (Good : Cut → Bool → Type 0) → IsShort Good → (bytes : List ℕ) → Good (header_and_rest (settled_text 1024 bytes)) (is_long_header (settled_text 16384 bytes)) → length bytes ≤ 68000000
 input_length Good short bytes good =
     let ls = but_last (parts bytes) in
     let last = last_part (parts bytes) in

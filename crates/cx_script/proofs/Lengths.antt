@@ -8,7 +8,7 @@ use Rattle.cx_base.specs.declared.event.Event.{Event}
 use Rattle.cx_script.specs.declared.fault.LineFault.{LineFault}
 use Rattle.cx_script.specs.Grammar.{line_event}
 use Rattle.cx_script.specs.Header.{is_rule, header_in}
-use Rattle.cx_script.specs.Lines.{Spelled, with_line, spelled_from, lines_of, schedule_of}
+use Rattle.cx_script.specs.Lines.{ParsedLines, with_line, spelled_from, lines_of, schedule_of}
 use Rattle.cx_script.specs.Unended.{lines_text, is_long_header}
 use Rattle.cx_script.proofs.Feeds.{IsFree, AreFree, lines_of_text, lines_of_unended, strip_long, rule_length}
 use Rattle.cx_script.proofs.GoesOn.{in_front, overlong, some_byte, spelled_long}
@@ -65,7 +65,7 @@ record Short (c : Cluster) (n : ℕ) (ls before : List (List ℕ)) : Type 0 wher
   at : ℕ
   good : (spelled_from c at before).bad ≡ None
 
-good_later : (n : ℕ) (r : Result (Option Event) LineFault) (later : Spelled) → (with_line n r later).bad ≡ None → later.bad ≡ None
+good_later : (n : ℕ) (r : Result (Option Event) LineFault) (later : ParsedLines) → (with_line n r later).bad ≡ None → later.bad ≡ None
 good_later n (Err fault) later good = cc
 good_later n (Ok event) later good = good
 
@@ -76,7 +76,7 @@ short_lines c n (l ∷ ls) before few good = by_count (nat_lt 65535 n) refl good
     by_length : (test : Bool) → nat_lt 1024 (length (strip_carriage_return l)) ≡ test → length (strip_carriage_return l) ≤ 1024
     by_length true e =
         let long : 1024 < length (strip_carriage_return l) = grind (arith, nat_tests) in
-        let bad = ap (λ (s : Spelled). s.bad) (spelled_long c n (strip_carriage_return l) (map strip_carriage_return ls ++ before) long) in
+        let bad = ap (λ (s : ParsedLines). s.bad) (spelled_long c n (strip_carriage_return l) (map strip_carriage_return ls ++ before) long) in
         let clash : Some n ≡ None = sym bad ∙ good in
         cc
     by_length false e = grind (arith, nat_tests)
@@ -103,7 +103,7 @@ short_last c n last free good = by_length (nat_lt 1024 (length (strip_carriage_r
     by_length true e good =
         let long : 1024 < length (strip_carriage_return last) = grind (arith, nat_tests) in
         let some = some_byte last (omega (arith, long)) in
-        let bad = ap (λ ls. (spelled_from c n ls).bad) (lines_of_unended last free some) ∙ ap (λ (s : Spelled). s.bad) (spelled_long c n (strip_carriage_return last) [] long) in
+        let bad = ap (λ ls. (spelled_from c n ls).bad) (lines_of_unended last free some) ∙ ap (λ (s : ParsedLines). s.bad) (spelled_long c n (strip_carriage_return last) [] long) in
         let clash : Some n ≡ None = sym bad ∙ good in
         cc
     by_length false e good =

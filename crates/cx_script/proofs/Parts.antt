@@ -12,11 +12,11 @@ use Rattle.cx_base.specs.Role.{kind_text, role}
 use Rattle.cx_base.specs.Sets.{is_rising}
 use Rattle.cx_script.specs.declared.fault.LineFault.{LineFault}
 use Rattle.cx_script.specs.declared.fault.LineFault.TheVariants.{Number, Role, Grid}
-use Rattle.cx_script.specs.Grammar.{◌>>=◌, next, ended, grid_at}
+use Rattle.cx_script.specs.Grammar.{◌>>=◌, next_word, ended, grid_at}
 use Rattle.cx_base.specs.Cluster.{count_of}
 use Rattle.cx_script.specs.Names.{is_client, names_server, names_members, names_set}
-use Rattle.cx_script.specs.Places.{fitting, seq_and_floor, seq_word, below, index_below, kind_part, index_part, index_word, server_kinds, server_kind, server_in, server_word, sides_word, ids_of, grid_of, members_word, set_in, set_word}
-use Rattle.cx_script.specs.Words.{number_of}
+use Rattle.cx_script.specs.Places.{fitting, seq_and_floor, seq_word, number_if_below, index_below, kind_part, index_part, index_word, server_kinds, server_kind, server_in, server_word, sides_word, ids_of, grid_from_ids, members_word, set_in, set_word}
+use Rattle.cx_script.specs.Words.{word_number}
 
 pub then_ok : {A B : Type 0} (P : A → Type 0) (Q : B → Type 0) (r : Result A LineFault) (more : A → Result B LineFault) → IfOk r P → ((a : A) → P a → IfOk (more a) Q) → IfOk (r >>= more) Q
 then_ok P Q (Ok a) more first rest = rest a first
@@ -26,7 +26,7 @@ pub either_ok : {A : Type 0} (P : A → Type 0) (b : Bool) (r s : Result A LineF
 either_ok P true r s first second = first
 either_ok P false r s first second = second
 
-pub next_ok : {A : Type 0} (P : A → Type 0) (place : List ℕ → Result A LineFault) → ((word : List ℕ) → IfOk (place word) P) → (words : List (List ℕ)) → IfOk (next place words) (λ part. P part.0)
+pub next_ok : {A : Type 0} (P : A → Type 0) (place : List ℕ → Result A LineFault) → ((word : List ℕ) → IfOk (place word) P) → (words : List (List ℕ)) → IfOk (next_word place words) (λ part. P part.0)
 next_ok P place each [] = tt
 next_ok P place each (word ∷ words) = then_ok P (λ part. P part.0) (place word) (λ said. Ok (said, words)) (each word) (λ a h. h)
 
@@ -57,18 +57,18 @@ whatever (Err fault) = tt
 
 -- a floor that fits its number
 abbrev pub Fits : ℕ × ℕ → Type 0
-Fits told = floor_fits told.0 told.1 ≡ true
+Fits numbers = floor_fits numbers.0 numbers.1 ≡ true
 
 fitting_some : (seq floor : ℕ) → IfSome (fitting seq floor) Fits
-fitting_some seq floor = tested (λ (told : ℕ × ℕ). floor_fits told.0 told.1) (seq, floor) (floor_fits seq floor) refl
+fitting_some seq floor = tested (λ (numbers : ℕ × ℕ). floor_fits numbers.0 numbers.1) (seq, floor) (floor_fits seq floor) refl
 
 told_some : (parts : List (List ℕ)) → IfSome (seq_and_floor parts) Fits
 told_some [] = tt
 told_some (seq ∷ []) =
-    and_then_some (λ n. ⊤) Fits (number_of seq) (λ n. fitting n (n - 1)) (anything (number_of seq)) (λ n h. fitting_some n (n - 1))
+    and_then_some (λ n. ⊤) Fits (word_number seq) (λ n. fitting n (n - 1)) (anything (word_number seq)) (λ n h. fitting_some n (n - 1))
 told_some (seq ∷ floor ∷ []) =
-    and_then_some (λ n. ⊤) Fits (number_of seq) (λ n. option_and_then (fitting n) (number_of floor)) (anything (number_of seq)) (λ n h.
-    and_then_some (λ m. ⊤) Fits (number_of floor) (fitting n) (anything (number_of floor)) (λ m k. fitting_some n m))
+    and_then_some (λ n. ⊤) Fits (word_number seq) (λ n. option_and_then (fitting n) (word_number floor)) (anything (word_number seq)) (λ n h.
+    and_then_some (λ m. ⊤) Fits (word_number floor) (fitting n) (anything (word_number floor)) (λ m k. fitting_some n m))
 told_some (seq ∷ floor ∷ part ∷ parts) = tt
 
 pub seq_ok : (word : List ℕ) → IfOk (seq_word word) Fits
@@ -76,7 +76,7 @@ seq_ok word = some_ok Fits (seq_and_floor (slice_split (λ b. b == 47) word)) Nu
 
 index_below_some : (count : ℕ) (digits : List ℕ) → IfSome (index_below count digits) (λ i. nat_lt i count ≡ true)
 index_below_some count digits =
-    and_then_some (λ n. ⊤) (λ i. nat_lt i count ≡ true) (number_of digits) (below count) (anything (number_of digits)) (λ n h. tested (λ m. nat_lt m count) n (nat_lt n count) refl)
+    and_then_some (λ n. ⊤) (λ i. nat_lt i count ≡ true) (word_number digits) (number_if_below count) (anything (word_number digits)) (λ n h. tested (λ m. nat_lt m count) n (nat_lt n count) refl)
 
 pub index_ok : (c : Cluster) (kind : Kind) (word : List ℕ) → IfOk (index_word c kind word) (λ i. nat_lt i (count_of c kind) ≡ true)
 index_ok c kind word =
@@ -119,13 +119,13 @@ where_true P false a h = tt
 members_ok : (c : Cluster) (rows cols : ℕ) (word : List ℕ) → IfOk (members_word c rows cols word) (λ g. names_members c g ≡ true)
 members_ok c rows cols word =
     let ids : Option (List ℕ) = ids_of c.acceptors (slice_split (λ b. b == 44) word) in
-    some_ok (λ g. names_members c g ≡ true) (option_and_then (grid_of rows cols) ids) Grid
-    (and_then_some (λ ids. list_all (λ id. nat_lt id c.acceptors) ids ≡ true) (λ g. names_members c g ≡ true) ids (grid_of rows cols) (ids_some c.acceptors (slice_split (λ b. b == 44) word))
+    some_ok (λ g. names_members c g ≡ true) (option_and_then (grid_from_ids rows cols) ids) Grid
+    (and_then_some (λ ids. list_all (λ id. nat_lt id c.acceptors) ids ≡ true) (λ g. names_members c g ≡ true) ids (grid_from_ids rows cols) (ids_some c.acceptors (slice_split (λ b. b == 44) word))
     (λ ids h. where_true (λ g. names_members c g ≡ true) (is_none (grid_fault rows cols ids)) (make_grid rows cols ids) h))
 
 pub grid_ok : (c : Cluster) (words : List (List ℕ)) → IfOk (grid_at c words) (λ part. names_members c part.0 ≡ true)
 grid_ok c words =
-    then_ok (λ sides. ⊤) (λ part. names_members c part.0 ≡ true) (next sides_word words) (λ (sides, words). next (members_word c sides.0 sides.1) words) (whatever (next sides_word words))
+    then_ok (λ sides. ⊤) (λ part. names_members c part.0 ≡ true) (next_word sides_word words) (λ (sides, words). next_word (members_word c sides.0 sides.1) words) (whatever (next_word sides_word words))
     (λ (sides, words) h. next_ok (λ g. names_members c g ≡ true) (members_word c sides.0 sides.1) (members_ok c sides.0 sides.1) words)
 
 -- the ids of such a set are matchmakers of the cluster

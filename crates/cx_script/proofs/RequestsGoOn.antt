@@ -7,8 +7,8 @@ use Rattle.cx_base.specs.declared.event.Event.{Event}
 use Rattle.cx_script.specs.declared.fault.LineFault.{LineFault}
 use Rattle.cx_script.specs.declared.fault.LineFault.TheVariants.{Number, Word}
 use Rattle.cx_script.specs.Grammar.{line_event}
-use Rattle.cx_script.specs.Lines.{Spelled, with_line, spelled_from, lines_of, schedule_of}
-use Rattle.cx_script.specs.Requests.{has_slash, request_behind, request_line, requests_from, requests_of, rises, with_event, without_floor}
+use Rattle.cx_script.specs.Lines.{ParsedLines, with_line, spelled_from, lines_of, schedule_of}
+use Rattle.cx_script.specs.Requests.{has_slash, request_behind, request_line, requests_from, requests_of, number_rises, with_event, without_floor}
 use Rattle.cx_script.specs.Unended.{lines_text}
 use Rattle.cx_script.proofs.Feeds.{IsFree, AreFree, lines_of_text}
 use Rattle.cx_script.proofs.GoesOn.{SpelledOn, last_on, long_line, on_line, on_test, overlong}
@@ -23,7 +23,7 @@ on_requests c n events (l ∷ ls) before behind on =
 
 requests_long : (c : Cluster) (n : ℕ) (events : List Event) (l : List ℕ) (ls : List (List ℕ)) → 1024 < length l → requests_from c n events (l ∷ ls) ≡ record { events = []; bad = Some n }
 requests_long c n events l ls long =
-    let bad : Spelled = record { events = []; bad = Some n } in
+    let bad : ParsedLines = record { events = []; bad = Some n } in
     cond_both (nat_lt 65535 n) bad (with_line n (request_behind events (request_line c l)) (requests_from c (n + 1) (with_event events (request_line c l)) ls)) (λ s. s ≡ bad) (λ e. refl) (λ e. rw (long_line c l long) refl)
 
 -- what the lines after a node's header spell goes on
@@ -40,7 +40,7 @@ good_from : (c : Cluster) (n : ℕ) (before : List Event) (ls : List (List ℕ))
 good_from c n before [] good = refl
 good_from c n before (l ∷ ls) good = by_count (nat_lt 65535 n) (line_event c l) (λ es. good_from c (n + 1) es ls) good
   where
-    by_rise : (test : Bool) (e : Event) (later schedule : Spelled) → (later.bad ≡ None → schedule.bad ≡ None)
+    by_rise : (test : Bool) (e : Event) (later schedule : ParsedLines) → (later.bad ≡ None → schedule.bad ≡ None)
         → (with_line n (if test then Ok (Some e) else Err Word) later).bad ≡ None → schedule.bad ≡ None
     by_rise true e later schedule others good = others good
     by_rise false e later schedule others good = cc
@@ -50,7 +50,7 @@ good_from c n before (l ∷ ls) good = by_count (nat_lt 65535 n) (line_event c l
         → (spelled_from c (n + 1) ls).bad ≡ None
     by_slash true e others good = cc
     by_slash false e others good =
-        by_rise (rises before e) e (requests_from c (n + 1) (with_event before (Ok (Some e))) ls) (spelled_from c (n + 1) ls) (others (with_event before (Ok (Some e)))) good
+        by_rise (number_rises before e) e (requests_from c (n + 1) (with_event before (Ok (Some e))) ls) (spelled_from c (n + 1) ls) (others (with_event before (Ok (Some e)))) good
 
     by_line : (r : Result (Option Event) LineFault) → ((es : List Event) → (requests_from c (n + 1) es ls).bad ≡ None → (spelled_from c (n + 1) ls).bad ≡ None)
         → (with_line n (request_behind before (without_floor l r)) (requests_from c (n + 1) (with_event before (without_floor l r)) ls)).bad ≡ None

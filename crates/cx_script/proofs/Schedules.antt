@@ -6,11 +6,11 @@ use Rattle.std.specs.List.{slice_split, join_with_byte}
 use Rattle.std.specs.Str.Lines.{strip_carriage_return}
 use Rattle.cx_base.specs.declared.event.Event.{Event}
 use Rattle.cx_script.specs.Header.{is_rule, header_in, of_length}
-use Rattle.cx_script.specs.Lines.{Spelled, lines_in, lines_of}
+use Rattle.cx_script.specs.Lines.{ParsedLines, lines_in, lines_of}
 use Rattle.cx_script.specs.Words.{is_empty, parts_of}
 
 -- what is spelled after some events
-abbrev pub after : List Event → Spelled → Spelled
+abbrev pub after : List Event → ParsedLines → ParsedLines
 after events later = record { events = events ++ later.events; bad = later.bad }
 
 -- what is left is its parts, joined again

@@ -66,12 +66,12 @@ abbrev pub gen_server : ℕ → RoleId
 gen_server b = get_or gen_servers (b % 18) (role Batcher 0)
 
 -- its grids
-abbrev pub first_grid : Shape
-first_grid = make_grid 2 2 (0 ∷ 1 ∷ 2 ∷ 3 ∷ [])
+abbrev pub gen_first_grid : Shape
+gen_first_grid = make_grid 2 2 (0 ∷ 1 ∷ 2 ∷ 3 ∷ [])
 
 abbrev pub gen_grid : ℕ → Shape
 gen_grid c =
-    if c % 3 == 0 then first_grid
+    if c % 3 == 0 then gen_first_grid
     else if c % 3 == 1 then make_grid 2 2 (2 ∷ 3 ∷ 4 ∷ 5 ∷ [])
     else make_grid 1 3 (0 ∷ 2 ∷ 4 ∷ [])
 
@@ -86,14 +86,14 @@ gen_cut c = if c % 64 == 0 then Torn else if c % 64 == 1 then Kept else Whole
 abbrev pub gen_key : ℕ → List ℕ
 gen_key c = 107 ∷ (48 + c % 8) ∷ []
 
-abbrev pub gen_text : ℕ → List ℕ
-gen_text d = 118 ∷ (48 + d / 3 % 10) ∷ []
+abbrev pub gen_value : ℕ → List ℕ
+gen_value d = 118 ∷ (48 + d / 3 % 10) ∷ []
 
 abbrev pub gen_op : ℕ → ℕ → Op
 gen_op c d =
-    if d % 3 == 0 then Put (gen_key c) (gen_text d)
+    if d % 3 == 0 then Put (gen_key c) (gen_value d)
     else if d % 3 == 1 then Del (gen_key c)
-    else App (gen_key c) (gen_text d)
+    else App (gen_key c) (gen_value d)
 
 -- an event after the first, by what is left of the first draw over 100; a request's floor is the number before its own
 abbrev pub later_event : ℕ → ℕ → ℕ → ℕ → ℕ → ℕ → Event
@@ -110,10 +110,10 @@ later_event made sent a b c d =
 
 -- the event after `made` others, when `sent` datagrams were sent, by its four draws
 unfoldable pub gen_event : ℕ → ℕ → ℕ → ℕ → ℕ → ℕ → Event
-gen_event made sent a b c d = if made == 0 then Order 0 (Lead first_grid) Whole else later_event made sent (a % 100) b c d
+gen_event made sent a b c d = if made == 0 then Order 0 (Lead gen_first_grid) Whole else later_event made sent (a % 100) b c d
 
 -- a generator: its number, and how many events it made
-pub record State : Type 0 where
+pub record GeneratorState : Type 0 where
   pub x : ℕ
   pub made : ℕ
 
@@ -125,18 +125,18 @@ unfoldable pub drawn : ℕ → ℕ
 drawn x = next_number x / 2 ^ 32
 
 -- the numbers of the four draws of the next event
-abbrev pub second : ℕ → ℕ
-second x = next_number x
+abbrev pub second_draw : ℕ → ℕ
+second_draw x = next_number x
 
-abbrev pub third : ℕ → ℕ
-third x = next_number (second x)
+abbrev pub third_draw : ℕ → ℕ
+third_draw x = next_number (second_draw x)
 
-abbrev pub fourth : ℕ → ℕ
-fourth x = next_number (third x)
+abbrev pub fourth_draw : ℕ → ℕ
+fourth_draw x = next_number (third_draw x)
 
 -- the next event, and the generator after it
-unfoldable pub next_event : State → ℕ → Event
-next_event g sent = gen_event g.made sent (drawn g.x) (drawn (second g.x)) (drawn (third g.x)) (drawn (fourth g.x))
+unfoldable pub next_event : GeneratorState → ℕ → Event
+next_event g sent = gen_event g.made sent (drawn g.x) (drawn (second_draw g.x)) (drawn (third_draw g.x)) (drawn (fourth_draw g.x))
 
-unfoldable pub next_state : State → State
-next_state g = record { x = next_number (fourth g.x); made = g.made + 1 }
+unfoldable pub next_state : GeneratorState → GeneratorState
+next_state g = record { x = next_number (fourth_draw g.x); made = g.made + 1 }

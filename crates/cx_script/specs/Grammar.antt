@@ -30,9 +30,9 @@ abbrev pub Part : Type 0 → Type 0
 Part A = Result (A × List (List ℕ)) LineFault
 
 -- what the next word says in its place
-abbrev pub next : {A : Type 0} → (List ℕ → Result A LineFault) → List (List ℕ) → Part A
-next place [] = Err Word
-next place (word ∷ words) = place word >>= (λ said. Ok (said, words))
+abbrev pub next_word : {A : Type 0} → (List ℕ → Result A LineFault) → List (List ℕ) → Part A
+next_word place [] = Err Word
+next_word place (word ∷ words) = place word >>= (λ said. Ok (said, words))
 
 -- no word is left
 abbrev pub ended : {A : Type 0} → A → List (List ℕ) → Result A LineFault
@@ -48,90 +48,90 @@ cut_at (word ∷ words) =
     else Err Word
 
 -- K T
-abbrev pub pair_at : List (List ℕ) → Part (List ℕ × List ℕ)
-pair_at words =
-    next key_word words >>= (λ (key, words).
-    next text_word words >>= (λ (text, words).
+abbrev pub key_text_at : List (List ℕ) → Part (List ℕ × List ℕ)
+key_text_at words =
+    next_word key_word words >>= (λ (key, words).
+    next_word text_word words >>= (λ (text, words).
     Ok ((key, text), words)))
 
 -- RxC a,b,..
 abbrev pub grid_at : Cluster → List (List ℕ) → Part Shape
-grid_at c words = next sides_word words >>= (λ (sides, words). next (members_word c sides.0 sides.1) words)
+grid_at c words = next_word sides_word words >>= (λ (sides, words). next_word (members_word c sides.0 sides.1) words)
 
 -- put K T, del K, app K T
 abbrev pub op_at : List (List ℕ) → Part Op
 op_at [] = Err Word
 op_at (verb ∷ words) =
-    if bytes_eq verb (codes "put") then pair_at words >>= (λ (pair, words). Ok (Put pair.0 pair.1, words))
-    else if bytes_eq verb (codes "del") then next key_word words >>= (λ (key, words). Ok (Del key, words))
-    else if bytes_eq verb (codes "app") then pair_at words >>= (λ (pair, words). Ok (App pair.0 pair.1, words))
+    if bytes_eq verb (codes "put") then key_text_at words >>= (λ (pair, words). Ok (Put pair.0 pair.1, words))
+    else if bytes_eq verb (codes "del") then next_word key_word words >>= (λ (key, words). Ok (Del key, words))
+    else if bytes_eq verb (codes "app") then key_text_at words >>= (λ (pair, words). Ok (App pair.0 pair.1, words))
     else Err Word
 
 -- client:C SEQ batcher:B, then what to do
 unfoldable pub write_event : Cluster → List (List ℕ) → Result Event LineFault
 write_event c words =
-    next (index_word c Client) words >>= (λ (client, words).
-    next seq_word words >>= (λ (told, words).
-    next (index_word c Batcher) words >>= (λ (batcher, words).
+    next_word (index_word c Client) words >>= (λ (client, words).
+    next_word seq_word words >>= (λ (numbers, words).
+    next_word (index_word c Batcher) words >>= (λ (batcher, words).
     op_at words >>= (λ (op, words).
-    ended (Write (record { client = client; seq = told.0; floor = told.1; op = op }) batcher) words))))
+    ended (Write (record { client = client; seq = numbers.0; floor = numbers.1; op = op }) batcher) words))))
 
 -- client:C SEQ reader:R replica:P K
 unfoldable pub read_event : Cluster → List (List ℕ) → Result Event LineFault
 read_event c words =
-    next (index_word c Client) words >>= (λ (client, words).
-    next seq_word words >>= (λ (told, words).
-    next (index_word c Reader) words >>= (λ (reader, words).
-    next (index_word c Replica) words >>= (λ (replica, words).
-    next key_word words >>= (λ (key, words).
-    ended (Read client told.0 told.1 reader replica key) words)))))
+    next_word (index_word c Client) words >>= (λ (client, words).
+    next_word seq_word words >>= (λ (numbers, words).
+    next_word (index_word c Reader) words >>= (λ (reader, words).
+    next_word (index_word c Replica) words >>= (λ (replica, words).
+    next_word key_word words >>= (λ (key, words).
+    ended (Read client numbers.0 numbers.1 reader replica key) words)))))
 
 -- client:C SEQ replica:P K
 unfoldable pub session_event : Cluster → List (List ℕ) → Result Event LineFault
 session_event c words =
-    next (index_word c Client) words >>= (λ (client, words).
-    next seq_word words >>= (λ (told, words).
-    next (index_word c Replica) words >>= (λ (replica, words).
-    next key_word words >>= (λ (key, words).
-    ended (Session client told.0 told.1 replica key) words))))
+    next_word (index_word c Client) words >>= (λ (client, words).
+    next_word seq_word words >>= (λ (numbers, words).
+    next_word (index_word c Replica) words >>= (λ (replica, words).
+    next_word key_word words >>= (λ (key, words).
+    ended (Session client numbers.0 numbers.1 replica key) words))))
 
 -- N, and a cut
 unfoldable pub deliver_event : List (List ℕ) → Result Event LineFault
 deliver_event words =
-    next number_word words >>= (λ (number, words).
+    next_word number_word words >>= (λ (number, words).
     cut_at words >>= (λ cut.
     Ok (Deliver number cut)))
 
 -- leader:L RxC a,b,.., and a cut
-unfoldable pub round_of : Cluster → List (List ℕ) → Result (ℕ × Shape × Cut) LineFault
-round_of c words =
-    next (index_word c Leader) words >>= (λ (leader, words).
+unfoldable pub grid_order_of : Cluster → List (List ℕ) → Result (ℕ × Shape × Cut) LineFault
+grid_order_of c words =
+    next_word (index_word c Leader) words >>= (λ (leader, words).
     grid_at c words >>= (λ (grid, words).
     cut_at words >>= (λ cut.
     Ok (leader, grid, cut))))
 
 -- leader:L
 unfoldable pub collect_event : Cluster → List (List ℕ) → Result Event LineFault
-collect_event c words = next (index_word c Leader) words >>= (λ (leader, words). ended (event.Order leader Collect Whole) words)
+collect_event c words = next_word (index_word c Leader) words >>= (λ (leader, words). ended (event.Order leader Collect Whole) words)
 
 -- replica:P, and a cut
 unfoldable pub snap_event : Cluster → List (List ℕ) → Result Event LineFault
 snap_event c words =
-    next (index_word c Replica) words >>= (λ (replica, words).
+    next_word (index_word c Replica) words >>= (λ (replica, words).
     cut_at words >>= (λ cut.
     Ok (Snap replica cut)))
 
 -- replacer:X a,b,.., and a cut
 unfoldable pub replace_event : Cluster → List (List ℕ) → Result Event LineFault
 replace_event c words =
-    next (index_word c Replacer) words >>= (λ (replacer, words).
-    next (set_word c) words >>= (λ (set, words).
+    next_word (index_word c Replacer) words >>= (λ (replacer, words).
+    next_word (set_word c) words >>= (λ (set, words).
     cut_at words >>= (λ cut.
     Ok (event.Replace replacer set cut))))
 
 -- ROLE
 unfoldable pub server_of : Cluster → List (List ℕ) → Result RoleId LineFault
-server_of c words = next (server_word c) words >>= (λ (role, words). ended role words)
+server_of c words = next_word (server_word c) words >>= (λ (role, words). ended role words)
 
 -- the event that a line's first word and the words after it spell
 unfoldable pub event_of : Cluster → List ℕ → List (List ℕ) → Result Event LineFault
@@ -141,8 +141,8 @@ event_of c verb words =
     else if bytes_eq verb (codes "session") then session_event c words
     else if bytes_eq verb (codes "deliver") then deliver_event words
     else if bytes_eq verb (codes "tick") then server_of c words >>= (λ role. Ok (Tick role))
-    else if bytes_eq verb (codes "lead") then round_of c words >>= (λ (leader, grid, cut). Ok (event.Order leader (Lead grid) cut))
-    else if bytes_eq verb (codes "change") then round_of c words >>= (λ (leader, grid, cut). Ok (event.Order leader (Change grid) cut))
+    else if bytes_eq verb (codes "lead") then grid_order_of c words >>= (λ (leader, grid, cut). Ok (event.Order leader (Lead grid) cut))
+    else if bytes_eq verb (codes "change") then grid_order_of c words >>= (λ (leader, grid, cut). Ok (event.Order leader (Change grid) cut))
     else if bytes_eq verb (codes "collect") then collect_event c words
     else if bytes_eq verb (codes "snap") then snap_event c words
     else if bytes_eq verb (codes "replace") then replace_event c words

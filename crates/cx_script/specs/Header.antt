@@ -21,5 +21,5 @@ abbrev pub of_length : List ℕ × List (List ℕ) → Option (List ℕ × List 
 of_length (header, behind) = if nat_le (length header) 16384 then Some (header, join_with_byte 10 behind) else None
 
 -- the header's text and the bytes after it, none where there is no such line or the header is longer
-unfoldable pub header_of : List ℕ → Option (List ℕ × List ℕ)
-header_of bytes = option_and_then of_length (header_in (slice_split (λ b. b == 10) bytes))
+unfoldable pub header_and_rest : List ℕ → Option (List ℕ × List ℕ)
+header_and_rest bytes = option_and_then of_length (header_in (slice_split (λ b. b == 10) bytes))

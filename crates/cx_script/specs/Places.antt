@@ -8,21 +8,21 @@ use Rattle.cx_base.specs.declared.role.Kind.{Kind}
 use Rattle.cx_base.specs.declared.role.Kind.TheVariants.{Batcher, Leader, Proxy, Acceptor, Matchmaker, Replica, Unbatcher, Reader, Replacer}
 use Rattle.cx_base.specs.declared.role.RoleId.{RoleId}
 use Rattle.cx_base.specs.Grid.{Shape, make_grid, grid_fault}
-use Rattle.cx_base.specs.Name.{name_of}
+use Rattle.cx_base.specs.Name.{as_name}
 use Rattle.cx_base.specs.Role.{kind_text, role}
 use Rattle.cx_base.specs.Sets.{is_rising}
 use Rattle.cx_script.specs.declared.fault.LineFault.{LineFault}
 use Rattle.cx_script.specs.declared.fault.LineFault.TheVariants.{Number, Role, Grid, Key}
 use Rattle.cx_base.specs.Cluster.{count_of}
-use Rattle.cx_script.specs.Words.{number_of}
+use Rattle.cx_script.specs.Words.{word_number}
 
 -- SEQ or SEQ/FLOOR: a request's number and the floor that it tells, which is the number before where SEQ stands alone
 abbrev pub fitting : ℕ → ℕ → Option (ℕ × ℕ)
 fitting seq floor = if floor_fits seq floor then Some (seq, floor) else None
 
 abbrev pub seq_and_floor : List (List ℕ) → Option (ℕ × ℕ)
-seq_and_floor (seq ∷ []) = option_and_then (λ n. fitting n (n - 1)) (number_of seq)
-seq_and_floor (seq ∷ floor ∷ []) = option_and_then (λ n. option_and_then (fitting n) (number_of floor)) (number_of seq)
+seq_and_floor (seq ∷ []) = option_and_then (λ n. fitting n (n - 1)) (word_number seq)
+seq_and_floor (seq ∷ floor ∷ []) = option_and_then (λ n. option_and_then (fitting n) (word_number floor)) (word_number seq)
 seq_and_floor other = None
 
 abbrev pub seq_word : List ℕ → Result (ℕ × ℕ) LineFault
@@ -30,21 +30,21 @@ seq_word word = ok_or (seq_and_floor (slice_split (λ b. b == 47) word)) Number
 
 -- N: any number
 abbrev pub number_word : List ℕ → Result ℕ LineFault
-number_word word = ok_or (number_of word) Number
+number_word word = ok_or (word_number word) Number
 
 -- K and T: a key, a text
 abbrev pub key_word : List ℕ → Result (List ℕ) LineFault
-key_word word = ok_or (name_of 32 word) Key
+key_word word = ok_or (as_name 32 word) Key
 
 abbrev pub text_word : List ℕ → Result (List ℕ) LineFault
-text_word word = ok_or (name_of 64 word) Key
+text_word word = ok_or (as_name 64 word) Key
 
 -- the number that digits spell, where it is below a count
-abbrev pub below : ℕ → ℕ → Option ℕ
-below count number = if nat_lt number count then Some number else None
+abbrev pub number_if_below : ℕ → ℕ → Option ℕ
+number_if_below count number = if nat_lt number count then Some number else None
 
 abbrev pub index_below : ℕ → List ℕ → Option ℕ
-index_below count digits = option_and_then (below count) (number_of digits)
+index_below count digits = option_and_then (number_if_below count) (word_number digits)
 
 -- a role's text is its kind, a colon and its index
 abbrev pub kind_part : List ℕ → List ℕ
@@ -80,18 +80,18 @@ abbrev pub sides_of : Option ℕ → Option ℕ → Option (ℕ × ℕ)
 sides_of rows cols = option_and_then (λ r. option_and_then (λ c. if sides_fit r c then Some (r, c) else None) cols) rows
 
 abbrev pub sides_word : List ℕ → Result (ℕ × ℕ) LineFault
-sides_word word = ok_or (sides_of (number_of (before_first (λ b. b == 120) word)) (number_of (after_first (λ b. b == 120) word))) Grid
+sides_word word = ok_or (sides_of (word_number (before_first (λ b. b == 120) word)) (word_number (after_first (λ b. b == 120) word))) Grid
 
 -- a,b,..: the members of such a grid, acceptors of the cluster
 abbrev pub ids_of : ℕ → List (List ℕ) → Option (List ℕ)
 ids_of count [] = Some []
 ids_of count (part ∷ parts) = option_and_then (λ id. option_map (λ ids. id ∷ ids) (ids_of count parts)) (index_below count part)
 
-abbrev pub grid_of : ℕ → ℕ → List ℕ → Option Shape
-grid_of rows cols ids = if is_none (grid_fault rows cols ids) then Some (make_grid rows cols ids) else None
+abbrev pub grid_from_ids : ℕ → ℕ → List ℕ → Option Shape
+grid_from_ids rows cols ids = if is_none (grid_fault rows cols ids) then Some (make_grid rows cols ids) else None
 
 abbrev pub members_word : Cluster → ℕ → ℕ → List ℕ → Result Shape LineFault
-members_word c rows cols word = ok_or (option_and_then (grid_of rows cols) (ids_of c.acceptors (slice_split (λ b. b == 44) word))) Grid
+members_word c rows cols word = ok_or (option_and_then (grid_from_ids rows cols) (ids_of c.acceptors (slice_split (λ b. b == 44) word))) Grid
 
 -- a,b,..: a set of matchmakers of the cluster, 2f + 1 ids that rise
 abbrev pub set_in : Cluster → List ℕ → Option (List ℕ)

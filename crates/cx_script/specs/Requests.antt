@@ -8,7 +8,7 @@ use Rattle.cx_base.specs.declared.event.Event.TheVariants.{Write, Read, Session,
 use Rattle.cx_script.specs.declared.fault.LineFault.{LineFault}
 use Rattle.cx_script.specs.declared.fault.LineFault.TheVariants.{Number, Word}
 use Rattle.cx_script.specs.Grammar.{line_event}
-use Rattle.cx_script.specs.Lines.{Spelled, with_line, lines_of}
+use Rattle.cx_script.specs.Lines.{ParsedLines, with_line, lines_of}
 use Rattle.cx_script.specs.Names.{names_event}
 
 -- the client and the number of a request, none of another event
@@ -25,12 +25,12 @@ asker (Crash role) = None
 asker (Restart role) = None
 
 -- whether it is a request of this client
-abbrev pub is_of : ℕ → Option (ℕ × ℕ) → Bool
-is_of client None = false
-is_of client (Some (other, seq)) = other == client
+abbrev pub is_of_client : ℕ → Option (ℕ × ℕ) → Bool
+is_of_client client None = false
+is_of_client client (Some (other, seq)) = other == client
 
 abbrev pub asks : ℕ → Event → Bool
-asks client e = is_of client (asker e)
+asks client e = is_of_client client (asker e)
 
 -- the number of a request, 0 of another event
 abbrev pub number_in : Option (ℕ × ℕ) → ℕ
@@ -41,21 +41,21 @@ abbrev pub number_of : Event → ℕ
 number_of e = number_in (asker e)
 
 -- the greatest number of a client's requests, 0 where it has none
-abbrev pub greatest : ℕ → List Event → ℕ
-greatest client [] = 0
-greatest client (e ∷ es) = if asks client e then max (number_of e) (greatest client es) else greatest client es
+abbrev pub greatest_number : ℕ → List Event → ℕ
+greatest_number client [] = 0
+greatest_number client (e ∷ es) = if asks client e then max (number_of e) (greatest_number client es) else greatest_number client es
 
 -- a list has the greatest number of each client
-abbrev pub Tells : List Event → List ℕ → Type 0
-Tells before told = (client : ℕ) → client < 64 → get_or told client 0 ≡ greatest client before
+abbrev pub HasGreatestNumbers : List Event → List ℕ → Type 0
+HasGreatestNumbers before numbers = (client : ℕ) → client < 64 → get_or numbers client 0 ≡ greatest_number client before
 
 -- whether an event is a request whose number is above those of the same client before
-abbrev pub is_above : List Event → Option (ℕ × ℕ) → Bool
-is_above before None = false
-is_above before (Some (client, seq)) = nat_lt (greatest client before) seq
+abbrev pub is_above_earlier : List Event → Option (ℕ × ℕ) → Bool
+is_above_earlier before None = false
+is_above_earlier before (Some (client, seq)) = nat_lt (greatest_number client before) seq
 
-abbrev pub rises : List Event → Event → Bool
-rises before e = is_above before (asker e)
+abbrev pub number_rises : List Event → Event → Bool
+number_rises before e = is_above_earlier before (asker e)
 
 -- whether a line has a slash, as one has that tells a floor
 abbrev pub has_slash : List ℕ → Bool
@@ -74,7 +74,7 @@ request_line c line = without_floor line (line_event c line)
 abbrev pub request_behind : List Event → Result (Option Event) LineFault → Result (Option Event) LineFault
 request_behind before (Err fault) = Err fault
 request_behind before (Ok None) = Ok None
-request_behind before (Ok (Some e)) = if rises before e then Ok (Some e) else Err Word
+request_behind before (Ok (Some e)) = if number_rises before e then Ok (Some e) else Err Word
 
 -- the events before a line and its own
 abbrev pub with_event : List Event → Result (Option Event) LineFault → List Event
@@ -82,14 +82,14 @@ with_event before (Err fault) = before
 with_event before (Ok event) = before ++ option_to_list event
 
 -- what the lines from the n-th on spell after these events; a line that isn't such a request is bad, as is the 65,536th
-abbrev pub requests_from : Cluster → ℕ → List Event → List (List ℕ) → Spelled
+abbrev pub requests_from : Cluster → ℕ → List Event → List (List ℕ) → ParsedLines
 requests_from c n before [] = record { events = []; bad = None }
 requests_from c n before (line ∷ lines) =
     if nat_lt 65535 n then record { events = []; bad = Some n }
     else with_line n (request_behind before (request_line c line)) (requests_from c (n + 1) (with_event before (request_line c line)) lines)
 
 -- what the bytes after a node's header spell; lines count from 1
-unfoldable pub requests_of : Cluster → List ℕ → Spelled
+unfoldable pub requests_of : Cluster → List ℕ → ParsedLines
 requests_of c bytes = requests_from c 1 [] (lines_of bytes)
 
 -- the requests of one client, in their order

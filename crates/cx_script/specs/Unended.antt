@@ -28,8 +28,8 @@ abbrev pub unended : List ℕ → List ℕ
 unended bytes = last_part (slice_split (λ b. b == 10) bytes)
 
 -- all bytes where the line that isn't ended has more than `most` already, else the whole lines
-unfoldable pub counted : ℕ → List ℕ → List ℕ
-counted most bytes = if nat_lt most (length (strip_carriage_return (unended bytes))) then bytes else whole_lines bytes
+unfoldable pub settled_text : ℕ → List ℕ → List ℕ
+settled_text most bytes = if nat_lt most (length (strip_carriage_return (unended bytes))) then bytes else whole_lines bytes
 
 -- whether the lines of a header that isn't ended have more than 16,384 bytes, each with its line feed
 unfoldable pub is_long_header : List ℕ → Bool

@@ -21,8 +21,8 @@ abbrev pub is_number : List ℕ → Bool
 is_number word = not (is_empty word) && list_all is_ascii_digit word && nat_lt (digits_value 10 word) (2 ^ 64)
 
 -- the number that a word spells
-abbrev pub number_of : List ℕ → Option ℕ
-number_of word = if is_number word then Some (digits_value 10 word) else None
+abbrev pub word_number : List ℕ → Option ℕ
+word_number word = if is_number word then Some (digits_value 10 word) else None
 
 -- the parts round a byte of what is left, if anything is
 abbrev pub parts_of : ℕ → Option (List ℕ) → List (List ℕ)

@@ -2,7 +2,7 @@
 
 ghost use Rattle.std.specs.Prelude.{◌≡◌, ◌&&◌, ◌+◌, ◌*◌, ◌^◌, nat_lt, if◌then◌else◌};
 ghost use Rattle.std.specs.Char.{is_ascii_digit, digit_value};
-ghost use Rattle.cx_script.specs.Words.{number_of};
+ghost use Rattle.cx_script.specs.Words.{word_number};
 
 fn with_digit(number: u64, byte: u8) -> Option<u64>
     ensures { result ≡ (if is_ascii_digit byte && nat_lt (number * 10 + digit_value byte) (2 ^ 64)
@@ -15,9 +15,9 @@ fn with_digit(number: u64, byte: u8) -> Option<u64>
 }
 
 /// The number that a word of decimal digits spells, or None where it has no byte or another one, or its number has more
-/// than 64 bits. It takes no memory.
+/// than 64 bits.
 pub fn number(word: &[u8]) -> Option<u64>
-    ensures { result ≡ number_of word.now }
+    ensures { result ≡ word_number word.now }
 {
     if word.is_empty() {
         return None;

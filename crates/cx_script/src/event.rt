@@ -1,7 +1,7 @@
 //! The event of a line.
 
 ghost use Rattle.std.specs.Prelude.{◌≡◌};
-ghost use Rattle.cx_script.specs.Grammar.{write_event, read_event, session_event, deliver_event, round_of, collect_event, snap_event, replace_event, server_of, event_of, line_event};
+ghost use Rattle.cx_script.specs.Grammar.{write_event, read_event, session_event, deliver_event, grid_order_of, collect_event, snap_event, replace_event, server_of, event_of, line_event};
 
 use crate::fault::LineFault;
 use crate::place::is;
@@ -77,9 +77,9 @@ fn deliver_event(mut words: Words) -> Result<Event, LineFault>
 }
 
 /// What a leader is ordered about a round: the leader, the grid, and whether it crashes.
-#[tactic(auto, unfolding(crate::specs::Grammar::round_of))]
+#[tactic(auto, unfolding(crate::specs::Grammar::grid_order_of))]
 fn round(cluster: &Cluster, mut words: Words) -> Result<(u16, Grid, Cut), LineFault>
-    ensures { result ≡ round_of cluster.now words.entry }
+    ensures { result ≡ grid_order_of cluster.now words.entry }
 {
     let leader = words.index(cluster, Kind::Leader)?;
     let grid = words.grid(cluster)?;
@@ -166,7 +166,7 @@ fn event(cluster: &Cluster, verb: &[u8], words: Words) -> Result<Event, LineFaul
 }
 
 /// The event of a line without its line feed, or its first fault. None exactly for a comment, whose first word begins with
-/// `#`, and where there is no word. It takes no memory.
+/// `#`, and where there is no word.
 ///
 /// Words are separated by spaces and tabs. The lines, in this project's own language:
 ///

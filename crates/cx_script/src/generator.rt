@@ -1,7 +1,7 @@
 //! Events made from a seed.
 
 ghost use Rattle.std.specs.Prelude.{◌≡◌, ◌<◌, ◌^◌, ◌+◌};
-ghost use Rattle.cx_script.specs.Generator.{gen_cluster, gen_server, gen_grid, gen_number, gen_cut, gen_key, gen_text, gen_op, gen_event, later_event, next_number, drawn};
+ghost use Rattle.cx_script.specs.Generator.{gen_cluster, gen_server, gen_grid, gen_number, gen_cut, gen_key, gen_value, gen_op, gen_event, later_event, next_number, drawn};
 
 use cx_base::{Cluster, Command, Cut, Event, Grid, Key, Kind, Op, Order, RoleId, Text};
 use std::marker::Model;
@@ -92,7 +92,7 @@ fn key(c: u64) -> Key
 }
 
 fn text(d: u64) -> Text
-    ensures { result ≡ gen_text d }
+    ensures { result ≡ gen_value d }
 {
     Text::new(&[b'v', b'0' + (d / 3 % 10) as u8])
 }
@@ -176,9 +176,9 @@ pub struct Gen {
 }
 
 impl Model for Gen {
-    ghost use Rattle.cx_script.specs.Generator.{State};
+    ghost use Rattle.cx_script.specs.Generator.{GeneratorState};
 
-    ghost Value = { State };
+    ghost Value = { GeneratorState };
 
     ghost view = { λ g. record { x = g.x; made = g.made } };
 }
@@ -186,7 +186,7 @@ impl Model for Gen {
 impl Gen {
     ghost use Rattle.cx_script.specs.Generator.{next_event, next_state};
 
-    /// The generator of this seed. It takes no memory.
+    /// The generator of this seed.
     pub fn new(seed: u64) -> Self
         ensures { result ≡ record { x = seed; made = 0 } }
     {
@@ -206,7 +206,7 @@ impl Gen {
     }
 
     /// The next event of a run in which this many datagrams were sent; a request's number is one more than the number of the
-    /// events before. It takes no memory.
+    /// events before.
     #[tactic(auto, unfolding(crate::specs::Generator::next_event, crate::specs::Generator::next_state))]
     pub fn next(&mut self, sent: u64) -> Event
         requires { self.old.made + 1 < 2 ^ 64 }

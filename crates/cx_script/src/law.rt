@@ -5,7 +5,7 @@ ghost use Rattle.std.specs.List.{list_all};
 ghost use Rattle.cx_base.specs.Asked.{is_valid_event};
 ghost use Rattle.cx_base.specs.declared.cluster.Cluster.{Cluster};
 ghost use Rattle.cx_base.specs.declared.event.Event.{Event};
-ghost use Rattle.cx_script.specs.Generator.{State, next_event, gen_cluster};
+ghost use Rattle.cx_script.specs.Generator.{GeneratorState, next_event, gen_cluster};
 ghost use Rattle.cx_script.specs.Grammar.{line_event};
 ghost use Rattle.cx_script.specs.Lines.{schedule_of};
 ghost use Rattle.cx_script.specs.Names.{names_event};
@@ -23,8 +23,8 @@ pub fn spelled_events_are_taken()
 
 /// A law, whatever the seed: each generated event is one that the world takes, and its names lie in the generator's cluster.
 pub fn generated_events_are_taken()
-    ensures taken { (g : State) (sent : ℕ) → is_valid_event (next_event g sent) ≡ true }
-    ensures named { (g : State) (sent : ℕ) → names_event gen_cluster (next_event g sent) ≡ true }
+    ensures taken { (g : GeneratorState) (sent : ℕ) → is_valid_event (next_event g sent) ≡ true }
+    ensures named { (g : GeneratorState) (sent : ℕ) → names_event gen_cluster (next_event g sent) ≡ true }
 {}
 
 /// A law, whatever the bytes: the requests of each client are a script; each of them is one that the world takes, tells no floor

@@ -29,4 +29,4 @@ pub use law::{generated_events_are_taken, requests_rise, spelled_events_are_take
 pub use lines::Schedule;
 pub use requests::{read_requests, script};
 pub use split::parted;
-pub use unended::{counted, is_long_header};
+pub use unended::{is_long_header, settled_text};

@@ -18,9 +18,9 @@ pub struct Schedule {
 }
 
 impl Model for Schedule {
-    ghost use Rattle.cx_script.specs.Lines.{Spelled};
+    ghost use Rattle.cx_script.specs.Lines.{ParsedLines};
 
-    ghost Value = { Spelled };
+    ghost Value = { ParsedLines };
 
     ghost view = { λ schedule. record { events = schedule.events.items; bad = schedule.bad } };
 }
@@ -72,7 +72,7 @@ pub fn first_line(bytes: &[u8]) -> Option<(&[u8], &[u8])>
 }
 
 /// Puts a value at the end of a list, if there is one.
-pub fn keep<T: Copy + Drop>(list: &mut Vec<T>, value: &Option<T>) -> Result<(), NoMemory>
+pub fn push_some<T: Copy + Drop>(list: &mut Vec<T>, value: &Option<T>) -> Result<(), NoMemory>
     ensures { OnOk result (list.new.items ≡ list.old.items ++ option_to_list value.now) }
 {
     if let Some(value) = value {

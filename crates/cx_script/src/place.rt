@@ -5,7 +5,7 @@ ghost use Rattle.std.specs.List.{slice_split};
 ghost use Rattle.std.specs.Option.{option_copied, option_map_or};
 ghost use Rattle.std.specs.Str.{bytes_eq};
 ghost use Rattle.cx_script.specs.Places.{fitting, seq_and_floor, seq_word, number_word, key_word, text_word, index_below, index_word, server_kind, server_word};
-ghost use Rattle.cx_script.specs.Words.{number_of};
+ghost use Rattle.cx_script.specs.Words.{word_number};
 
 use crate::decimal::number;
 use crate::fault::LineFault;
@@ -31,7 +31,7 @@ fn fitting(seq: u64, floor: u64) -> Option<(u64, u64)>
 
 // The floor that goes with a number: what a slash has behind it, or the number before where there is no slash.
 fn floor_behind(seq: u64, behind: Option<&[u8]>) -> Option<u64>
-    ensures { result ≡ option_map_or number_of (option_copied behind.entry) (Some (seq - 1)) }
+    ensures { result ≡ option_map_or word_number (option_copied behind.entry) (Some (seq - 1)) }
 {
     match behind {
         None => Some(seq.saturating_sub(1)),

@@ -2,11 +2,11 @@
 
 ghost use Rattle.std.specs.Prelude.{◌≡◌, ◌<◌, ◌++◌, List, IfOk, nat_lt, get_or, length, option_to_list, slice_set, if◌then◌else◌};
 ghost use Rattle.cx_base.specs.declared.event.Event.{Event as Happening};
-ghost use Rattle.cx_script.specs.Requests.{Tells, asker, asks, has_slash, request_behind, request_line, requests_of, script_of};
+ghost use Rattle.cx_script.specs.Requests.{HasGreatestNumbers, asker, asks, has_slash, request_behind, request_line, requests_of, script_of};
 
 use crate::event::line;
 use crate::fault::LineFault;
-use crate::lines::{Schedule, first_line, keep};
+use crate::lines::{Schedule, first_line, push_some};
 use cx_base::{Cluster, Event, Greatest, MAX_LINES, NoMemory};
 use std::alloc::Global;
 
@@ -23,7 +23,7 @@ fn asker(event: &Event) -> Option<(u16, u64)>
 }
 
 // Whether a number is above its client's greatest one, which it then becomes.
-fn rises(greatest: &mut Greatest, client: u16, seq: u64) -> bool
+fn number_rises(greatest: &mut Greatest, client: u16, seq: u64) -> bool
     requires { client < 64 }
     ensures above { result ≡ nat_lt (get_or greatest.old client 0) seq }
     ensures noted { greatest.new ≡ (if result then slice_set greatest.old client seq else greatest.old) }
@@ -56,16 +56,16 @@ fn request(
     greatest: &mut Greatest,
     text: &[u8],
 ) -> Result<Option<Event>, LineFault>
-    ensures request { (before : List Happening) → Tells before greatest.old
+    ensures request { (before : List Happening) → HasGreatestNumbers before greatest.old
         → result ≡ request_behind before (request_line cluster.now text.now) }
-    ensures told { (before : List Happening) → Tells before greatest.old
-        → IfOk result (λ event. Tells (before ++ option_to_list event) greatest.new) }
+    ensures numbers { (before : List Happening) → HasGreatestNumbers before greatest.old
+        → IfOk result (λ event. HasGreatestNumbers (before ++ option_to_list event) greatest.new) }
 {
     let Some(event) = request_line(cluster, text)? else {
         return Ok(None);
     };
     match asker(&event) {
-        Some((client, seq)) if rises(greatest, client, seq) => Ok(Some(event)),
+        Some((client, seq)) if number_rises(greatest, client, seq) => Ok(Some(event)),
         _ => Err(LineFault::Word),
     }
 }
@@ -90,7 +90,7 @@ pub fn read_requests(alloc: Global, cluster: &Cluster, bytes: &[u8]) -> Result<S
         let Ok(event) = request(cluster, &mut greatest, text) else {
             return Ok(Schedule::new(events, bad));
         };
-        keep(&mut events, &event)?;
+        push_some(&mut events, &event)?;
         rest = behind;
     }
     Ok(Schedule::new(events, None))

@@ -47,7 +47,7 @@ pub fn first_word(line: &[u8]) -> Option<(&[u8], &[u8])>
 }
 
 /// Where the first such byte is.
-pub fn place_of(word: &[u8], at: u8) -> Option<usize>
+pub fn byte_place(word: &[u8], at: u8) -> Option<usize>
     ensures { result ≡ position (λ b. b == at) word.now }
 {
     word.iter().position(|byte| *byte == at)
@@ -58,7 +58,7 @@ pub fn parted(word: &[u8], at: u8) -> (&[u8], &[u8])
     ensures front { result.0.now ≡ before_first (λ b. b == at) word.now }
     ensures back { result.1.now ≡ after_first (λ b. b == at) word.now }
 {
-    match place_of(word, at) {
+    match byte_place(word, at) {
         Some(place) => (&word[..place], &word[place + 1..]),
         None => (word, &[]),
     }
@@ -69,7 +69,7 @@ pub fn first_part(bytes: &[u8], at: u8) -> (&[u8], Option<&[u8]>)
     ensures parts { slice_split (λ b. b == at) bytes.now ≡ result.0.now ∷ parts_of at (option_copied result.1) }
     ensures shorter { IfSome result.1 (λ rest. length rest.now < length bytes.now) }
 {
-    match place_of(bytes, at) {
+    match byte_place(bytes, at) {
         Some(place) => (&bytes[..place], Some(&bytes[place + 1..])),
         None => (bytes, None),
     }

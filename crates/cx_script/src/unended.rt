@@ -1,10 +1,10 @@
 //! What counts of bytes after which others may come.
 
 ghost use Rattle.std.specs.Prelude.{◌≡◌, ◌≤◌, ◌==◌, drop, length, position, take};
-ghost use Rattle.cx_script.specs.Unended.{counted, is_long_header, unended, whole_lines};
+ghost use Rattle.cx_script.specs.Unended.{settled_text, is_long_header, unended, whole_lines};
 
 use crate::lines::{first_line, without_return};
-use crate::split::place_of;
+use crate::split::byte_place;
 use cx_base::MAX_HEADER_LENGTH;
 
 const LINE_FEED: u8 = b'\n';
@@ -14,7 +14,7 @@ fn feed_from(bytes: &[u8], start: usize) -> Option<usize>
     requires { start ≤ length bytes.now }
     ensures { result ≡ position (λ b. b == 10) (drop start bytes.now) }
 {
-    place_of(&bytes[start..], LINE_FEED)
+    byte_place(&bytes[start..], LINE_FEED)
 }
 
 // How many bytes the whole lines have.
@@ -31,10 +31,10 @@ fn whole_length(bytes: &[u8]) -> usize
 }
 
 /// What counts of bytes after which others may come, where a line has at most `most` bytes: the whole lines, which are ended
-/// by a line feed, and the last one too where it is longer already. It takes no memory.
-#[tactic(auto, unfolding(crate::specs::Unended::counted))]
-pub fn counted(bytes: &[u8], most: usize) -> &[u8]
-    ensures { result.now ≡ counted most bytes.now }
+/// by a line feed, and the last one too where it is longer already.
+#[tactic(auto, unfolding(crate::specs::Unended::settled_text))]
+pub fn settled_text(bytes: &[u8], most: usize) -> &[u8]
+    ensures { result.now ≡ settled_text most bytes.now }
 {
     let (whole, last) = bytes.split_at(whole_length(bytes));
     if without_return(last).len() > most {
@@ -45,7 +45,7 @@ pub fn counted(bytes: &[u8], most: usize) -> &[u8]
 }
 
 /// Whether the lines of a header that hasn't ended have more than 16,384 bytes, each with a line feed in place of a carriage
-/// return and a line feed. It takes no memory.
+/// return and a line feed.
 #[tactic(auto, unfolding(crate::specs::Unended::is_long_header))]
 pub fn is_long_header(bytes: &[u8]) -> bool
     ensures { result ≡ is_long_header bytes.now }

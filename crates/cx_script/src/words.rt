@@ -2,9 +2,9 @@
 
 ghost use Rattle.std.specs.Prelude.{◌≡◌, ◌∷◌, [], MatchResult};
 ghost use Rattle.cx_script.specs.declared.fault.LineFault.TheVariants.{Word};
-ghost use Rattle.cx_script.specs.Grammar.{next, grid_at, op_at, ended, cut_at};
+ghost use Rattle.cx_script.specs.Grammar.{next_word, grid_at, op_at, ended, cut_at};
 ghost use Rattle.cx_script.specs.Places.{seq_word, number_word, key_word, text_word, index_word, server_word, set_word};
-ghost use Rattle.cx_script.specs.Reading.{Reads};
+ghost use Rattle.cx_script.specs.Reading.{ReadsWords};
 
 use crate::fault::LineFault;
 use crate::grid::{members_word, sides_word};
@@ -51,49 +51,49 @@ impl<'a> Words<'a> {
 
     /// A request's number, and the floor that it tells.
     pub fn seq(&mut self) -> Result<(u64, u64), LineFault>
-        ensures { Reads result self.new (next seq_word self.old) }
+        ensures { ReadsWords result self.new (next_word seq_word self.old) }
     {
         seq_word(self.next()?)
     }
 
     /// Any number.
     pub fn number(&mut self) -> Result<u64, LineFault>
-        ensures { Reads result self.new (next number_word self.old) }
+        ensures { ReadsWords result self.new (next_word number_word self.old) }
     {
         number_word(self.next()?)
     }
 
     /// A key.
     pub fn key(&mut self) -> Result<Key, LineFault>
-        ensures { Reads result self.new (next key_word self.old) }
+        ensures { ReadsWords result self.new (next_word key_word self.old) }
     {
         key_word(self.next()?)
     }
 
     /// A text.
     pub fn text(&mut self) -> Result<Text, LineFault>
-        ensures { Reads result self.new (next text_word self.old) }
+        ensures { ReadsWords result self.new (next_word text_word self.old) }
     {
         text_word(self.next()?)
     }
 
     /// The index of a role of this kind.
     pub fn index(&mut self, cluster: &Cluster, kind: Kind) -> Result<u16, LineFault>
-        ensures { Reads result self.new (next (index_word cluster.now kind) self.old) }
+        ensures { ReadsWords result self.new (next_word (index_word cluster.now kind) self.old) }
     {
         index_word(cluster, kind, self.next()?)
     }
 
     /// Any role but a client.
     pub fn server(&mut self, cluster: &Cluster) -> Result<RoleId, LineFault>
-        ensures { Reads result self.new (next (server_word cluster.now) self.old) }
+        ensures { ReadsWords result self.new (next_word (server_word cluster.now) self.old) }
     {
         server_word(cluster, self.next()?)
     }
 
     /// A grid of acceptors.
     pub fn grid(&mut self, cluster: &Cluster) -> Result<Grid, LineFault>
-        ensures { Reads result self.new (grid_at cluster.now self.old) }
+        ensures { ReadsWords result self.new (grid_at cluster.now self.old) }
     {
         let (rows, cols) = sides_word(self.next()?)?;
         members_word(cluster, rows, cols, self.next()?)
@@ -101,14 +101,14 @@ impl<'a> Words<'a> {
 
     /// A set of matchmakers.
     pub fn set(&mut self, cluster: &Cluster) -> Result<Set, LineFault>
-        ensures { Reads result self.new (next (set_word cluster.now) self.old) }
+        ensures { ReadsWords result self.new (next_word (set_word cluster.now) self.old) }
     {
         set_word(cluster, self.next()?)
     }
 
     /// What to do: `put K T`, `del K` or `app K T`.
     pub fn op(&mut self) -> Result<Op, LineFault>
-        ensures { Reads result self.new (op_at self.old) }
+        ensures { ReadsWords result self.new (op_at self.old) }
     {
         let verb = self.next()?;
         if is(verb, "put") {

@@ -115,7 +115,7 @@ put_in a (b ∷ notes) zero own new is inside =
     first : ((b.seq == a.seq) ≡ true) ⊎ ((b.seq == a.seq) ≡ false) → (b.client == a.client) ≡ true
         → nat_lt b.seq a.seq ≡ false → noted_for a.client a.seq (b ∷ notes) ≡ None
         → a ∷ b ∷ notes ≡ with_note a (b ∷ notes)
-    first (inl e) s low new = (let held : Some b ≡ None = rw (s, e) at new in cc)
+    first (inl e) s low new = (let never : Some b ≡ None = rw (s, e) at new in cc)
     first (inr e) s low new =
         let less : nat_lt a.seq b.seq ≡ true = grind (arith, nat_tests, e, low) in
         let turned : (a.client == b.client) ≡ true = grind (arith, nat_tests, s) in
@@ -174,5 +174,5 @@ at_end a (b ∷ notes) own new all =
   where
     rest : ((b.seq == a.seq) ≡ true) ⊎ ((b.seq == a.seq) ≡ false) → (b.client == a.client) ≡ true
         → noted_for a.client a.seq (b ∷ notes) ≡ None → noted_for a.client a.seq notes ≡ None
-    rest (inl e) s new = (let held : Some b ≡ None = rw (s, e) at new in cc)
+    rest (inl e) s new = (let never : Some b ≡ None = rw (s, e) at new in cc)
     rest (inr e) s new = rw (s, e) at new

@@ -11,8 +11,8 @@ use Rattle.cx_base.specs.declared.command.Answered.{Answered}
 use Rattle.cx_base.specs.declared.command.Floor.{Floor}
 use Rattle.cx_base.specs.declared.command.Note.{Note}
 use Rattle.cx_base.specs.Lists.{rises}
-use Rattle.cx_base.specs.Noted.{Table, are_rising, comes_before, floor_of, is_answer_of, is_done, is_settled, noted_for, still_noted, with_answer, with_floor, with_note}
-use Rattle.cx_table.specs.Entries.{answer_of, are_above, are_notes_above, has_lower, is_above}
+use Rattle.cx_base.specs.Noted.{Table, are_rising, comes_before, floor_of, is_answer_of, is_done, is_answer_done, noted_for, still_noted, with_answer, with_floor, with_note}
+use Rattle.cx_table.specs.Entries.{answer_of, are_above, are_notes_above, has_lower, is_above_floor}
 use Rattle.cx_table.specs.Judged.{judge_of}
 use Rattle.cx_table.specs.declared.judge.Judge.TheVariants as judge
 use Rattle.cx_table.proofs.Notes.{all_at}
@@ -48,24 +48,24 @@ below_last client floor n (f ∷ floors) rising =
     (grind (arith, nat_tests, first, next), and_from (nat_lt f.client client) (are_floors_below client floors) here rest.1)
 
 told_below : (client k seq : ℕ) (floors : List Floor) → are_floors_below client floors ≡ true
-    → is_above seq (floor_of k floors) ≡ true → nat_lt k client ≡ true
+    → is_above_floor seq (floor_of k floors) ≡ true → nat_lt k client ≡ true
 told_below client k seq [] below told = cc
 told_below client k seq (f ∷ floors) below told =
     let parts = and_parts (nat_lt f.client client) (are_floors_below client floors) below in
     go (cases_Bool (f.client == k)) parts.0 told (told_below client k seq floors parts.1)
   where
     go : ((f.client == k) ≡ true) ⊎ ((f.client == k) ≡ false)
-        → nat_lt f.client client ≡ true → is_above seq (floor_of k (f ∷ floors)) ≡ true
-        → (is_above seq (floor_of k floors) ≡ true → nat_lt k client ≡ true) → nat_lt k client ≡ true
+        → nat_lt f.client client ≡ true → is_above_floor seq (floor_of k (f ∷ floors)) ≡ true
+        → (is_above_floor seq (floor_of k floors) ≡ true → nat_lt k client ≡ true) → nat_lt k client ≡ true
     go (inl s) first told rest = grind (arith, nat_tests, s, first)
     go (inr s) first told rest = rest (rw s at told)
 
 answers_below : (client : ℕ) (floors : List Floor) (notes : List Answered) → are_floors_below client floors ≡ true
-    → list_all (λ (a : Answered). is_above a.seq (floor_of a.client floors)) notes ≡ true
+    → list_all (λ (a : Answered). is_above_floor a.seq (floor_of a.client floors)) notes ≡ true
     → are_answers_below client notes ≡ true
 answers_below client floors [] below all = refl
 answers_below client floors (a ∷ notes) below all =
-    let parts = and_parts (is_above a.seq (floor_of a.client floors)) (list_all (λ (x : Answered). is_above x.seq (floor_of x.client floors)) notes) all in
+    let parts = and_parts (is_above_floor a.seq (floor_of a.client floors)) (list_all (λ (x : Answered). is_above_floor x.seq (floor_of x.client floors)) notes) all in
     and_from (nat_lt a.client client) (are_answers_below client notes) (told_below client a.client a.seq floors below parts.0)
     (answers_below client floors notes below parts.1)
 
@@ -142,11 +142,11 @@ none_noted a (b ∷ notes) all =
     rw other (none_noted a notes parts.1)
 
 all_stay : (client floor : ℕ) (notes : List Answered)
-    → list_all (λ (a : Answered). not (is_settled client floor a)) notes ≡ true
+    → list_all (λ (a : Answered). not (is_answer_done client floor a)) notes ≡ true
     → still_noted client floor notes ≡ notes
 all_stay client floor [] all = refl
 all_stay client floor (a ∷ notes) all =
-    let parts = and_parts (not (is_settled client floor a)) (list_all (λ (x : Answered). not (is_settled client floor x)) notes) all in
+    let parts = and_parts (not (is_answer_done client floor a)) (list_all (λ (x : Answered). not (is_answer_done client floor x)) notes) all in
     rw parts.0 (ap (λ (l : List Answered). a ∷ l) (all_stay client floor notes parts.1))
 
 -- others' answers come before a client's, and aren't settled by its floor
@@ -160,12 +160,12 @@ others_before client seq at a own (b ∷ notes) below =
     (others_before client seq at a own notes parts.1)
 
 others_stay : (client floor : ℕ) (notes : List Answered) → are_answers_below client notes ≡ true
-    → list_all (λ (a : Answered). not (is_settled client floor a)) notes ≡ true
+    → list_all (λ (a : Answered). not (is_answer_done client floor a)) notes ≡ true
 others_stay client floor [] below = refl
 others_stay client floor (b ∷ notes) below =
     let parts = and_parts (nat_lt b.client client) (are_answers_below client notes) below in
     let first = parts.0 in
-    and_from (not (is_settled client floor b)) (list_all (λ (x : Answered). not (is_settled client floor x)) notes)
+    and_from (not (is_answer_done client floor b)) (list_all (λ (x : Answered). not (is_answer_done client floor x)) notes)
     (grind (arith, nat_tests, first)) (others_stay client floor notes parts.1)
 
 -- the client's own ones of lower numbers come before, and lie above its floor
@@ -180,12 +180,12 @@ own_before client n (m ∷ before) lower =
     (grind (arith, nat_tests, first, own)) (own_before client n before parts.1)
 
 own_stay : (client floor : ℕ) (notes : List Note) → are_notes_above floor notes ≡ true
-    → list_all (λ (a : Answered). not (is_settled client floor a)) (map (answer_of client) notes) ≡ true
+    → list_all (λ (a : Answered). not (is_answer_done client floor a)) (map (answer_of client) notes) ≡ true
 own_stay client floor [] above = refl
 own_stay client floor (n ∷ notes) above =
     let parts = and_parts (nat_lt floor n.seq) (are_notes_above floor notes) above in
     let first = parts.0 in
-    and_from (not (is_settled client floor (answer_of client n))) (list_all (λ (a : Answered). not (is_settled client floor a)) (map (answer_of client) notes))
+    and_from (not (is_answer_done client floor (answer_of client n))) (list_all (λ (a : Answered). not (is_answer_done client floor a)) (map (answer_of client) notes))
     (grind (arith, nat_tests, first)) (own_stay client floor notes parts.1)
 
 -- of rising notes those before a place are of lower numbers than the one there
@@ -245,7 +245,7 @@ module _ (client floor : ℕ) (first : Table) (notes : List Note) (i : ℕ) (n :
       ≡ first.notes ++ map (answer_of client) (take (i + 1) notes)
   stays =
       all_stay client floor (first.notes ++ map (answer_of client) (take (i + 1) notes))
-      (list_all-append (λ (a : Answered). not (is_settled client floor a)) first.notes (map (answer_of client) (take (i + 1) notes))
+      (list_all-append (λ (a : Answered). not (is_answer_done client floor a)) first.notes (map (answer_of client) (take (i + 1) notes))
       ∙ and_from _ _ (others_stay client floor first.notes answers) (own_stay client floor (take (i + 1) notes) (front_all (λ (x : Note). nat_lt floor x.seq) notes (i + 1) free)))
 
   pub is_new_there : (now : Table) → IsPushed client floor first (take i notes) now → judge_of now client n.seq ≡ judge.New

@@ -42,7 +42,7 @@ none_noted_left client seq q (a ∷ notes) none = go (cases_Bool (q a)) (cases_B
     go : (q a ≡ true) ⊎ (q a ≡ false) → (is_answer_of client seq a ≡ true) ⊎ (is_answer_of client seq a ≡ false)
         → (noted_for client seq notes ≡ None → noted_for client seq (filter q notes) ≡ None)
         → noted_for client seq (a ∷ notes) ≡ None → noted_for client seq (filter q (a ∷ notes)) ≡ None
-    go t (inl s) rest none = (let held : Some a ≡ None = rw s at none in cc)
+    go t (inl s) rest none = (let never : Some a ≡ None = rw s at none in cc)
     go (inl t) (inr s) rest none = (let later : noted_for client seq notes ≡ None = rw s at none in rw (t, s) (rest later))
     go (inr t) (inr s) rest none = (let later : noted_for client seq notes ≡ None = rw s at none in rw t (rest later))
 
@@ -113,7 +113,7 @@ rise_with a (b ∷ notes) new rising = go (cases_Bool (is_answer_of a.client a.s
         → (noted_for a.client a.seq notes ≡ None → rises comes_before notes ≡ true
         → rises comes_before (with_note a notes) ≡ true)
         → rises comes_before (with_note a (b ∷ notes)) ≡ true
-    go (inl s) h p none rest = (let held : Some b ≡ None = rw s at none in cc)
+    go (inl s) h p none rest = (let never : Some b ≡ None = rw s at none in cc)
     go (inr s) (inl h) p none rest =
         rw h (and_from (list_all (comes_before a) (b ∷ notes)) (rises comes_before (b ∷ notes)) (and_from (comes_before a b) (list_all (comes_before a) notes) h (before_all a b notes h p.0)) rising)
     go (inr s) (inr h) p none rest =

@@ -9,13 +9,13 @@ use Rattle.std.proofs.lemmas.Bool.Decides.{nat_tests}
 use Rattle.cx_base.specs.declared.command.Answered.{Answered}
 use Rattle.cx_base.specs.declared.command.Floor.{Floor}
 use Rattle.cx_base.specs.Lists.{rises}
-use Rattle.cx_base.specs.Noted.{Table, are_rising, comes_before, floor_of, is_answer_of, is_done, is_settled, noted_for}
+use Rattle.cx_base.specs.Noted.{Table, are_rising, comes_before, floor_of, is_answer_of, is_done, is_answer_done, noted_for}
 use Rattle.cx_base.specs.Noted.{still_noted, with_answer, with_floor, with_note, with_told}
 use Rattle.cx_base.proofs.Used.{none_placed, same_client, still_rising, turned_test}
-use Rattle.cx_table.specs.Entries.{IsHeld, above, are_above, are_of, floor_in, is_above, is_lower, notes_in, of_client}
-use Rattle.cx_table.specs.Entries.{raised}
+use Rattle.cx_table.specs.Entries.{AreClientEntries, above, are_above, are_of, floor_of_entry, is_above_floor, is_lower, notes_in, of_client}
+use Rattle.cx_table.specs.Entries.{max_floor}
 use Rattle.cx_table.specs.Judged.{is_new, judge_in, judge_of, judge_noted}
-use Rattle.cx_table.specs.declared.entry.Entry.{Entry}
+use Rattle.cx_table.specs.declared.entry.ClientEntry.{ClientEntry}
 use Rattle.cx_table.specs.declared.judge.Judge.TheVariants as judge
 use Rattle.cx_table.proofs.Held.{IsChanged, held_by}
 use Rattle.cx_table.proofs.Notes.{rise_by_number}
@@ -25,7 +25,7 @@ use Rattle.cx_table.proofs.Rising.{all_with, left_with, rise_left, rise_with}
 
 pub floor_told : (client floor n : ℕ) (floors : List Floor) → are_rising n floors ≡ true → (k : ℕ)
     → floor_of k (with_floor client floor floors)
-    ≡ (if client == k then Some (raised (floor_of k floors) floor) else floor_of k floors)
+    ≡ (if client == k then Some (max_floor (floor_of k floors) floor) else floor_of k floors)
 floor_told client floor n [] r k = refl
 floor_told client floor n (f ∷ floors) r k =
     go (cases_Bool (f.client == client)) (cases_Bool (nat_lt client f.client)) (cases_Bool (client == k)) (cases_Bool (f.client == k)) (floor_told client floor (f.client + 1) floors rest k)
@@ -37,9 +37,9 @@ floor_told client floor n (f ∷ floors) r k =
         → (nat_lt client f.client ≡ true) ⊎ (nat_lt client f.client ≡ false)
         → ((client == k) ≡ true) ⊎ ((client == k) ≡ false) → ((f.client == k) ≡ true) ⊎ ((f.client == k) ≡ false)
         → floor_of k (with_floor client floor floors)
-        ≡ (if client == k then Some (raised (floor_of k floors) floor) else floor_of k floors)
+        ≡ (if client == k then Some (max_floor (floor_of k floors) floor) else floor_of k floors)
         → floor_of k (with_floor client floor (f ∷ floors))
-        ≡ (if client == k then Some (raised (floor_of k (f ∷ floors)) floor) else floor_of k (f ∷ floors))
+        ≡ (if client == k then Some (max_floor (floor_of k (f ∷ floors)) floor) else floor_of k (f ∷ floors))
     go (inl s) b (inl t) u h = rw (s, t, same_client k f.client client true (eqb-true f.client client s) t) refl
     go (inl s) b (inr t) u h = rw (s, t, same_client k f.client client false (eqb-true f.client client s) t) refl
     go (inr s) (inl b) (inl t) u h =
@@ -120,27 +120,27 @@ noted_own client seq (a ∷ notes) = go (cases_Bool (a.client == client)) (cases
 
 -- whether an answer may stand once its client has told a floor: the client isn't done with it before
 abbrev may_stand : ℕ → List Floor → Answered → Bool
-may_stand client floors a = if client == a.client then not (is_done a.seq (floor_of a.client floors)) else is_above a.seq (floor_of a.client floors)
+may_stand client floors a = if client == a.client then not (is_done a.seq (floor_of a.client floors)) else is_above_floor a.seq (floor_of a.client floors)
 
-stood : (client : ℕ) (floors : List Floor) (a : Answered) → is_above a.seq (floor_of a.client floors) ≡ true
+stood : (client : ℕ) (floors : List Floor) (a : Answered) → is_above_floor a.seq (floor_of a.client floors) ≡ true
     → may_stand client floors a ≡ true
 stood client floors a h = go (cases_Bool (client == a.client)) (floor_of a.client floors) h
   where
-    free : (o : Option ℕ) → is_above a.seq o ≡ true → not (is_done a.seq o) ≡ true
+    free : (o : Option ℕ) → is_above_floor a.seq o ≡ true → not (is_done a.seq o) ≡ true
     free None h = cc
     free (Some floor) h = grind (arith, nat_tests, h)
 
-    go : ((client == a.client) ≡ true) ⊎ ((client == a.client) ≡ false) → (o : Option ℕ) → is_above a.seq o ≡ true
-        → (if client == a.client then not (is_done a.seq o) else is_above a.seq o) ≡ true
+    go : ((client == a.client) ≡ true) ⊎ ((client == a.client) ≡ false) → (o : Option ℕ) → is_above_floor a.seq o ≡ true
+        → (if client == a.client then not (is_done a.seq o) else is_above_floor a.seq o) ≡ true
     go (inl t) o h = rw t (free o h)
     go (inr t) o h = rw t h
 
 all_stood : (client : ℕ) (floors : List Floor) (notes : List Answered)
-    → list_all (λ (a : Answered). is_above a.seq (floor_of a.client floors)) notes ≡ true
+    → list_all (λ (a : Answered). is_above_floor a.seq (floor_of a.client floors)) notes ≡ true
     → list_all (may_stand client floors) notes ≡ true
 all_stood client floors [] all = refl
 all_stood client floors (a ∷ notes) all =
-    let parts = and_parts (is_above a.seq (floor_of a.client floors)) (list_all (λ (x : Answered). is_above x.seq (floor_of x.client floors)) notes) all in
+    let parts = and_parts (is_above_floor a.seq (floor_of a.client floors)) (list_all (λ (x : Answered). is_above_floor x.seq (floor_of x.client floors)) notes) all in
     and_from (may_stand client floors a) (list_all (may_stand client floors) notes) (stood client floors a parts.0) (all_stood client floors notes parts.1)
 
 -- those that stay lie above their clients' floors
@@ -153,14 +153,14 @@ above_told client floor floors (a ∷ notes) rising all =
     go (cases_Bool (client == a.client)) (cases_Bool (nat_le a.seq floor)) (floor_told client floor 0 floors rising a.client) parts.0 (above_told client floor floors notes rising parts.1)
   where
     higher : (o : Option ℕ) → not (is_done a.seq o) ≡ true → nat_le a.seq floor ≡ false
-        → is_above a.seq (Some (raised o floor)) ≡ true
+        → is_above_floor a.seq (Some (max_floor o floor)) ≡ true
     higher None free v = grind (arith, nat_tests, v)
     higher (Some f) free v = grind (arith, nat_tests, free, v)
 
     go : ((client == a.client) ≡ true) ⊎ ((client == a.client) ≡ false)
         → (nat_le a.seq floor ≡ true) ⊎ (nat_le a.seq floor ≡ false)
         → floor_of a.client (with_floor client floor floors)
-        ≡ (if client == a.client then Some (raised (floor_of a.client floors) floor) else floor_of a.client floors)
+        ≡ (if client == a.client then Some (max_floor (floor_of a.client floors) floor) else floor_of a.client floors)
         → may_stand client floors a ≡ true
         → are_above (record { floors = with_floor client floor floors; notes = still_noted client floor notes }) ≡ true
         → are_above (record { floors = with_floor client floor floors; notes = still_noted client floor (a ∷ notes) })
@@ -168,29 +168,29 @@ above_told client floor floors (a ∷ notes) rising all =
     go (inl t) (inl v) is one rest = (let turned : (a.client == client) ≡ true = turned_test a.client client ∙ t in rw (turned, v) rest)
     go (inl t) (inr v) is one rest =
         let turned : (a.client == client) ≡ true = turned_test a.client client ∙ t in
-        let floor_is : floor_of a.client (with_floor client floor floors) ≡ Some (raised (floor_of a.client floors) floor) = rw t at is in
+        let floor_is : floor_of a.client (with_floor client floor floors) ≡ Some (max_floor (floor_of a.client floors) floor) = rw t at is in
         let free : not (is_done a.seq (floor_of a.client floors)) ≡ true = rw t at one in
-        rw (turned, v) (and_from (is_above a.seq (floor_of a.client (with_floor client floor floors))) _ (rw floor_is (higher (floor_of a.client floors) free v)) rest)
+        rw (turned, v) (and_from (is_above_floor a.seq (floor_of a.client (with_floor client floor floors))) _ (rw floor_is (higher (floor_of a.client floors) free v)) rest)
     go (inr t) v is one rest =
         let turned : (a.client == client) ≡ false = turned_test a.client client ∙ t in
         let floor_is : floor_of a.client (with_floor client floor floors) ≡ floor_of a.client floors = rw t at is in
-        let above : is_above a.seq (floor_of a.client floors) ≡ true = rw t at one in
-        rw turned (and_from (is_above a.seq (floor_of a.client (with_floor client floor floors))) _ (rw floor_is above) rest)
+        let above : is_above_floor a.seq (floor_of a.client floors) ≡ true = rw t at one in
+        rw turned (and_from (is_above_floor a.seq (floor_of a.client (with_floor client floor floors))) _ (rw floor_is above) rest)
 
 -- a client's entry holds what the table has of it
-module _ (t : Table) (es : List (ℕ × Entry)) (held : IsHeld t es) (client : ℕ) (entry : Entry)
+module _ (t : Table) (es : List (ℕ × ClientEntry)) (sound : AreClientEntries t es) (client : ℕ) (entry : ClientEntry)
     (found : lookup (nat_eq client) es ≡ Some entry) where
   pub entry_floor : entry.floor ≡ floor_of client t.floors
-  entry_floor = ap floor_in (sym found) ∙ held.floors client
+  entry_floor = ap floor_of_entry (sym found) ∙ sound.floors client
 
   pub entry_notes : entry.notes.items ≡ of_client client t.notes
-  entry_notes = ap notes_in (sym found) ∙ held.notes client
+  entry_notes = ap notes_in (sym found) ∙ sound.notes client
 
   pub entry_own : are_of client entry.notes.items ≡ true
   entry_own = rw entry_notes (own_of client t.notes)
 
   pub entry_rise : rises is_lower entry.notes.items ≡ true
-  entry_rise = rw entry_notes (sym (rise_by_number client (of_client client t.notes) (own_of client t.notes)) ∙ rise_left comes_before (λ (a : Answered). a.client == client) t.notes held.notes_rise)
+  entry_rise = rw entry_notes (sym (rise_by_number client (of_client client t.notes) (own_of client t.notes)) ∙ rise_left comes_before (λ (a : Answered). a.client == client) t.notes sound.notes_rise)
 
   pub entry_noted : (seq : ℕ) → noted_for client seq entry.notes.items ≡ noted_for client seq t.notes
   entry_noted seq = ap (noted_for client seq) entry_notes ∙ noted_own client seq t.notes
@@ -201,30 +201,30 @@ module _ (t : Table) (es : List (ℕ × Entry)) (held : IsHeld t es) (client : �
       ∙ ap (λ (o : Option Answered). if is_done seq (floor_of client t.floors) then judge.Past else judge_noted o) (entry_noted seq)
 
 -- a client without an entry has used no number
-pub judge_none : (t : Table) (es : List (ℕ × Entry)) → IsHeld t es → (client seq : ℕ) → lookup (nat_eq client) es ≡ None
+pub judge_none : (t : Table) (es : List (ℕ × ClientEntry)) → AreClientEntries t es → (client seq : ℕ) → lookup (nat_eq client) es ≡ None
     → judge.New ≡ judge_of t client seq
-judge_none t es held client seq none =
-    let no_floor : floor_of client t.floors ≡ None = sym (held.floors client) ∙ ap floor_in none in
-    let no_notes : of_client client t.notes ≡ [] = sym (held.notes client) ∙ ap notes_in none in
+judge_none t es sound client seq none =
+    let no_floor : floor_of client t.floors ≡ None = sym (sound.floors client) ∙ ap floor_of_entry none in
+    let no_notes : of_client client t.notes ≡ [] = sym (sound.notes client) ∙ ap notes_in none in
     let no_note : noted_for client seq t.notes ≡ None = sym (noted_own client seq t.notes) ∙ ap (noted_for client seq) no_notes in
     rw (no_floor, no_note) refl
 
 -- a client that has an answer has told a floor below its number
 noted_above : (client seq : ℕ) (floors : List Floor) (notes : List Answered) (a : Answered)
-    → list_all (λ (x : Answered). is_above x.seq (floor_of x.client floors)) notes ≡ true
-    → noted_for client seq notes ≡ Some a → is_above seq (floor_of client floors) ≡ true
+    → list_all (λ (x : Answered). is_above_floor x.seq (floor_of x.client floors)) notes ≡ true
+    → noted_for client seq notes ≡ Some a → is_above_floor seq (floor_of client floors) ≡ true
 noted_above client seq floors [] a all e = cc
 noted_above client seq floors (x ∷ notes) a all e =
-    let parts = and_parts (is_above x.seq (floor_of x.client floors)) (list_all (λ (y : Answered). is_above y.seq (floor_of y.client floors)) notes) all in
+    let parts = and_parts (is_above_floor x.seq (floor_of x.client floors)) (list_all (λ (y : Answered). is_above_floor y.seq (floor_of y.client floors)) notes) all in
     go (cases_Bool (is_answer_of client seq x)) parts.0 e (noted_above client seq floors notes a parts.1)
   where
     go : (is_answer_of client seq x ≡ true) ⊎ (is_answer_of client seq x ≡ false)
-        → is_above x.seq (floor_of x.client floors) ≡ true → noted_for client seq (x ∷ notes) ≡ Some a
-        → (noted_for client seq notes ≡ Some a → is_above seq (floor_of client floors) ≡ true)
-        → is_above seq (floor_of client floors) ≡ true
+        → is_above_floor x.seq (floor_of x.client floors) ≡ true → noted_for client seq (x ∷ notes) ≡ Some a
+        → (noted_for client seq notes ≡ Some a → is_above_floor seq (floor_of client floors) ≡ true)
+        → is_above_floor seq (floor_of client floors) ≡ true
     go (inl s) one e rest =
         let p = and_parts (x.client == client) (x.seq == seq) s in
-        subst (λ (k : ℕ). is_above k (floor_of client floors) ≡ true) (eqb-true x.seq seq p.1) (subst (λ (k : ℕ). is_above x.seq (floor_of k floors) ≡ true) (eqb-true x.client client p.0) one)
+        subst (λ (k : ℕ). is_above_floor k (floor_of client floors) ≡ true) (eqb-true x.seq seq p.1) (subst (λ (k : ℕ). is_above_floor x.seq (floor_of k floors) ≡ true) (eqb-true x.client client p.0) one)
     go (inr s) one e rest = rest (rw s at e)
 
 -- a client whose number isn't new has told a floor
@@ -235,7 +235,7 @@ judged_told t above client seq judged = go (floor_of client t.floors) refl (note
     go : (o : Option ℕ) → floor_of client t.floors ≡ o → (p : Option Answered) → noted_for client seq t.notes ≡ p
         → is_new (if is_done seq o then judge.Past else judge_noted p) ≡ false → IsSome o
     go None is None has e = absurd (true≢false e)
-    go None is (Some a) has e = (let told : is_above seq (floor_of client t.floors) ≡ true = noted_above client seq t.floors t.notes a above has in absurd (true≢false (sym (rw is at told))))
+    go None is (Some a) has e = (let told : is_above_floor seq (floor_of client t.floors) ≡ true = noted_above client seq t.floors t.notes a above has in absurd (true≢false (sym (rw is at told))))
     go (Some floor) is p has e = search rules
 
 -- a number that is new isn't done with, and has no answer
@@ -250,34 +250,34 @@ new_number t client seq new = go (is_done seq (floor_of client t.floors)) refl (
     go false is None has e = (rw is refl, has)
     go false is (Some a) has e = cc
 
--- the table that has been told, or has one more answer, is what is held with another entry
-module _ (t : Table) (es ns : List (ℕ × Entry)) (held : IsHeld t es) (client floor : ℕ) (old new : Entry)
+-- the table that has been told, or has one more answer, is what is noted with another entry
+module _ (t : Table) (es ns : List (ℕ × ClientEntry)) (sound : AreClientEntries t es) (client floor : ℕ) (old new : ClientEntry)
     (found : lookup (nat_eq client) es ≡ Some old) (changed : IsChanged client new es ns)
-    (told : new.floor ≡ Some (raised old.floor floor)) where
+    (told : new.floor ≡ Some (max_floor old.floor floor)) where
   floors_told : (k : ℕ)
       → floor_of k (with_floor client floor t.floors) ≡ (if client == k then new.floor else floor_of k t.floors)
-  floors_told k = floor_told client floor 0 t.floors held.floors_rise k ∙ go (cases_Bool (client == k))
+  floors_told k = floor_told client floor 0 t.floors sound.floors_rise k ∙ go (cases_Bool (client == k))
     where
-      own : new.floor ≡ Some (raised (floor_of client t.floors) floor)
-      own = told ∙ ap (λ (o : Option ℕ). Some (raised o floor)) (entry_floor t es held client old found)
+      own : new.floor ≡ Some (max_floor (floor_of client t.floors) floor)
+      own = told ∙ ap (λ (o : Option ℕ). Some (max_floor o floor)) (entry_floor t es sound client old found)
 
       go : ((client == k) ≡ true) ⊎ ((client == k) ≡ false)
-          → (if client == k then Some (raised (floor_of k t.floors) floor) else floor_of k t.floors)
+          → (if client == k then Some (max_floor (floor_of k t.floors) floor) else floor_of k t.floors)
           ≡ (if client == k then new.floor else floor_of k t.floors)
-      go (inl s) = rw s (ap (λ (x : ℕ). Some (raised (floor_of x t.floors) floor)) (sym (eqb-true client k s)) ∙ sym own)
+      go (inl s) = rw s (ap (λ (x : ℕ). Some (max_floor (floor_of x t.floors) floor)) (sym (eqb-true client k s)) ∙ sym own)
       go (inr s) = rw s refl
 
   rising_told : are_rising 0 (with_floor client floor t.floors) ≡ true
-  rising_told = (let least : nat_le 0 client ≡ true = grind (arith, nat_tests) in still_rising client floor 0 t.floors held.floors_rise least)
+  rising_told = (let least : nat_le 0 client ≡ true = grind (arith, nat_tests) in still_rising client floor 0 t.floors sound.floors_rise least)
 
-  pub told_held : new.notes.items ≡ above floor old.notes.items → IsHeld (with_told client floor t) ns
+  pub told_held : new.notes.items ≡ above floor old.notes.items → AreClientEntries (with_told client floor t) ns
   told_held left =
-      held_by client new es ns changed t (with_told client floor t) held rising_told (rise_left comes_before (λ (a : Answered). not (is_settled client floor a)) t.notes held.notes_rise)
-      (above_told client floor t.floors t.notes held.floors_rise (all_stood client t.floors t.notes held.above)) floors_told
+      held_by client new es ns changed t (with_told client floor t) sound rising_told (rise_left comes_before (λ (a : Answered). not (is_answer_done client floor a)) t.notes sound.notes_rise)
+      (above_told client floor t.floors t.notes sound.floors_rise (all_stood client t.floors t.notes sound.above)) floors_told
       (λ k. notes_told client floor k t.notes ∙ go k (cases_Bool (client == k)))
     where
       own : new.notes.items ≡ above floor (of_client client t.notes)
-      own = left ∙ ap (λ (l : List Answered). above floor l) (entry_notes t es held client old found)
+      own = left ∙ ap (λ (l : List Answered). above floor l) (entry_notes t es sound client old found)
 
       go : (k : ℕ) → ((client == k) ≡ true) ⊎ ((client == k) ≡ false)
           → (if client == k then above floor (of_client k t.notes) else of_client k t.notes)
@@ -287,11 +287,11 @@ module _ (t : Table) (es ns : List (ℕ × Entry)) (held : IsHeld t es) (client 
 
   pub noted_held : (a : Answered) → a.client ≡ client → judge_of t a.client a.seq ≡ judge.New
       → new.notes.items ≡ above floor (with_note a old.notes.items)
-      → IsHeld (with_answer a floor t) ns
-  noted_held a same number left = subst (λ (k : ℕ). IsHeld (with_told k floor (record t { notes = with_note a t.notes })) ns) (sym same)
-      (held_by client new es ns changed t (with_told client floor (record t { notes = with_note a t.notes })) held rising_told
-      (rise_left comes_before (λ (x : Answered). not (is_settled client floor x)) (with_note a t.notes) (rise_with a t.notes free.1 held.notes_rise))
-      (above_told client floor t.floors (with_note a t.notes) held.floors_rise (all_with (may_stand client t.floors) a t.notes (stands (cases_Bool (client == a.client))) (all_stood client t.floors t.notes held.above))) floors_told
+      → AreClientEntries (with_answer a floor t) ns
+  noted_held a same number left = subst (λ (k : ℕ). AreClientEntries (with_told k floor (record t { notes = with_note a t.notes })) ns) (sym same)
+      (held_by client new es ns changed t (with_told client floor (record t { notes = with_note a t.notes })) sound rising_told
+      (rise_left comes_before (λ (x : Answered). not (is_answer_done client floor x)) (with_note a t.notes) (rise_with a t.notes free.1 sound.notes_rise))
+      (above_told client floor t.floors (with_note a t.notes) sound.floors_rise (all_with (may_stand client t.floors) a t.notes (stands (cases_Bool (client == a.client))) (all_stood client t.floors t.notes sound.above))) floors_told
       (λ k. notes_told client floor k (with_note a t.notes) ∙ go k (cases_Bool (client == k))))
     where
       free : (not (is_done a.seq (floor_of a.client t.floors)) ≡ true) × (noted_for a.client a.seq t.notes ≡ None)
@@ -304,10 +304,10 @@ module _ (t : Table) (es ns : List (ℕ × Entry)) (held : IsHeld t es) (client 
       among : (k : ℕ)
           → of_client k (with_note a t.notes)
           ≡ (if a.client == k then with_note a (of_client k t.notes) else of_client k t.notes)
-      among k = left_with (λ (x : Answered). x.client == k) a t.notes held.notes_rise
+      among k = left_with (λ (x : Answered). x.client == k) a t.notes sound.notes_rise
 
       own : new.notes.items ≡ above floor (with_note a (of_client client t.notes))
-      own = left ∙ ap (λ (l : List Answered). above floor (with_note a l)) (entry_notes t es held client old found)
+      own = left ∙ ap (λ (l : List Answered). above floor (with_note a l)) (entry_notes t es sound client old found)
 
       go : (k : ℕ) → ((client == k) ≡ true) ⊎ ((client == k) ≡ false)
           → (if client == k then above floor (of_client k (with_note a t.notes)) else of_client k (with_note a t.notes))

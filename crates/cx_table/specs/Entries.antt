@@ -9,7 +9,7 @@ use Rattle.cx_base.specs.declared.command.Note.{Note}
 use Rattle.cx_base.specs.Lists.{rises}
 use Rattle.cx_base.specs.Noted.{Table, are_rising, comes_before, floor_of}
 use Rattle.cx_table.specs.State.{Room}
-use Rattle.cx_table.specs.declared.entry.Entry.{Entry}
+use Rattle.cx_table.specs.declared.entry.ClientEntry.{ClientEntry}
 
 -- the answers of a client
 abbrev pub of_client : ℕ → List Answered → List Answered
@@ -46,52 +46,52 @@ IsPlace seq notes place =
     (λ (a : Answered). nat_lt a.seq seq ≡ false) notes place
 
 -- whether a client told a floor, and its number is above that
-abbrev pub is_above : ℕ → Option ℕ → Bool
-is_above seq None = false
-is_above seq (Some floor) = nat_lt floor seq
+abbrev pub is_above_floor : ℕ → Option ℕ → Bool
+is_above_floor seq None = false
+is_above_floor seq (Some floor) = nat_lt floor seq
 
 -- whether each answer lies above its client's floor
 abbrev pub are_above : Table → Bool
-are_above t = list_all (λ (a : Answered). is_above a.seq (floor_of a.client t.floors)) t.notes
+are_above t = list_all (λ (a : Answered). is_above_floor a.seq (floor_of a.client t.floors)) t.notes
 
 -- the greater one of a client's floor and another
-abbrev pub raised : Option ℕ → ℕ → ℕ
-raised None told = told
-raised (Some floor) told = max floor told
+abbrev pub max_floor : Option ℕ → ℕ → ℕ
+max_floor None told = told
+max_floor (Some floor) told = max floor told
 
 -- the floor, the answers and the room that an entry has
-abbrev pub floor_in : Option Entry → Option ℕ
-floor_in None = None
-floor_in (Some e) = e.floor
+abbrev pub floor_of_entry : Option ClientEntry → Option ℕ
+floor_of_entry None = None
+floor_of_entry (Some e) = e.floor
 
-abbrev pub notes_in : Option Entry → List Answered
+abbrev pub notes_in : Option ClientEntry → List Answered
 notes_in None = []
 notes_in (Some e) = e.notes.items
 
-abbrev pub room_in : Option Entry → ℕ
+abbrev pub room_in : Option ClientEntry → ℕ
 room_in None = 0
 room_in (Some e) = vec_capacity e.notes - vec_len e.notes
 
-abbrev pub rooms_in : List (ℕ × Entry) → List Room
+abbrev pub rooms_in : List (ℕ × ClientEntry) → List Room
 rooms_in [] = []
 rooms_in (e ∷ es) = record { client = e.0; count = room_in (Some e.1) } ∷ rooms_in es
 
 -- at this place is a client's entry
-pub record IsEntryAt (client : ℕ) (entries : List (ℕ × Entry)) (place : ℕ) : Type 0 where
-  pub entry : Entry
+pub record IsEntryAt (client : ℕ) (entries : List (ℕ × ClientEntry)) (place : ℕ) : Type 0 where
+  pub entry : ClientEntry
   pub there : slice_get entries place ≡ Some (client, entry)
   pub found : lookup (nat_eq client) entries ≡ Some entry
 
 -- and it has room for so many more answers
-pub record IsRoomAt (client count : ℕ) (entries : List (ℕ × Entry)) (place : ℕ) : Type 0 where
+pub record IsRoomAt (client count : ℕ) (entries : List (ℕ × ClientEntry)) (place : ℕ) : Type 0 where
   pub at : IsEntryAt client entries place
   pub room : count ≤ room_in (Some at.entry)
 
 -- each client's entry holds what the table has of the client; the table rises, and its answers lie above their clients'
 -- floors
-pub record IsHeld (t : Table) (entries : List (ℕ × Entry)) : Type 0 where
+pub record AreClientEntries (t : Table) (entries : List (ℕ × ClientEntry)) : Type 0 where
   pub floors_rise : are_rising 0 t.floors ≡ true
   pub notes_rise : rises comes_before t.notes ≡ true
   pub above : are_above t ≡ true
-  pub floors : (client : ℕ) → floor_in (lookup (nat_eq client) entries) ≡ floor_of client t.floors
+  pub floors : (client : ℕ) → floor_of_entry (lookup (nat_eq client) entries) ≡ floor_of client t.floors
   pub notes : (client : ℕ) → notes_in (lookup (nat_eq client) entries) ≡ of_client client t.notes

@@ -7,7 +7,7 @@ ghost use Rattle.std.specs.Option.{option_copied};
 ghost use Rattle.cx_base.specs.declared.command.Answered.{Answered as Note};
 ghost use Rattle.cx_base.specs.Lists.{rises};
 ghost use Rattle.cx_base.specs.Noted.{is_done, noted_for, with_note};
-ghost use Rattle.cx_table.specs.Entries.{IsPlace, above, are_of, is_lower, raised, room_in};
+ghost use Rattle.cx_table.specs.Entries.{IsPlace, above, are_of, is_lower, max_floor, room_in};
 ghost use Rattle.cx_table.specs.Judged.{judge_in};
 
 use crate::judge::Judge;
@@ -16,7 +16,7 @@ use cx_base::{Answered, NoMemory};
 /// What is held of one client: the greatest floor that it told, and the answers noted for its numbers above that, by
 /// rising number. One without a floor is room that was taken before the client's first command.
 #[derive(Drop)]
-pub struct Entry {
+pub struct ClientEntry {
     pub floor: Option<u64>,
     pub notes: Vec<Answered>,
 }
@@ -57,7 +57,7 @@ fn is_done(floor: Option<u64>, seq: u64) -> bool
 }
 
 /// What a client's entry says of one of its numbers.
-pub fn judge(entry: &Entry, client: u16, seq: u64) -> Judge
+pub fn judge(entry: &ClientEntry, client: u16, seq: u64) -> Judge
     requires own { are_of client entry.now.notes.items ≡ true }
     requires rise { rises is_lower entry.now.notes.items ≡ true }
     ensures { result ≡ judge_in entry.now.floor entry.now.notes.items client seq }
@@ -124,8 +124,8 @@ fn drop_settled(notes: &mut Vec<Answered>, floor: u64)
 }
 
 // The floor of a client that tells one.
-fn raised(floor: Option<u64>, told: u64) -> u64
-    ensures { result ≡ raised floor told }
+fn max_floor(floor: Option<u64>, told: u64) -> u64
+    ensures { result ≡ max_floor floor told }
 {
     match floor {
         Some(floor) => floor.max(told),
@@ -134,7 +134,7 @@ fn raised(floor: Option<u64>, told: u64) -> u64
 }
 
 /// Makes room for `count` more answers. Out of memory, nothing changes.
-pub fn make_room(entry: &mut Entry, count: usize) -> Result<(), NoMemory>
+pub fn make_room(entry: &mut ClientEntry, count: usize) -> Result<(), NoMemory>
     ensures floor { entry.new.floor ≡ entry.old.floor }
     ensures notes { entry.new.notes.items ≡ entry.old.notes.items }
     ensures room { OnOk result (count ≤ room_in (Some entry.new)) }
@@ -146,24 +146,24 @@ pub fn make_room(entry: &mut Entry, count: usize) -> Result<(), NoMemory>
 }
 
 /// The client tells a floor.
-pub fn tell(entry: &mut Entry, floor: u64)
+pub fn tell(entry: &mut ClientEntry, floor: u64)
     requires { rises is_lower entry.old.notes.items ≡ true }
-    ensures floor { entry.new.floor ≡ Some (raised entry.old.floor floor) }
+    ensures floor { entry.new.floor ≡ Some (max_floor entry.old.floor floor) }
     ensures notes { entry.new.notes.items ≡ above floor entry.old.notes.items }
     ensures len { vec_len entry.new.notes ≤ vec_len entry.old.notes }
     ensures capacity { vec_capacity entry.new.notes ≡ vec_capacity entry.old.notes }
 {
-    entry.floor = Some(raised(entry.floor, floor));
+    entry.floor = Some(max_floor(entry.floor, floor));
     drop_settled(&mut entry.notes, floor);
 }
 
 /// The client's new number is answered, and tells a floor. There is room for its answer.
-pub fn note(entry: &mut Entry, answer: &Answered, floor: u64)
+pub fn note(entry: &mut ClientEntry, answer: &Answered, floor: u64)
     requires own { are_of answer.now.client entry.old.notes.items ≡ true }
     requires rise { rises is_lower entry.old.notes.items ≡ true }
     requires new { noted_for answer.now.client answer.now.seq entry.old.notes.items ≡ None }
     requires room { vec_len entry.old.notes < vec_capacity entry.old.notes }
-    ensures floor { entry.new.floor ≡ Some (raised entry.old.floor floor) }
+    ensures floor { entry.new.floor ≡ Some (max_floor entry.old.floor floor) }
     ensures notes { entry.new.notes.items ≡ above floor (with_note answer.now entry.old.notes.items) }
     ensures len { vec_len entry.new.notes ≤ vec_len entry.old.notes + 1 }
     ensures capacity { vec_capacity entry.old.notes ≤ vec_capacity entry.new.notes }

@@ -11,11 +11,11 @@ ghost use Rattle.cx_table.specs.State.{KeepsRoom, TakesRoom, room_for};
 ghost use Rattle.cx_table.specs.declared.judge.Judge.TheVariants as judge;
 
 use crate::entries::{place_of, room_at};
-use crate::entry::{self, Entry};
+use crate::entry::{self, ClientEntry};
 use crate::judge::Judge;
 use crate::shown;
 use cx_base::{Answered, Floor, NoMemory, Note, Reply};
-use cx_ring::Told;
+use cx_ring::GhostList;
 use indexmap::IndexMap;
 use std::alloc::Global;
 use std::marker::Model;
@@ -26,14 +26,14 @@ use std::marker::Model;
 #[derive(Drop)]
 pub struct Table {
     alloc: Global,
-    entries: IndexMap<u16, Entry>,
+    entries: IndexMap<u16, ClientEntry>,
     // The table that contracts see.
-    floors: Told<Floor>,
-    notes: Told<Answered>,
+    floors: GhostList<Floor>,
+    notes: GhostList<Answered>,
 }
 
 impl Model for Table {
-    ghost use Rattle.cx_table.specs.Entries.{rooms_in, IsHeld};
+    ghost use Rattle.cx_table.specs.Entries.{rooms_in, AreClientEntries};
     ghost use Rattle.cx_table.specs.State.{TableState};
 
     ghost Value = { TableState };
@@ -43,7 +43,7 @@ impl Model for Table {
       rooms = rooms_in t.entries.entries;
     } };
 
-    ghost invariant = { λ t. IsHeld (record { floors = t.floors.items; notes = t.notes.items }) t.entries.entries };
+    ghost invariant = { λ t. AreClientEntries (record { floors = t.floors.items; notes = t.notes.items }) t.entries.entries };
 }
 
 impl Table {
@@ -70,7 +70,7 @@ impl Table {
     }
 
     /// Whether a client's number is new, has an answer or is past (VLDB 2021: a replica executes no command twice;
-    /// floors are this project's own). It takes no memory.
+    /// floors are this project's own).
     pub fn judge(&self, client: u16, seq: u64) -> Judge
         ensures judge { result ≡ judge_of self.now.table client seq }
         ensures told { is_new result ≡ false → IsSome (floor_of client self.now.table.floors) }
@@ -81,7 +81,7 @@ impl Table {
         }
     }
 
-    /// The greatest floor that a client told, if it told one. It takes no memory.
+    /// The greatest floor that a client told, if it told one.
     pub fn floor(&self, client: u16) -> Option<u64>
         ensures { result ≡ floor_of client self.now.table.floors }
     {
@@ -92,7 +92,7 @@ impl Table {
     }
 
     /// The answers to a client's numbers above its floor, by rising number. The clients of floors rise, the answers
-    /// stand by their clients and numbers, and each is above its client's floor. It takes no memory.
+    /// stand by their clients and numbers, and each is above its client's floor.
     pub fn notes(&self, client: u16) -> &[Answered]
         ensures notes { result.now ≡ of_client client self.now.table.notes }
         ensures floors_rise { are_rising 0 self.now.table.floors ≡ true }
@@ -155,7 +155,7 @@ impl Table {
         Ok(())
     }
 
-    /// Notes that a client, which told one before, told a floor. It takes no memory.
+    /// Notes that a client, which told one before, told a floor.
     pub fn tell(&mut self, client: u16, floor: u64)
         requires told { IsSome (floor_of client self.old.table.floors) }
         ensures table { self.new.table ≡ with_told client floor self.old.table }

@@ -1,6 +1,6 @@
 //! Calls that fail, and a disk that stops.
 
-use cx_disk::{Disk, MemDisk, Room, Unsynced};
+use cx_disk::{Disk, DiskRoom, MemDisk, Unsynced};
 use std::alloc::Global;
 use std::test::Fail;
 
@@ -58,7 +58,7 @@ const CASES: [Case; 5] = [
     },
 ];
 
-const ROOM: Room = Room {
+const ROOM: DiskRoom = DiskRoom {
     bytes: 4,
     calls: 4,
     written: 4,
@@ -67,7 +67,7 @@ const ROOM: Room = Room {
 pub(crate) fn disk(
     alloc: Global,
     bytes: &[u8],
-    room: Room,
+    room: DiskRoom,
     fails: &[u64],
     stop: Option<u64>,
 ) -> Result<MemDisk, Fail> {

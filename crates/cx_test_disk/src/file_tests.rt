@@ -4,7 +4,7 @@ ghost use Rattle.std.specs.Prelude.{◌≡◌, ◌+◌, length, IfOk, IsTrue};
 ghost use Rattle.cx_msg.specs.Records.{fits};
 
 use crate::disk_tests::disk;
-use cx_disk::{MemDisk, Room};
+use cx_disk::{DiskRoom, MemDisk};
 use cx_journal::Twin;
 use cx_keeper::{Keeper, OpenFault, Renew};
 use cx_msg::{Record, record_from};
@@ -153,7 +153,7 @@ const CHANGES: [Change; 6] = [
     },
 ];
 
-const ROOM: Room = Room {
+const ROOM: DiskRoom = DiskRoom {
     bytes: 128,
     calls: 64,
     written: 512,

@@ -2,7 +2,7 @@
 
 use crate::disk_tests::disk;
 use cx_base::Kind;
-use cx_disk::Room;
+use cx_disk::DiskRoom;
 use cx_journal::Journal;
 use cx_keeper::{KeepFault, Keeper, OpenFault};
 use cx_msg::record_from;
@@ -12,7 +12,7 @@ use std::test::Fail;
 // A promise of the round (1, 0, 0).
 const PROMISE: [u8; 11] = [1, 0, 0, 0, 1, 0, 0, 0, 0, 0, 0];
 
-const ROOM: Room = Room {
+const ROOM: DiskRoom = DiskRoom {
     bytes: 64,
     calls: 12,
     written: 64,

@@ -4,14 +4,14 @@ ghost use Rattle.std.specs.Prelude.{IfOk, IsTrue};
 ghost use Rattle.cx_msg.specs.Records.{fits};
 
 use crate::disk_tests::disk;
-use cx_disk::{MemDisk, Room, Unsynced};
+use cx_disk::{DiskRoom, MemDisk, Unsynced};
 use cx_journal::Twin;
 use cx_keeper::{Keeper, Renew};
 use cx_msg::{Record, record_from, record_into};
 use std::alloc::Global;
 use std::test::Fail;
 
-const ROOM: Room = Room {
+const ROOM: DiskRoom = DiskRoom {
     bytes: 64,
     calls: 64,
     written: 256,

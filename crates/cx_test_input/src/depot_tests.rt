@@ -5,13 +5,13 @@ ghost use Rattle.cx_base.specs.Faults.{Rises};
 ghost use Rattle.cx_edge.specs.MemDepot.{depot_faults, depot_out};
 
 use cx_base::{Kind, RoleId};
-use cx_disk::{Disk, MemDisk, Room};
+use cx_disk::{Disk, DiskRoom, MemDisk};
 use cx_edge::{Depot, FileDepot, MemDepot, Shelf};
 use std::alloc::Global;
 use std::fs;
 use std::test::Fail;
 
-const ROOM: Room = Room {
+const ROOM: DiskRoom = DiskRoom {
     bytes: 2,
     calls: 8,
     written: 8,

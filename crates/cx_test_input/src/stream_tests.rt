@@ -32,12 +32,12 @@ fn a_source_fails_and_goes_on(rt: HostRuntime) -> Result<(), Fail> {
     Ok(())
 }
 
-// Whether the reading came to what this mark stands for, with these bytes.
-fn comes_to(all: &ReadAll, mark: u8, bytes: &[u8]) -> bool {
+// Whether the reading came to what this sign stands for, with these bytes.
+fn comes_to(all: &ReadAll, sign: u8, bytes: &[u8]) -> bool {
     match all {
-        ReadAll::Whole(read) => mark == b'.' && read.as_slice() == bytes,
-        ReadAll::TooLong(read) => mark == b'+' && read.as_slice() == bytes,
-        ReadAll::Failed(read) => mark == b'!' && read.as_slice() == bytes,
+        ReadAll::Whole(read) => sign == b'.' && read.as_slice() == bytes,
+        ReadAll::TooLong(read) => sign == b'+' && read.as_slice() == bytes,
+        ReadAll::Failed(read) => sign == b'!' && read.as_slice() == bytes,
         ReadAll::NoMemory => false,
     }
 }
@@ -48,9 +48,9 @@ const READINGS: [(u64, usize, u8); 3] = [(9, 3, b'.'), (9, 2, b'+'), (1, 9, b'!'
 #[test]
 fn a_source_is_read_to_its_end_or_a_fault(rt: HostRuntime) -> Result<(), Fail> {
     let alloc = rt.alloc();
-    for (failing, limit, mark) in READINGS {
+    for (failing, limit, sign) in READINGS {
         let mut source = source(alloc, failing)?;
-        assert!(rt; comes_to(&read_all(alloc, &mut source, limit), mark, &[1, 2, 3]));
+        assert!(rt; comes_to(&read_all(alloc, &mut source, limit), sign, &[1, 2, 3]));
     }
     Ok(())
 }

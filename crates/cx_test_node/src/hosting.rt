@@ -5,7 +5,7 @@ ghost use Rattle.cx_edge.specs.MemDepot.{depot_out};
 ghost use Rattle.cx_node.specs.Opening.{AreApart};
 
 use cx_base::{Kind, RoleId, Status};
-use cx_disk::{MemDisk, Room, Unsynced};
+use cx_disk::{DiskRoom, MemDisk, Unsynced};
 use cx_edge::{Front, LinkFailing, LinkRoom, MemDepot, MemLink, MemSink, MemSource, Shelf};
 use cx_node::serve;
 use std::alloc::Global;
@@ -75,7 +75,7 @@ const STORES: [(Kind, u8); 6] = [
     (Kind::Reader, 0),
 ];
 
-const DISK_ROOM: Room = Room {
+const DISK_ROOM: DiskRoom = DiskRoom {
     bytes: 512,
     calls: 256,
     written: 4096,
@@ -123,12 +123,12 @@ pub(crate) fn depot_of_reader(alloc: Global, bytes: &[u8]) -> Result<MemDepot, F
 {
     let mut stores = Vec::new(alloc);
     for (kind, side) in STORES {
-        let held = if kind == Kind::Reader {
+        let stored = if kind == Kind::Reader {
             bytes
         } else {
             &bytes[..0]
         };
-        let disk = MemDisk::new(alloc, held, DISK_ROOM, Vec::new(alloc), None)?;
+        let disk = MemDisk::new(alloc, stored, DISK_ROOM, Vec::new(alloc), None)?;
         stores.push((Shelf::new(role(kind), side), disk))?;
     }
     Ok(MemDepot::new(alloc, stores, DISK_ROOM.bytes, Vec::new(alloc))?)

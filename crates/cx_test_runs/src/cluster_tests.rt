@@ -15,7 +15,7 @@ const FAULTS: [(ClusterFault, &str); 5] = [
         ClusterFault::Range(ClusterKey::F, -1),
         "f = -1 is out of range",
     ),
-    (ClusterFault::NoMemory, "out of memory"),
+    (ClusterFault::NoMemory, "no memory"),
 ];
 
 fn is_worded(alloc: Global, fault: &ClusterFault, words: &str) -> Result<bool, Fail> {

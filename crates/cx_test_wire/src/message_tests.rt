@@ -1,6 +1,6 @@
 //! The spellings of datagrams and records, both ways, and what refuses them.
 
-use crate::vectors::ENTRIES;
+use crate::vectors::VECTORS;
 use cx_base::{Duplicate, Kind, RoleId};
 use cx_msg::{KeptRecord, WireFault, Written, decode, encode_into, record_from, record_into};
 use std::alloc::Global;
@@ -168,7 +168,7 @@ fn changes_are_refused(alloc: Global, bytes: &[u8]) -> Result<bool, Fail> {
 fn another_implementation(rt: HostRuntime) -> Result<(), Fail> {
     let alloc = rt.alloc();
     let mut count = 0_usize;
-    for entry in ENTRIES.as_bytes().split(|letter| *letter == b';') {
+    for entry in VECTORS.as_bytes().split(|letter| *letter == b';') {
         let (bytes, begins) = unhex(alloc, entry)?;
         if bytes.is_empty() {
             continue;

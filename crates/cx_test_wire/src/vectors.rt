@@ -5,7 +5,7 @@
 /// then six records of the last tag, 16, and then datagrams of the kinds 30 to 37 and records of the tags 12 to 15, four of each,
 /// in hexadecimal. A semicolon ends an entry. A mark `_` stands where a basic field of the body begins, as the other
 /// implementation says where it meets a cut.
-pub const ENTRIES: &str = "
+pub const VECTORS: &str = "
 4358010101000002012c001b_0001_0000000000000002_01_05_32_6d_39_4a_5a_09_75_39_65_71_74_59_2d_49_77;
 4358010101012c02012c002c_0001_0000000000000002_02_20_6d_44_37_71_4c_54_45_62_6b_72_4a_79_65_70_34_48_4e_58_6f_2d
 _6c_4c_63_79_49_38_68_38_5a_36_6a_75;

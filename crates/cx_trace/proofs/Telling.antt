@@ -4,10 +4,10 @@ use Rattle.cx_msg.specs.Letter.{Letter}
 use Rattle.cx_msg.specs.Names.{name_of_kind, name_of_message}
 use Rattle.cx_msg.specs.declared.message.Msg.{Msg}
 use Rattle.cx_msg.specs.declared.message.Msg.TheVariants.{Submit, Batch, Leads, MatchA, MatchB, MatchNack, Phase1A, Phase1B, Nack, Propose, Phase2A, Phase2B, Chosen, ChosenIn, Results, Answer, Held, Fetch, Inform, Informed, GarbageA, GarbageB, ReadReq, MatchRead, MatchReadAck, PreRead, PreReadAck, Read, SessRead, ReadAnswer, StopA, StopB, StopNack, NextA, NextB, BootA, BootB, Sets}
-use Rattle.cx_trace.specs.Trace.{tells, told_of, told_text}
+use Rattle.cx_trace.specs.Trace.{is_answer_name, client_text_of, told_text}
 
 -- a message of another kind tells nothing
-nothing_told : (client : ℕ) (m : Msg) → tells (name_of_message m) ≡ false → told_text client m ≡ []
+nothing_told : (client : ℕ) (m : Msg) → is_answer_name (name_of_message m) ≡ false → told_text client m ≡ []
 unfolding name_of_kind
 nothing_told client (Submit a) h = refl
 nothing_told client (Batch a) h = refl
@@ -48,6 +48,6 @@ nothing_told client (Sets a) h = refl
 nothing_told client (SessRead a b c) h = refl
 nothing_told client (ReadAnswer a b c) h = cc
 
-pub tells_nothing : (d : Letter) → tells (name_of_message d.msg) ≡ false → told_of d ≡ []
-unfolding told_of
+pub tells_nothing : (d : Letter) → is_answer_name (name_of_message d.msg) ≡ false → client_text_of d ≡ []
+unfolding client_text_of
 tells_nothing d h = nothing_told d.to.index d.msg h

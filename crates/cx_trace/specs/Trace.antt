@@ -110,12 +110,12 @@ told_text client (Sets a) = []
 told_text client (SessRead a b c) = []
 
 -- what a datagram tells the client that gets it
-unfoldable pub told_of : Letter → List ℕ
-told_of d = told_text d.to.index d.msg
+unfoldable pub client_text_of : Letter → List ℕ
+client_text_of d = told_text d.to.index d.msg
 
 -- whether messages of this name tell the client that gets them something: answers, and what reads found
-abbrev pub tells : List ℕ → Bool
-tells name = bytes_eq name (codes "Answer") || bytes_eq name (codes "ReadAnswer")
+abbrev pub is_answer_name : List ℕ → Bool
+is_answer_name name = bytes_eq name (codes "Answer") || bytes_eq name (codes "ReadAnswer")
 
 -- a number, two roles and a name
 abbrev pub named_text : ℕ → RoleId → RoleId → List ℕ → List ℕ
@@ -127,7 +127,7 @@ head_text n d = named_text n d.from d.to (name_of_message d.msg)
 
 -- the line of a datagram, and after it what it tells a client
 unfoldable pub datagram_text : ℕ → Letter → List ℕ
-datagram_text n d = head_text n d ++ hex (body d) ++ codes "\n" ++ told_of d
+datagram_text n d = head_text n d ++ hex (body d) ++ codes "\n" ++ client_text_of d
 
 -- the lines of datagrams, whose numbers rise from n
 abbrev pub datagrams_text : ℕ → List Letter → List ℕ

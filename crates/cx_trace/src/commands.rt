@@ -6,7 +6,7 @@ ghost use Rattle.cx_trace.specs.Summary.{acts_text, command_text, commands_text,
 
 use crate::pieces::{put, put_number, put_request, undo_part};
 use cx_base::{Command, NoMemory, Op, Value};
-use cx_kv::Executed;
+use cx_kv::ExecutedCommands;
 
 fn put_op(text: &mut Vec<u8>, op: &Op) -> Result<(), NoMemory>
     ensures ok { OnOk result (text.new.items ≡ text.old.items ++ op_text op.now) }
@@ -34,7 +34,11 @@ fn put_op(text: &mut Vec<u8>, op: &Op) -> Result<(), NoMemory>
 
 // Whether a command acts after those before it, in a word.
 #[tactic(auto, unfolding(crate::specs::Summary::acts_text))]
-fn put_acts(text: &mut Vec<u8>, before: &Executed, command: &Command) -> Result<(), NoMemory>
+fn put_acts(
+    text: &mut Vec<u8>,
+    before: &ExecutedCommands,
+    command: &Command,
+) -> Result<(), NoMemory>
     ensures ok { OnOk result (text.new.items ≡ text.old.items ++ acts_text before.now command.now) }
     ensures err { OnErr result (take (length text.old.items) text.new.items ≡ text.old.items) }
 {
@@ -49,7 +53,7 @@ fn put_acts(text: &mut Vec<u8>, before: &Executed, command: &Command) -> Result<
 fn put_command(
     text: &mut Vec<u8>,
     slot: u64,
-    before: &Executed,
+    before: &ExecutedCommands,
     command: &Command,
 ) -> Result<(), NoMemory>
     ensures ok { OnOk result (text.new.items ≡ text.old.items ++ command_text slot before.now command.now) }
@@ -69,7 +73,7 @@ fn put_command(
 fn put_commands(
     text: &mut Vec<u8>,
     slot: u64,
-    before: &mut Executed,
+    before: &mut ExecutedCommands,
     commands: &[Command],
 ) -> Result<(), NoMemory>
     ensures text { OnOk result (text.new.items ≡ text.old.items ++ commands_text slot before.old commands.now) }
@@ -86,7 +90,7 @@ fn put_commands(
 fn put_slot(
     text: &mut Vec<u8>,
     slot: u64,
-    before: &mut Executed,
+    before: &mut ExecutedCommands,
     value: &Value,
 ) -> Result<(), NoMemory>
     ensures text { OnOk result (text.new.items ≡ text.old.items ++ slot_text slot before.old value.now) }
@@ -106,7 +110,7 @@ fn put_slot(
 /// commands that come before it. Those grow by the slot's. An `Err` appends nothing.
 pub fn slot_into(
     slot: u64,
-    before: &mut Executed,
+    before: &mut ExecutedCommands,
     value: &Value,
     out: &mut Vec<u8>,
 ) -> Result<(), NoMemory>

@@ -2,7 +2,7 @@
 
 ghost use Rattle.std.specs.Prelude.{◌≡◌, ◌++◌, codes, decimal, length, take, OnErr, OnOk};
 ghost use Rattle.cx_base.specs.Role.{role_text};
-ghost use Rattle.cx_trace.specs.Trace.{datagram_text, head_text, named_text, tells, told_of, told_text};
+ghost use Rattle.cx_trace.specs.Trace.{datagram_text, head_text, named_text, is_answer_name, client_text_of, told_text};
 
 use crate::pieces::{put, put_hex, put_number, put_role, undo_part};
 use crate::replies::{put_answer, put_read};
@@ -24,15 +24,15 @@ pub fn put_told(text: &mut Vec<u8>, client: u16, msg: &Msg) -> Result<(), NoMemo
 }
 
 // Whether messages of this name tell the client that gets them something.
-fn tells(name: &str) -> bool
-    ensures { result ≡ tells name.now }
+fn is_answer_name(name: &str) -> bool
+    ensures { result ≡ is_answer_name name.now }
 {
     name == "Answer" || name == "ReadAnswer"
 }
 
 // What a datagram that was read tells the client that gets it.
 fn put_told_of(text: &mut Vec<u8>, datagram: &Datagram) -> Result<(), NoMemory>
-    ensures ok { OnOk result (text.new.items ≡ text.old.items ++ told_of datagram.now) }
+    ensures ok { OnOk result (text.new.items ≡ text.old.items ++ client_text_of datagram.now) }
     ensures err { OnErr result (take (length text.old.items) text.new.items ≡ text.old.items) }
 {
     put_told(text, datagram.to().index, datagram.msg())
@@ -40,10 +40,10 @@ fn put_told_of(text: &mut Vec<u8>, datagram: &Datagram) -> Result<(), NoMemory>
 
 // What a datagram tells the client that gets it. Only an answer's body is read.
 fn put_told_by(alloc: Global, text: &mut Vec<u8>, spelled: &Spelled<'_>) -> Result<(), NoMemory>
-    ensures ok { OnOk result (text.new.items ≡ text.old.items ++ told_of spelled.now) }
+    ensures ok { OnOk result (text.new.items ≡ text.old.items ++ client_text_of spelled.now) }
     ensures err { OnErr result (take (length text.old.items) text.new.items ≡ text.old.items) }
 {
-    if !tells(spelled.name()) {
+    if !is_answer_name(spelled.name()) {
         return Ok(());
     }
     let datagram = spelled.datagram(alloc)?;

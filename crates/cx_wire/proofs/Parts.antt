@@ -2,7 +2,7 @@
 use Rattle.std.proofs.Common.{◌≡◌, ℕ, Bool, true, false, not, ◌&&◌, ◌||◌, List, [], ◌∷◌, ◌++◌, length, refl, ap, ◌∙◌}
 use Rattle.std.specs.Prelude.{◌==◌}
 use Rattle.std.specs.List.{list_any}
-use Rattle.cx_wire.specs.Format.{Format, then_by, ◌▷◌, shaped, each_fits, each_spell, times, counted, Shape, Case, tagged}
+use Rattle.cx_wire.specs.Format.{Format, then_by, ◌▷◌, shaped, each_fits, each_spell, times, counted, TaggedBytes, Case, tagged}
 
 -- one format fits what another fits that doesn't tell, and both spell the same
 pub record IsPart {A : Type 0} (tells : A → Bool) (part whole : Format A) : Type 0 where
@@ -10,7 +10,7 @@ pub record IsPart {A : Type 0} (tells : A → Bool) (part whole : Format A) : Ty
   pub spells : (x : A) → part.spell x ≡ whole.spell x
 
 -- the same of shapes
-pub record IsShapePart (tells : Bool) (part whole : Shape) : Type 0 where
+pub record IsShapePart (tells : Bool) (part whole : TaggedBytes) : Type 0 where
   pub tag : part.tag ≡ whole.tag
   pub fits : part.fits ≡ (whole.fits && not tells)
   pub bytes : part.bytes ≡ whole.bytes
@@ -77,7 +77,7 @@ counted-part {A} count g h tells is =
     let inner = then_by-part count (λ n. times n g) (λ n. times n h) (list_any tells) (λ n. times-part n g h tells is) in
     record { fits = λ xs. inner.fits (length xs, xs); spells = λ xs. inner.spells (length xs, xs) }
 
-pub tagged-part : {A : Type 0} (s t : A → Shape) (cs ds : List (Case A)) (tells : A → Bool) → ((x : A) → IsShapePart (tells x) (s x) (t x)) → IsPart tells (tagged s cs) (tagged t ds)
+pub tagged-part : {A : Type 0} (s t : A → TaggedBytes) (cs ds : List (Case A)) (tells : A → Bool) → ((x : A) → IsShapePart (tells x) (s x) (t x)) → IsPart tells (tagged s cs) (tagged t ds)
 tagged-part s t cs ds tells is = record {
   fits = λ x. (is x).fits;
   spells = λ x. rw ((is x).tag, (is x).bytes) refl;

@@ -27,7 +27,7 @@ use Rattle.cx_msg.specs.declared.input.Act.{Act}
 use Rattle.cx_msg.specs.declared.input.KeptRecord.{KeptRecord}
 use Rattle.cx_msg.specs.declared.input.Written.{Written}
 use Rattle.cx_world.specs.Seat.{Seat, volatile_of, seat_turn, TurnsFound, TurnsAt, IsSeat, AreSeats}
-use Rattle.cx_world.specs.World.{SeatLists, roles_of, volatiles, HasSeats, IsChange}
+use Rattle.cx_world.specs.World.{SeatLists, seat_roles, volatiles, HasSeats, IsChange}
 
 abbrev volatile_in : {D V : Type 0} → Option (Seat (Running D V)) → Option (Option V)
 volatile_in None = None
@@ -153,7 +153,7 @@ module _ (w : World) (act : Act) (who : RoleId) (olds : SeatLists) (u v : Why) (
         kept = same_kept ∙ t.record_kept;
         sends = t.sends;
         seats = record {
-          roles = ap (λ (x : Roles). record x { batchers = model.roles }) has.roles ∙ ap (λ l. record (roles_of olds) { batchers = l }) (sym t.roles);
+          roles = ap (λ (x : Roles). record x { batchers = model.roles }) has.roles ∙ ap (λ l. record (seat_roles olds) { batchers = l }) (sym t.roles);
           batchers = subst (λ l. AreSeats batcher_rules w.cluster kind.Batcher (w.kept ++ l) news) t.record_kept t.seats;
           leaders = stay leader_rules kind.Batcher kind.Leader olds.leaders model.kept is refl t.record_kept has.leaders;
           proxies = stay proxy_rules kind.Batcher kind.Proxy olds.proxies model.kept is refl t.record_kept has.proxies;
@@ -179,7 +179,7 @@ module _ (w : World) (act : Act) (who : RoleId) (olds : SeatLists) (u v : Why) (
         kept = same_kept ∙ t.record_kept;
         sends = t.sends;
         seats = record {
-          roles = ap (λ (x : Roles). record x { leaders = model.roles }) has.roles ∙ ap (λ l. record (roles_of olds) { leaders = l }) (sym t.roles);
+          roles = ap (λ (x : Roles). record x { leaders = model.roles }) has.roles ∙ ap (λ l. record (seat_roles olds) { leaders = l }) (sym t.roles);
           batchers = stay batcher_rules kind.Leader kind.Batcher olds.batchers model.kept is refl t.record_kept has.batchers;
           leaders = subst (λ l. AreSeats leader_rules w.cluster kind.Leader (w.kept ++ l) news) t.record_kept t.seats;
           proxies = stay proxy_rules kind.Leader kind.Proxy olds.proxies model.kept is refl t.record_kept has.proxies;
@@ -205,7 +205,7 @@ module _ (w : World) (act : Act) (who : RoleId) (olds : SeatLists) (u v : Why) (
         kept = same_kept ∙ t.record_kept;
         sends = t.sends;
         seats = record {
-          roles = ap (λ (x : Roles). record x { proxies = model.roles }) has.roles ∙ ap (λ l. record (roles_of olds) { proxies = l }) (sym t.roles);
+          roles = ap (λ (x : Roles). record x { proxies = model.roles }) has.roles ∙ ap (λ l. record (seat_roles olds) { proxies = l }) (sym t.roles);
           batchers = stay batcher_rules kind.Proxy kind.Batcher olds.batchers model.kept is refl t.record_kept has.batchers;
           leaders = stay leader_rules kind.Proxy kind.Leader olds.leaders model.kept is refl t.record_kept has.leaders;
           proxies = subst (λ l. AreSeats proxy_rules w.cluster kind.Proxy (w.kept ++ l) news) t.record_kept t.seats;
@@ -231,7 +231,7 @@ module _ (w : World) (act : Act) (who : RoleId) (olds : SeatLists) (u v : Why) (
         kept = same_kept ∙ t.record_kept;
         sends = t.sends;
         seats = record {
-          roles = ap (λ (x : Roles). record x { acceptors = model.roles }) has.roles ∙ ap (λ l. record (roles_of olds) { acceptors = l }) (sym t.roles);
+          roles = ap (λ (x : Roles). record x { acceptors = model.roles }) has.roles ∙ ap (λ l. record (seat_roles olds) { acceptors = l }) (sym t.roles);
           batchers = stay batcher_rules kind.Acceptor kind.Batcher olds.batchers model.kept is refl t.record_kept has.batchers;
           leaders = stay leader_rules kind.Acceptor kind.Leader olds.leaders model.kept is refl t.record_kept has.leaders;
           proxies = stay proxy_rules kind.Acceptor kind.Proxy olds.proxies model.kept is refl t.record_kept has.proxies;
@@ -257,7 +257,7 @@ module _ (w : World) (act : Act) (who : RoleId) (olds : SeatLists) (u v : Why) (
         kept = same_kept ∙ t.record_kept;
         sends = t.sends;
         seats = record {
-          roles = ap (λ (x : Roles). record x { matchmakers = model.roles }) has.roles ∙ ap (λ l. record (roles_of olds) { matchmakers = l }) (sym t.roles);
+          roles = ap (λ (x : Roles). record x { matchmakers = model.roles }) has.roles ∙ ap (λ l. record (seat_roles olds) { matchmakers = l }) (sym t.roles);
           batchers = stay batcher_rules kind.Matchmaker kind.Batcher olds.batchers model.kept is refl t.record_kept has.batchers;
           leaders = stay leader_rules kind.Matchmaker kind.Leader olds.leaders model.kept is refl t.record_kept has.leaders;
           proxies = stay proxy_rules kind.Matchmaker kind.Proxy olds.proxies model.kept is refl t.record_kept has.proxies;
@@ -283,7 +283,7 @@ module _ (w : World) (act : Act) (who : RoleId) (olds : SeatLists) (u v : Why) (
         kept = same_kept ∙ t.record_kept;
         sends = t.sends;
         seats = record {
-          roles = ap (λ (x : Roles). record x { replicas = model.roles }) has.roles ∙ ap (λ l. record (roles_of olds) { replicas = l }) (sym t.roles);
+          roles = ap (λ (x : Roles). record x { replicas = model.roles }) has.roles ∙ ap (λ l. record (seat_roles olds) { replicas = l }) (sym t.roles);
           batchers = stay batcher_rules kind.Replica kind.Batcher olds.batchers model.kept is refl t.record_kept has.batchers;
           leaders = stay leader_rules kind.Replica kind.Leader olds.leaders model.kept is refl t.record_kept has.leaders;
           proxies = stay proxy_rules kind.Replica kind.Proxy olds.proxies model.kept is refl t.record_kept has.proxies;
@@ -309,7 +309,7 @@ module _ (w : World) (act : Act) (who : RoleId) (olds : SeatLists) (u v : Why) (
         kept = same_kept ∙ t.record_kept;
         sends = t.sends;
         seats = record {
-          roles = ap (λ (x : Roles). record x { unbatchers = model.roles }) has.roles ∙ ap (λ l. record (roles_of olds) { unbatchers = l }) (sym t.roles);
+          roles = ap (λ (x : Roles). record x { unbatchers = model.roles }) has.roles ∙ ap (λ l. record (seat_roles olds) { unbatchers = l }) (sym t.roles);
           batchers = stay batcher_rules kind.Unbatcher kind.Batcher olds.batchers model.kept is refl t.record_kept has.batchers;
           leaders = stay leader_rules kind.Unbatcher kind.Leader olds.leaders model.kept is refl t.record_kept has.leaders;
           proxies = stay proxy_rules kind.Unbatcher kind.Proxy olds.proxies model.kept is refl t.record_kept has.proxies;
@@ -335,7 +335,7 @@ module _ (w : World) (act : Act) (who : RoleId) (olds : SeatLists) (u v : Why) (
         kept = same_kept ∙ t.record_kept;
         sends = t.sends;
         seats = record {
-          roles = ap (λ (x : Roles). record x { readers = model.roles }) has.roles ∙ ap (λ l. record (roles_of olds) { readers = l }) (sym t.roles);
+          roles = ap (λ (x : Roles). record x { readers = model.roles }) has.roles ∙ ap (λ l. record (seat_roles olds) { readers = l }) (sym t.roles);
           batchers = stay batcher_rules kind.Reader kind.Batcher olds.batchers model.kept is refl t.record_kept has.batchers;
           leaders = stay leader_rules kind.Reader kind.Leader olds.leaders model.kept is refl t.record_kept has.leaders;
           proxies = stay proxy_rules kind.Reader kind.Proxy olds.proxies model.kept is refl t.record_kept has.proxies;
@@ -361,7 +361,7 @@ module _ (w : World) (act : Act) (who : RoleId) (olds : SeatLists) (u v : Why) (
         kept = same_kept ∙ t.record_kept;
         sends = t.sends;
         seats = record {
-          roles = ap (λ (x : Roles). record x { replacers = model.roles }) has.roles ∙ ap (λ l. record (roles_of olds) { replacers = l }) (sym t.roles);
+          roles = ap (λ (x : Roles). record x { replacers = model.roles }) has.roles ∙ ap (λ l. record (seat_roles olds) { replacers = l }) (sym t.roles);
           batchers = stay batcher_rules kind.Replacer kind.Batcher olds.batchers model.kept is refl t.record_kept has.batchers;
           leaders = stay leader_rules kind.Replacer kind.Leader olds.leaders model.kept is refl t.record_kept has.leaders;
           proxies = stay proxy_rules kind.Replacer kind.Proxy olds.proxies model.kept is refl t.record_kept has.proxies;

@@ -17,7 +17,7 @@ use Rattle.cx_keeper.specs.MemKeeper.{kept_of}
 use Rattle.cx_keeper.specs.declared.keeper.KeepFault.TheVariants.{Failed}
 use Rattle.cx_role.specs.Role.{KeepsDurable}
 use Rattle.cx_role.specs.Snap.{SnapStays, Snaps}
-use Rattle.cx_world.specs.LastKeeper.{LastState, first_of, last_renew_gives, list_kept}
+use Rattle.cx_world.specs.LastKeeper.{LastState, first_slot_of, last_renew_gives, list_kept}
 use Rattle.cx_world.specs.Seat.{IsTurned, Opens, Seat, Sits, seat_turn, why_of_cut}
 use Rattle.cx_world.proofs.Standing.{cut_either, cut_turned, here, knows, lives, on, stays, stops, whole_list}
 
@@ -31,7 +31,7 @@ IsOwn rules s o = (n : ℕ) → o ≡ Some n → refused rules s.cluster s.me (r
 
 -- the renewed list says which slot is its first
 abbrev pub SaysFirst : {D V : Type 0} → Rules D V → Type 0
-SaysFirst {D} rules = (d : D) (n : ℕ) → first_of (rules.renewed d n) ≡ n
+SaysFirst {D} rules = (d : D) (n : ℕ) → first_slot_of (rules.renewed d n) ≡ n
 
 -- of a seat whose role runs
 module _ {S D V : Type 0} (rules : Rules D V) (state : S → Running D V) (c : Cluster) (me : RoleId) (store : LastState) (role : Option S) (runs : Bool)
@@ -70,7 +70,7 @@ module _ {S D V : Type 0} (rules : Rules D V) (state : S → Running D V) (c : C
         | inr kept ↦
             let at : refused rules (state s).cluster (state s).me (list_kept new) ≡ None = ap (λ l. refused rules (state s).cluster (state s).me l) kept.list ∙ own n fail.1 in
             let at_cluster = subst (λ x. refused rules x (state s).me (list_kept new) ≡ None) (sym keeps.cluster) at in
-            let at_role : Opens rules (state after) (list_kept new) (Some (written.Snap (first_of renewed))) =
+            let at_role : Opens rules (state after) (list_kept new) (Some (written.Snap (first_slot_of renewed))) =
             subst (λ x. refused rules (state after).cluster x (list_kept new) ≡ None) (sym keeps.me) at_cluster in
             stops rules state c me store role runs sits up s is after new keeps dead
             (subst (λ x. Opens rules (state after) (list_kept new) x) (sym kept.last) at_role)
@@ -105,7 +105,7 @@ module _ {S D V : Type 0} (rules : Rules D V) (says : SaysFirst rules) (state : 
   grown n list = list ∙ ap (λ d. rules.renewed d n) fold
 
   -- the change that it is
-  left : (n : ℕ) → new.last ≡ Some (written.Snap (first_of (rules.renewed (state s).durable n))) → k ≡ Some (written.Snap n)
+  left : (n : ℕ) → new.last ≡ Some (written.Snap (first_slot_of (rules.renewed (state s).durable n))) → k ≡ Some (written.Snap n)
   left n last = told ∙ last ∙ ap (λ x. Some (written.Snap x)) (says (state s).durable n)
 
   whole_snap : (o : Option ℕ) → (w : Why) (after : S) (sent : List Letter) → Snaps last_renew_gives rules (state s) o w old new (state after) sent

@@ -19,13 +19,13 @@ use Rattle.cx_model.specs.Lists.{list_with}
 use Rattle.cx_model.specs.Outcome.{Outcome}
 use Rattle.cx_model.specs.Rules.{Rules, Running, IsFit, folded, folded_from, opened, outcome_of, refused, refused_from, with_kept}
 use Rattle.cx_model.specs.Turn.{Turn, cut_turn, turn_with, whole_turn}
-use Rattle.cx_keeper.specs.Keeper.{Change, Append, list_after}
-use Rattle.cx_keeper.specs.MemKeeper.{kept_of, cut_at}
+use Rattle.cx_keeper.specs.Keeper.{KeeperChange, Append, list_after}
+use Rattle.cx_keeper.specs.MemKeeper.{kept_of, is_left_by_cut}
 use Rattle.cx_keeper.specs.declared.keeper.KeepFault.TheVariants.{Failed}
 use Rattle.cx_role.specs.Role.{Steps, Keeps, KeepsDurable, MayKeep}
 use Rattle.cx_role.specs.Wake.{refused_behind, reopened}
 use Rattle.cx_world.specs.LastKeeper.{LastState, last_append_gives, last_cut, last_gives, list_kept, written_by}
-use Rattle.cx_world.specs.Seat.{IsTurned, Opens, Seat, Sits, Stands, seat_turn, unknown, why_of_cut}
+use Rattle.cx_world.specs.Seat.{IsTurned, Opens, Seat, Sits, StandsByStore, seat_turn, unknown, why_of_cut}
 
 -- ---- lists that may end
 
@@ -83,18 +83,18 @@ pub record IsTorn (old new : LastState) : Type 0 where
   pub last : new.last ≡ None
 
 -- a change was kept
-pub record IsKept (old : LastState) (change : Change) (new : LastState) : Type 0 where
+pub record IsKept (old : LastState) (change : KeeperChange) (new : LastState) : Type 0 where
   pub cut : old.store.cut ≡ Kept
   pub list : list_kept new ≡ list_after (list_kept old) change
   pub last : new.last ≡ Some (written_by change)
 
-cut_at_either : (cut : Cut) (old new : LastState) (change : Change) → old.store.cut ≡ cut → old.last ≡ None → cut_at cut old.store (list_after old.store.kept change) new.store
+cut_at_either : (cut : Cut) (old new : LastState) (change : KeeperChange) → old.store.cut ≡ cut → old.last ≡ None → is_left_by_cut cut old.store (list_after old.store.kept change) new.store
     → new.last ≡ last_cut cut old.last change → IsTorn old new ⊎ IsKept old change new
 cut_at_either Whole old new change set none h last = absurd h
 cut_at_either Torn old new change set none h last = inl (record { cut = set; list = ap kept_of h; last = last ∙ none })
 cut_at_either Kept old new change set none h last = inr (record { cut = set; list = ap kept_of h; last = last })
 
-pub cut_either : (old new : LastState) (change : Change) → old.last ≡ None → last_gives old change (Err Failed) new → IsTorn old new ⊎ IsKept old change new
+pub cut_either : (old new : LastState) (change : KeeperChange) → old.last ≡ None → last_gives old change (Err Failed) new → IsTorn old new ⊎ IsKept old change new
 cut_either old new change none h = cut_at_either old.store.cut old new change refl none h.0 h.1
 
 -- what a cut change comes to at a seat
@@ -120,7 +120,7 @@ seen runs role s up is = rw up is
 -- of a seat whose role runs
 module _ {S D V : Type 0} (rules : Rules D V) (state : S → Running D V) (c : Cluster) (me : RoleId) (store : LastState) (role : Option S) (runs : Bool)
     (sits : Sits rules state c me store role runs) (up : runs ≡ true) (s : S) (is : role ≡ Some s) where
-  pub here : Stands rules c me store (state s)
+  pub here : StandsByStore rules c me store (state s)
   here = sits.stands s is
 
   pub lives : (state s).live ≡ true
@@ -134,14 +134,14 @@ module _ {S D V : Type 0} (rules : Rules D V) (state : S → Running D V) (c : C
   pub on : (after : S) (new : LastState) → (state after).cluster ≡ c → (state after).me ≡ me → (state after).live ≡ true
       → rules.whole (state after).durable ≡ true → (state after).durable ≡ folded rules (list_kept new) → Sits rules state c me new (Some after) runs
   on after new at_cluster at_role live whole fold =
-      let there : Stands rules c me new (state after) = record {
+      let there : StandsByStore rules c me new (state after) = record {
         cluster = at_cluster;
         me = at_role;
         opens = subst (λ b. Opens rules (state after) (list_kept new) (unknown b new.last)) (sym live) (whole, fold);
       } in
       record {
         place = sits.place;
-        stands = λ x e. subst (λ (y : S). Stands rules c me new (state y)) (same_Some after x e) there;
+        stands = λ x e. subst (λ (y : S). StandsByStore rules c me new (state y)) (same_Some after x e) there;
         up = λ _. (after, refl, live);
       }
 
@@ -163,12 +163,12 @@ module _ {S D V : Type 0} (rules : Rules D V) (state : S → Running D V) (c : C
   pub stops : (after : S) (new : LastState) → KeepsDurable (state s) (state after) → (state after).live ≡ false → Opens rules (state after) (list_kept new) new.last
       → Sits rules state c me new (Some after) false
   stops after new keeps dead opens =
-      let there : Stands rules c me new (state after) = record {
+      let there : StandsByStore rules c me new (state after) = record {
         cluster = keeps.cluster ∙ here.cluster;
         me = keeps.me ∙ here.me;
         opens = subst (λ b. Opens rules (state after) (list_kept new) (unknown b new.last)) (sym dead) opens;
       } in
-      record { place = sits.place; stands = λ x e. subst (λ (y : S). Stands rules c me new (state y)) (same_Some after x e) there; up = λ e. cc }
+      record { place = sits.place; stands = λ x e. subst (λ (y : S). StandsByStore rules c me new (state y)) (same_Some after x e) there; up = λ e. cc }
 
   -- a change was lost: the role is as its list leaves it
   pub stays : (after : S) (new : LastState) → KeepsDurable (state s) (state after) → list_kept new ≡ list_kept store → new.last ≡ None → Opens rules (state after) (list_kept new) new.last
@@ -237,7 +237,7 @@ module _ {S D V : Type 0} (rules : Rules D V) (state : S → Running D V) (seat 
 
 -- ---- a role is opened again
 
-module _ {D V : Type 0} (rules : Rules D V) (c : Cluster) (me : RoleId) (store : LastState) (s : Running D V) (stands : Stands rules c me store s) where
+module _ {D V : Type 0} (rules : Rules D V) (c : Cluster) (me : RoleId) (store : LastState) (s : Running D V) (stands : StandsByStore rules c me store s) where
   opens_at : (o : Option Written) → unknown s.live store.last ≡ o → Opens rules s (list_kept store) o
   opens_at o e = subst (λ x. Opens rules s (list_kept store) x) e stands.opens
 
@@ -265,9 +265,9 @@ pub woke : {S D V : Type 0} (rules : Rules D V) (state : S → Running D V) (c :
     → Sits rules state c me store role runs → rules.whole (folded rules (list_kept store)) ≡ true → (s : S) → state s ≡ opened rules c me (list_kept store)
     → Sits rules state c me store (Some s) true
 woke rules state c me store role runs sits whole s is =
-    let there : Stands rules c me store (state s) = rw is (record { cluster = refl; me = refl; opens = (whole, refl) }) in
+    let there : StandsByStore rules c me store (state s) = rw is (record { cluster = refl; me = refl; opens = (whole, refl) }) in
     record {
       place = sits.place;
-      stands = λ x e. subst (λ y. Stands rules c me store (state y)) (same_Some s x e) there;
+      stands = λ x e. subst (λ y. StandsByStore rules c me store (state y)) (same_Some s x e) there;
       up = λ _. (s, refl, ap (λ (x : Running _ _). x.live) is);
     }

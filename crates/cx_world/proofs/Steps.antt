@@ -1,5 +1,5 @@
 -- The world after an event is the model's step, and what was true of the world before is true of it.
-use Rattle.std.proofs.Common.{◌≡◌, ◌+◌, ◌*◌, ℕ, true, List, [], ◌∷◌, ◌++◌, length, Option, ap, sym, ◌∙◌, subst, refl}
+use Rattle.std.proofs.Common.{◌≡◌, ◌+◌, ℕ, true, List, [], ◌∷◌, ◌++◌, length, Option, ap, sym, ◌∙◌, subst, refl}
 use Rattle.std.specs.List.{list_all}
 use Rattle.std.proofs.lemmas.List.Folds.{list_all-append}
 use Rattle.std.specs.Option.{option_to_list}
@@ -25,7 +25,7 @@ use Rattle.cx_msg.specs.declared.input.KeptRecord.{KeptRecord}
 use Rattle.cx_model.specs.Heard.{heard_at}
 use Rattle.cx_world.specs.Heard.{Hears, Raised, heard_below}
 use Rattle.cx_world.specs.Seat.{AreSeats}
-use Rattle.cx_world.specs.World.{SeatLists, IsChange, Holds, are_taken, roles_of, volatiles}
+use Rattle.cx_world.specs.World.{SeatLists, IsChange, IsUnspentWorld, are_taken, seat_roles, volatiles}
 use Rattle.cx_world.proofs.Hearing.{change_hears, hears_after, heard_below_after}
 
 run_one : (w : World) (es : List Event) (e : Event) → run_from w (es ++ e ∷ []) ≡ step (run_from w es) e
@@ -54,13 +54,13 @@ pub held_after : (w : World) (e : Event) (at : Option RoleId) (u : Why) (r : Opt
     → Raised numbers raised (λ client. heard_at client w.sent (record { event = e; why = u }))
     → (events : List Happened) (kept : List KeptRecord) (sent out : List Letter)
     → events ≡ w.events ++ record { event = e; why = u } ∷ [] → kept ≡ w.kept ++ option_to_list r → sent ≡ w.sent ++ sends → out ≡ []
-    → Holds (make_world w.cluster (roles_of seats) events kept sent) seats raised out
+    → IsUnspentWorld (make_world w.cluster (seat_roles seats) events kept sent) seats raised out
 unfolding step
 held_after w e at u r seats sends ch ran taken valid numbers raised hears all told events kept sent out same_events same_kept same_sent empty =
     let to = change w e in
     let all_kept : kept ≡ w.kept ++ to.kept = same_kept ∙ ap (λ l. w.kept ++ l) ch.kept in
-    let stepped : make_world w.cluster (roles_of seats) events kept sent ≡ step w e =
-    same_world w.cluster (roles_of seats) to.roles events (w.events ++ record { event = e; why = to.why } ∷ []) kept (w.kept ++ to.kept) sent (w.sent ++ to.sends)
+    let stepped : make_world w.cluster (seat_roles seats) events kept sent ≡ step w e =
+    same_world w.cluster (seat_roles seats) to.roles events (w.events ++ record { event = e; why = to.why } ∷ []) kept (w.kept ++ to.kept) sent (w.sent ++ to.sends)
     (sym ch.seats.roles) (same_events ∙ ap (λ x. w.events ++ record { event = e; why = x } ∷ []) ch.why) all_kept (same_sent ∙ ap (λ l. w.sent ++ l) ch.sends) in
     let listed : event_list events ≡ event_list w.events ++ e ∷ [] = ap (λ l. event_list l) same_events ∙ event_list_one w.events (record { event = e; why = u }) in
     let one : heard_below (length w.sent) (record { event = e; why = u }) ≡ true = change_hears w e u ch.why in
@@ -93,5 +93,5 @@ pub same_start : (c : Cluster) (seats : SeatLists)
     → volatiles seats.matchmakers ≡ fresh_roles (matchmaker_rules.fresh c) c.pool → volatiles seats.replicas ≡ fresh_roles (replica_rules.fresh c) c.replicas
     → volatiles seats.unbatchers ≡ fresh_roles (unbatcher_rules.fresh c) c.unbatchers → volatiles seats.readers ≡ fresh_roles (reader_rules.fresh c) c.readers
     → volatiles seats.replacers ≡ fresh_roles (replacer_rules.fresh c) c.replacers
-    → make_world c (roles_of seats) [] [] [] ≡ start c
+    → make_world c (seat_roles seats) [] [] [] ≡ start c
 same_start c seats p q r s t u v x y = rw (p, q, r, s, t, u, v, x, y) refl

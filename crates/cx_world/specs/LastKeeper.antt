@@ -10,7 +10,7 @@ use Rattle.cx_msg.specs.declared.kept.Record.{Record}
 use Rattle.cx_msg.specs.declared.kept.Record.TheVariants as kept
 use Rattle.cx_keeper.specs.declared.keeper.KeepFault.{KeepFault}
 use Rattle.cx_keeper.specs.declared.keeper.KeepFault.TheVariants.{Failed, NoMemory}
-use Rattle.cx_keeper.specs.Keeper.{Change, Append, Renewal, IsAppend, IsChange, all_fit}
+use Rattle.cx_keeper.specs.Keeper.{KeeperChange, Append, Renewal, IsAppend, IsKeeperChange, all_fit}
 use Rattle.cx_keeper.specs.MemKeeper.{MemKeeperState, kept_of, faults_of, mem_gives, mem_append_is, mem_renew_is}
 use Rattle.cx_history.specs.Kept.{all_changes_fit}
 
@@ -30,33 +30,33 @@ abbrev pub tells_nothing : LastState → Bool
 tells_nothing k = false
 
 -- the first slot of a list that begins anew
-abbrev pub slot_of : Record → ℕ
-slot_of (kept.Base first held pairs clients) = first
-slot_of other = 0
+abbrev pub base_slot : Record → ℕ
+base_slot (kept.Base first held pairs clients) = first
+base_slot other = 0
 
-abbrev pub first_of : List Record → ℕ
-first_of [] = 0
-first_of (r ∷ rs) = slot_of r
+abbrev pub first_slot_of : List Record → ℕ
+first_slot_of [] = 0
+first_slot_of (r ∷ rs) = base_slot r
 
 -- a change as the history has it
-abbrev pub written_by : Change → Written
+abbrev pub written_by : KeeperChange → Written
 written_by (Append r) = written.Record r
-written_by (Renewal records) = written.Snap (first_of records)
+written_by (Renewal records) = written.Snap (first_slot_of records)
 
 -- the last change after one that failed, which was lost or kept as it was set
-abbrev pub last_cut : Cut → Option Written → Change → Option Written
+abbrev pub last_cut : Cut → Option Written → KeeperChange → Option Written
 last_cut Whole last change = last
 last_cut Torn last change = last
 last_cut Kept last change = Some (written_by change)
 
 -- the last change after one that was answered so
-abbrev pub last_after : Cut → Option Written → Change → Result (Unit {0}) KeepFault → Option Written
+abbrev pub last_after : Cut → Option Written → KeeperChange → Result (Unit {0}) KeepFault → Option Written
 last_after cut last change (Ok u) = Some (written_by change)
 last_after cut last change (Err Failed) = last_cut cut last change
 last_after cut last change (Err NoMemory) = last
 
 -- a change is that of a keeper in memory
-abbrev pub last_gives : LastState → Change → Result (Unit {0}) KeepFault → LastState → Type 0
+abbrev pub last_gives : LastState → KeeperChange → Result (Unit {0}) KeepFault → LastState → Type 0
 last_gives old change answer new = mem_gives old.store change answer new.store × (new.last ≡ last_after old.store.cut old.last change answer)
 
 abbrev pub last_append_gives : LastState → Record → Result (Unit {0}) KeepFault → LastState → Type 0
@@ -71,7 +71,7 @@ is_renewal (Some (written.Snap first)) = true
 is_renewal other = false
 
 -- the list that was put anew is held where that was the last change, and what is held has a spelling
-pub record IsLast (records : List Record) (last : Option Written) (renewed : List Record) : Type 0 where
+pub record IsLastKeeperState (records : List Record) (last : Option Written) (renewed : List Record) : Type 0 where
   pub list : is_renewal last ≡ true → renewed ≡ records
   pub fit : IsTrue (all_changes_fit (option_to_list last))
   pub renewed_fit : IsTrue (all_fit renewed)
@@ -80,10 +80,10 @@ pub last_append_is : (old : LastState) (r : Record) (answer : Result (Unit {0}) 
     → IsAppend tells_nothing list_kept faults_kept old r answer new
 last_append_is old r answer new h =
     let is = mem_append_is old.store r answer new.store h.0 in
-    record { ok = λ _ e. cc; failed = is.failed; cause = is.cause; no_memory = is.no_memory; told = refl; still = is.still; later = is.later }
+    record { ok = λ _ e. cc; failed = is.failed; cause = is.cause; no_memory = is.no_memory; tells_same = refl; still = is.still; later = is.later }
 
 pub last_renew_is : (old : LastState) (records : List Record) (answer : Result (Unit {0}) KeepFault) (new : LastState) → last_renew_gives old records answer new
-    → IsChange tells_nothing list_kept faults_kept old (Renewal records) answer new
+    → IsKeeperChange tells_nothing list_kept faults_kept old (Renewal records) answer new
 last_renew_is old records answer new h =
     let is = mem_renew_is old.store records answer new.store h.0 in
-    record { ok = λ _ e. cc; failed = is.failed; cause = is.cause; no_memory = is.no_memory; told = refl; still = is.still; later = is.later }
+    record { ok = λ _ e. cc; failed = is.failed; cause = is.cause; no_memory = is.no_memory; tells_same = refl; still = is.still; later = is.later }

@@ -29,7 +29,7 @@ why_of_cut Torn = why.Torn
 why_of_cut Kept = why.Kept
 
 -- a role of the cluster, of its rules' kind
-pub record IsPlace {D V : Type 0} (rules : Rules D V) (c : Cluster) (who : RoleId) : Type 0 where
+pub record IsRoleOfRules {D V : Type 0} (rules : Rules D V) (c : Cluster) (who : RoleId) : Type 0 where
   pub kind : who.kind ≡ rules.kind
   pub named : IsTrue (names_role c who)
 
@@ -59,7 +59,7 @@ Opens rules s rs (Some (written.Record r)) = IsFit rules s.cluster s.me s.durabl
 Opens rules s rs (Some (written.Snap first)) = refused rules s.cluster s.me rs ≡ None
 
 -- a role, running or stopped, as its store leaves it: it may not know the last change, which was cut
-pub record Stands {D V : Type 0} (rules : Rules D V) (c : Cluster) (who : RoleId) (store : LastState) (s : Running D V) : Type 0 where
+pub record StandsByStore {D V : Type 0} (rules : Rules D V) (c : Cluster) (who : RoleId) (store : LastState) (s : Running D V) : Type 0 where
   pub cluster : s.cluster ≡ c
   pub me : s.me ≡ who
   pub opens : Opens rules s (list_kept store) (unknown s.live store.last)
@@ -70,8 +70,8 @@ IsUp {S} state role = (s : S) × (role ≡ Some s) × ((state s).live ≡ true)
 
 -- a seat's role, whether it runs, over its store
 pub record Sits {S D V : Type 0} (rules : Rules D V) (state : S → Running D V) (c : Cluster) (who : RoleId) (store : LastState) (role : Option S) (runs : Bool) : Type 0 where
-  pub place : IsPlace rules c who
-  pub stands : ForSome role (λ s. Stands rules c who store (state s))
+  pub place : IsRoleOfRules rules c who
+  pub stands : ForSome role (λ s. StandsByStore rules c who store (state s))
   pub up : runs ≡ true → IsUp state role
 
 -- the volatile part of the role, where it runs

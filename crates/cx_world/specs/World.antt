@@ -79,8 +79,8 @@ lists_of seats =
       replacers = seats.replacers.items;
     }
 
-abbrev pub roles_of : SeatLists → Roles
-roles_of seats =
+abbrev pub seat_roles : SeatLists → Roles
+seat_roles seats =
     record {
       batchers = volatiles seats.batchers;
       leaders = volatiles seats.leaders;
@@ -95,7 +95,7 @@ roles_of seats =
 
 -- the seats of a world: the roles that run, and each role's list by the history of changes
 pub record HasSeats (c : Cluster) (r : Roles) (kept : List KeptRecord) (seats : SeatLists) : Type 0 where
-  pub roles : r ≡ roles_of seats
+  pub roles : r ≡ seat_roles seats
   pub batchers : AreSeats batcher_rules c kind.Batcher kept seats.batchers
   pub leaders : AreSeats leader_rules c kind.Leader kept seats.leaders
   pub proxies : AreSeats proxy_rules c kind.Proxy kept seats.proxies
@@ -134,7 +134,7 @@ abbrev pub are_taken : List Happened → Bool
 are_taken events = list_all is_valid_event (event_list events)
 
 -- what is true of every world that isn't spent
-pub record Holds (w : World) (own : SeatLists) (numbers : List ℕ) (sends : List Letter) : Type 0 where
+pub record IsUnspentWorld (w : World) (own : SeatLists) (numbers : List ℕ) (sends : List Letter) : Type 0 where
   pub out : sends ≡ []
   pub seats : HasSeats w.cluster w.roles w.kept own
   pub hears : Hears numbers w.sent w.events

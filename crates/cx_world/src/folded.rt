@@ -7,24 +7,28 @@ ghost use Rattle.cx_world.specs.Folded.{folded_of, values_by};
 
 use cx_base::{Kind, NoMemory, RoleId, Value};
 use cx_history::Kept;
-use cx_kv::{Executed, Store, execute};
+use cx_kv::{ExecutedCommands, Store, apply_value};
 use cx_msg::{KeptRecord, Record, Written};
 use cx_trace::Folded;
 use std::alloc::Global;
 
-fn execute_all(before: &mut Executed, store: &mut Store, values: &[Value]) -> Result<(), NoMemory>
+fn execute_all(
+    before: &mut ExecutedCommands,
+    store: &mut Store,
+    values: &[Value],
+) -> Result<(), NoMemory>
     ensures store { OnOk result (store.new ≡ map_behind before.old store.old (command_list values.now)) }
     ensures before { OnOk result (before.new ≡ before.old ++ command_list values.now) }
 {
     for value in values {
-        execute(before, store, value)?;
+        apply_value(before, store, value)?;
     }
     Ok(())
 }
 
 // One value more for each of a change.
 fn execute_change(
-    before: &mut Executed,
+    before: &mut ExecutedCommands,
     folded: &mut Folded,
     what: &Written,
 ) -> Result<(), NoMemory>
@@ -51,7 +55,7 @@ fn execute_change(
 // The values of a change, if this role's store it is.
 fn execute_kept(
     me: RoleId,
-    before: &mut Executed,
+    before: &mut ExecutedCommands,
     folded: &mut Folded,
     one: &KeptRecord,
 ) -> Result<(), NoMemory>
@@ -73,7 +77,7 @@ pub fn folded(alloc: Global, kept: &Kept, replica: u16) -> Result<Folded, NoMemo
     ensures { IfOk result (λ folded. folded ≡ folded_of replica kept.now) }
 {
     let me = RoleId::new(Kind::Replica, replica);
-    let mut before = Executed::new(alloc);
+    let mut before = ExecutedCommands::new(alloc);
     let mut folded = Folded {
         held: 0,
         store: Store::new(alloc)?,

@@ -63,7 +63,7 @@ fn mark_told(datagram: &Datagram) -> u64
 }
 
 impl Heard {
-    /// No client has heard of anything. It takes no memory.
+    /// No client has heard of anything.
     pub fn new() -> Self
         ensures { (client : ℕ) → get_or result client 0 ≡ 0 }
     {
@@ -72,7 +72,7 @@ impl Heard {
         }
     }
 
-    /// The greatest number that a client was told. It takes no memory.
+    /// The greatest number that a client was told.
     #[tactic(auto, using(crate::proofs::Hearing::zero_fits))]
     pub fn by(&self, client: u16) -> u64
         ensures number { result ≡ get_or self.now client 0 }

@@ -5,31 +5,31 @@ ghost use Rattle.cx_history.specs.Kept.{all_changes_fit};
 ghost use Rattle.cx_keeper.specs.Keeper.{all_fit};
 ghost use Rattle.cx_msg.specs.Records.{fits};
 ghost use Rattle.cx_msg.specs.declared.input.Written.TheVariants as written;
-ghost use Rattle.cx_world.specs.LastKeeper.{faults_kept, first_of, is_renewal, last_append_gives, last_append_is, last_renew_gives, last_renew_is, list_kept, slot_of, tells_nothing};
+ghost use Rattle.cx_world.specs.LastKeeper.{faults_kept, first_slot_of, is_renewal, last_append_gives, last_append_is, last_renew_gives, last_renew_is, list_kept, base_slot, tells_nothing};
 
 use cx_base::{Cut, Duplicate, Faults, NoMemory};
 use cx_keeper::{KeepFault, Keeper, OpenFault, Records, Renew};
 use cx_msg::{Record, Written};
-use cx_ring::{Tells, Told};
+use cx_ring::{GhostList, GhostListOf};
 use std::alloc::Global;
 use std::marker::Model;
 
 struct NoRecords;
 
-impl Tells<(), Record> for NoRecords {
-    ghost told = { λ _. [] };
+impl GhostListOf<(), Record> for NoRecords {
+    ghost list_shown = { λ _. [] };
 }
 
 struct OneMore;
 
-impl<'a> Tells<(&'a Told<Record>, &'a Record), Record> for OneMore {
-    ghost told = { λ x. x.0.now.items ++ x.1.now ∷ [] };
+impl<'a> GhostListOf<(&'a GhostList<Record>, &'a Record), Record> for OneMore {
+    ghost list_shown = { λ x. x.0.now.items ++ x.1.now ∷ [] };
 }
 
 struct Anew;
 
-impl<'a> Tells<&'a Records, Record> for Anew {
-    ghost told = { λ x. x.now };
+impl<'a> GhostListOf<&'a Records, Record> for Anew {
+    ghost list_shown = { λ x. x.now };
 }
 
 /// Lets a change fail where `cut` says so, and holds the last change alone, with the list where that was put anew: whoever has it
@@ -37,7 +37,7 @@ impl<'a> Tells<&'a Records, Record> for Anew {
 #[derive(Drop)]
 pub struct LastKeeper {
     alloc: Global,
-    told: Told<Record>,
+    records: GhostList<Record>,
     last: Option<Written>,
     // The list that was put anew, where that is the last change.
     renewed: Records,
@@ -46,20 +46,20 @@ pub struct LastKeeper {
 }
 
 impl Model for LastKeeper {
-    ghost use Rattle.cx_world.specs.LastKeeper.{IsLast, LastState};
+    ghost use Rattle.cx_world.specs.LastKeeper.{IsLastKeeperState, LastState};
 
     ghost Value = { LastState };
 
     ghost view = { λ keeper. record {
-      store = record { kept = keeper.told.items; cut = keeper.cut; faults = keeper.faults };
+      store = record { kept = keeper.records.items; cut = keeper.cut; faults = keeper.faults };
       last = keeper.last;
     } };
 
-    ghost invariant = { λ keeper. IsLast keeper.told.items keeper.last keeper.renewed };
+    ghost invariant = { λ keeper. IsLastKeeperState keeper.records.items keeper.last keeper.renewed };
 }
 
-fn slot_of(what: &Record) -> u64
-    ensures { result ≡ slot_of what.now }
+fn base_slot(what: &Record) -> u64
+    ensures { result ≡ base_slot what.now }
 {
     match what {
         Record::Base { first, .. } => *first,
@@ -68,12 +68,12 @@ fn slot_of(what: &Record) -> u64
 }
 
 // The first slot of a list that begins anew.
-fn first_of(records: &[Record]) -> u64
-    ensures { result ≡ first_of records.now }
+fn first_slot_of(records: &[Record]) -> u64
+    ensures { result ≡ first_slot_of records.now }
 {
     match records {
         [] => 0,
-        [base, ..] => slot_of(base),
+        [base, ..] => base_slot(base),
     }
 }
 
@@ -93,7 +93,7 @@ impl LastKeeper {
     {
         LastKeeper {
             alloc,
-            told: Told::of::<(), NoRecords>(&()),
+            records: GhostList::of::<(), NoRecords>(&()),
             last: None,
             renewed: Records::new(alloc),
             cut: Cut::Whole,
@@ -101,7 +101,7 @@ impl LastKeeper {
         }
     }
 
-    /// The last change since `cut` was called, if there was one. It takes no memory.
+    /// The last change since `cut` was called, if there was one.
     pub fn last(&self) -> &Option<Written>
         ensures last { result.now ≡ self.now.last }
         ensures ranges { IsTrue (all_changes_fit (option_to_list result.now)) }
@@ -126,8 +126,7 @@ impl LastKeeper {
         self.renewed.all()
     }
 
-    /// How changes go from here on: `Torn` loses them and fails, `Kept` keeps them and fails. It forgets which was the last. It takes
-    /// no memory.
+    /// How changes go from here on: `Torn` loses them and fails, `Kept` keeps them and fails. It forgets which was the last.
     pub fn cut(&mut self, cut: Cut)
         ensures { self.new ≡ record { store = record self.old.store { cut = cut }; last = None } }
     {
@@ -146,7 +145,10 @@ impl LastKeeper {
         ensures err { OnErr result (self.new ≡ self.old) }
     {
         let last = what.copy(self.alloc)?;
-        self.told = Told::of::<(&Told<Record>, &Record), OneMore>(&(&self.told, what));
+        self.records = GhostList::of::<(&GhostList<Record>, &Record), OneMore>(&(
+            &self.records,
+            what,
+        ));
         self.last = Some(Written::Record { what: last });
         Ok(())
     }
@@ -156,15 +158,15 @@ impl LastKeeper {
         requires { IsTrue (all_fit records.now) }
         ensures ok { OnOk result (self.new ≡ record {
           store = record self.old.store { kept = records.now };
-          last = Some (written.Snap (first_of records.now));
+          last = Some (written.Snap (first_slot_of records.now));
         }) }
         ensures err { OnErr result (self.new ≡ self.old) }
     {
         let renewed = Records::of(self.alloc, records)?;
-        self.told = Told::of::<&Records, Anew>(&&renewed);
+        self.records = GhostList::of::<&Records, Anew>(&&renewed);
         self.renewed = renewed;
         self.last = Some(Written::Snap {
-            first: first_of(records),
+            first: first_slot_of(records),
         });
         Ok(())
     }

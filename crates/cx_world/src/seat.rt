@@ -11,7 +11,7 @@ ghost use Rattle.cx_keeper.specs.Keeper.{all_fit};
 ghost use Rattle.cx_role.specs.Role.{IsStep, MayKeep};
 ghost use Rattle.cx_role.specs.Wake.{refused_behind, reopened};
 ghost use Rattle.cx_world.specs.LastKeeper.{last_append_gives, list_kept, tells_nothing};
-ghost use Rattle.cx_world.specs.Seat.{AreSeats, IsPlace, IsTurned, is_snap, roles_in, Seat, seat_turn, Stands, TurnsAt, volatile_of, why_of_cut};
+ghost use Rattle.cx_world.specs.Seat.{AreSeats, IsRoleOfRules, IsTurned, is_snap, roles_in, Seat, seat_turn, StandsByStore, TurnsAt, volatile_of, why_of_cut};
 
 use crate::last_keeper::LastKeeper;
 use crate::turned::Turned;
@@ -100,7 +100,7 @@ fn anew<R: Role>(
     me: RoleId,
     records: &[Record],
 ) -> Result<R, NoMemory>
-    requires place { IsPlace R.rules cluster.now me }
+    requires place { IsRoleOfRules R.rules cluster.now me }
     requires fit { IsTrue (all_fit records.now) }
     requires own { refused R.rules cluster.now me records.now ≡ None }
     ensures { IfOk result (λ role. R.state role ≡ opened R.rules cluster.now me records.now) }
@@ -133,8 +133,8 @@ fn woken<R: Role + Drop>(
     role: R,
     keeper: &LastKeeper,
 ) -> Result<R, NoMemory>
-    requires place { IsPlace R.rules cluster.now me }
-    requires stands { Stands R.rules cluster.now me keeper.now (R.state role) }
+    requires place { IsRoleOfRules R.rules cluster.now me }
+    requires stands { StandsByStore R.rules cluster.now me keeper.now (R.state role) }
     ensures { IfOk result (λ woken. R.state woken ≡ opened R.rules cluster.now me (list_kept keeper.now)) }
 {
     if role.live() {
@@ -150,7 +150,7 @@ fn woken<R: Role + Drop>(
 impl<R: Role + Drop> Seat<R> {
     /// A running role without records.
     pub fn opened(alloc: Global, cluster: &Cluster, me: RoleId) -> Result<Self, NoMemory>
-        requires place { IsPlace R.rules cluster.now me }
+        requires place { IsRoleOfRules R.rules cluster.now me }
         requires whole { R.rules.whole R.rules.empty ≡ true }
         ensures cluster { IfOk result (λ seat. seat.cluster ≡ cluster.now) }
         ensures me { IfOk result (λ seat. seat.me ≡ me) }

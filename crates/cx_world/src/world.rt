@@ -47,12 +47,12 @@ impl Model for World {
 
     ghost Value = { WorldState };
 
-    ghost use Rattle.cx_world.specs.World.{Holds, roles_of, lists_of};
+    ghost use Rattle.cx_world.specs.World.{IsUnspentWorld, seat_roles, lists_of};
 
     ghost view = { λ w. record {
       world = record {
         cluster = w.cluster;
-        roles = roles_of (lists_of w.seats);
+        roles = seat_roles (lists_of w.seats);
         events = w.events;
         kept = w.kept;
         sent = w.sent;
@@ -61,9 +61,9 @@ impl Model for World {
     } };
 
     ghost invariant = { λ w. w.spent ≡ false
-        → Holds (record {
+        → IsUnspentWorld (record {
           cluster = w.cluster;
-          roles = roles_of (lists_of w.seats);
+          roles = seat_roles (lists_of w.seats);
           events = w.events;
           kept = w.kept;
           sent = w.sent;
@@ -180,7 +180,7 @@ impl World {
         })
     }
 
-    /// Whether a step was cut off when out of memory. It takes no memory.
+    /// Whether a step was cut off when out of memory.
     pub fn spent(&self) -> bool
         ensures { result ≡ self.now.spent }
     {
@@ -194,7 +194,7 @@ impl World {
         &self.cluster
     }
 
-    /// The datagrams that were sent, numbered from 0. It takes no memory.
+    /// The datagrams that were sent, numbered from 0.
     pub fn sent(&self) -> &Sent
         ensures { result.now ≡ self.now.world.sent }
     {
@@ -225,7 +225,7 @@ impl World {
         folded(self.alloc, &self.kept, replica)
     }
 
-    /// How much has happened. It takes no memory.
+    /// How much has happened.
     pub fn counts(&self) -> Counts
         ensures { result ≡ counts_of self.now.world }
     {
@@ -233,7 +233,7 @@ impl World {
     }
 
     /// What is true of every world that isn't spent: it is the run of its events, each of which it took, and what is promised of runs
-    /// holds of it. It takes no memory.
+    /// holds of it.
     pub fn law(&self)
         requires { self.now.spent ≡ false }
         ensures run { self.now.world ≡ run self.now.world.cluster (event_list self.now.world.events) }

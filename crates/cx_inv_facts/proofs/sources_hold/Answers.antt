@@ -1,5 +1,5 @@
-use Rattle.cx_inv_facts.proofs.NotedLaws.{sources_hold as held}
+use Rattle.cx_inv_facts.proofs.NotedLaws.{sources_hold as law}
 use Rattle.cx_inv_facts.proofs.sources_hold.Goals as goal
 
 pub returns : goal.returns
-returns g = held
+returns g = law

@@ -1,6 +1,6 @@
 use Rattle.cx_base.specs.declared.role.Kind.TheVariants as kind
 use Rattle.cx_base.specs.Role.{role}
-use Rattle.cx_inv_match.proofs.Records.{keep_turn}
+use Rattle.cx_inv_match.proofs.OtherRecords.{keep_turn}
 use Rattle.cx_inv_match.proofs.turn_law.Goals as goal
 
 pub returns : goal.returns

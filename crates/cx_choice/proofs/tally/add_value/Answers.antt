@@ -1,13 +1,13 @@
 use Rattle.std.proofs.Common.{◌≡◌, ◌==◌, true, false, rules}
 use Rattle.cx_choice.proofs.Among.{among, few, more}
 use Rattle.cx_choice.proofs.tally.add_value.Goals as goal
-use Rattle.cx_choice.specs.Enough.{is_among, is_enough}
+use Rattle.cx_choice.specs.Enough.{is_value_among, is_enough}
 use Rattle.cx_choice.specs.Sorted.{casts_in}
 
-pub returns-then-is_among : goal.returns-then-is_among
-returns-then-is_among c =
+pub returns-then-is_value_among : goal.returns-then-is_value_among
+returns-then-is_value_among c =
     let a = c.args in
-    let there : is_among a.chosen.now.items a.value.now ≡ true = search rules in
+    let there : is_value_among a.chosen.now.items a.value.now ≡ true = search rules in
     λ v. among a.chosen.now.items a.rounds.now (casts_in a.votes.now) a.at a.round a.slot a.value.now v there
 
 pub returns-then-not-is_enough : goal.returns-then-not-is_enough

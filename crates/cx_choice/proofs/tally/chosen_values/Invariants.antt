@@ -2,11 +2,11 @@ use Rattle.std.proofs.Common.{◌≡◌, ◌||◌, drop}
 use Rattle.std.specs.List.{list_any}
 use Rattle.cx_base.specs.declared.command.Value.{Value}
 use Rattle.cx_msg.specs.declared.input.KeptRecord.{KeptRecord}
-use Rattle.cx_choice.specs.Enough.{is_among, is_whole_vote}
+use Rattle.cx_choice.specs.Enough.{is_value_among, is_whole_vote}
 use Rattle.cx_choice.specs.Sorted.{casts_in}
 use Rattle.cx_choice.proofs.tally.chosen_values.Given as goal
 
 abbrev pub invariant-loop-vote : goal.invariant-loop-vote
 invariant-loop-vote l =
-    (v : Value) → (is_among l.chosen.items v || list_any (λ (k : KeptRecord). is_whole_vote l.rounds (casts_in l.by_round) l.at v k.what) (drop l.vote-index l.votes))
+    (v : Value) → (is_value_among l.chosen.items v || list_any (λ (k : KeptRecord). is_whole_vote l.rounds (casts_in l.by_round) l.at v k.what) (drop l.vote-index l.votes))
     ≡ list_any (λ (k : KeptRecord). is_whole_vote l.rounds (casts_in l.by_round) l.at v k.what) l.votes

@@ -2,7 +2,7 @@ use Rattle.std.proofs.Common.{◌≡◌, ◌≤◌, ◌-◌, ◌∙◌, ap, arit
 use Rattle.std.specs.List.{list_all}
 use Rattle.cx_base.specs.Asked.{is_valid_event}
 use Rattle.cx_base.specs.declared.event.Event.{Event}
-use Rattle.cx_client.specs.Window.{floor_for, outstanding, telling}
+use Rattle.cx_client.specs.Window.{floor_for, outstanding, event_with_floor}
 use Rattle.cx_client.proofs.Windows.{all_valid, at_most}
 use Rattle.cx_client.proofs.sending.send_outstanding.Goals as goal
 
@@ -15,5 +15,5 @@ send_above-requires-clause-room c =
 pub send_above-requires-clause-taken : goal.send_above-requires-clause-taken
 send_above-requires-clause-taken c =
     let floor : c.saturating_sub-floor.result ≡ floor_for c.args.left.now = c.saturating_sub-floor.ensures ∙ ap (λ n. n - 1) c.first_of.ensures in
-    subst (λ n. list_all (λ (e : Event). is_valid_event (telling n e)) c.outstanding.result.now ≡ true) (sym floor)
+    subst (λ n. list_all (λ (e : Event). is_valid_event (event_with_floor n e)) c.outstanding.result.now ≡ true) (sym floor)
     (rw c.outstanding.ensures (all_valid c.args.window c.args.left.now c.requires.rising))

@@ -4,4 +4,4 @@ use Rattle.cx_edge.proofs.lines.read_behind.Goals as goal
 
 pub returns-clause-bytes : goal.returns-clause-bytes
 returns-clause-bytes g c =
-    reads_behind (g.S.Source.left c.args.source.now) (g.S.Source.left c.read.new.self) c.args.held c.args.bytes.now c.read.new.buffer c.read.result c.requires (search rules) c.read.ensures.bytes
+    reads_behind (g.S.Source.left c.args.source.now) (g.S.Source.left c.read.new.self) c.args.buffered c.args.bytes.now c.read.new.buffer c.read.result c.requires (search rules) c.read.ensures.bytes

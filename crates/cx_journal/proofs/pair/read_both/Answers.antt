@@ -16,8 +16,8 @@ returns-clause-never g c = λ records both has.
     let b = told_of (g.D.Disk.seen c.args.second.now) both.1 in
     outside_so c.args.kind a.0 b.0 records c.read_pair.result (has a.0 b.0 a.1 b.1) (c.read_pair.ensures.broken a.0 b.0 a.1 b.1)
 
-pub returns-clause-told : goal.returns-clause-told
-returns-clause-told g c = told_still g.D.Disk.seen c.args.first.now c.args.second.now c.read_pair.new.first c.read_pair.new.second c.read_pair.ensures.first_tells c.read_pair.ensures.second_seen c.read_pair.ensures.same
+pub returns-clause-records : goal.returns-clause-records
+returns-clause-records g c = told_still g.D.Disk.seen c.args.first.now c.args.second.now c.read_pair.new.first c.read_pair.new.second c.read_pair.ensures.first_tells c.read_pair.ensures.second_seen c.read_pair.ensures.same
 
 pub returns-clause-same : goal.returns-clause-same
 returns-clause-same g c = λ a b x y first_told second_told first_now second_now.

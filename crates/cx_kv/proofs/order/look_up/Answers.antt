@@ -12,8 +12,8 @@ pub returns-clause-free : goal.returns-clause-free
 returns-clause-free c =
     let key = c.args.key.now in
     let pairs = picked c.args.list.now c.args.order.now in
-    let place = c.place_of-place.result in
-    let found = c.place_of-place.ensures in
+    let place = c.key_place-place.result in
+    let found = c.key_place-place.ensures in
     let long : length pairs ≡ length c.args.order.now = length-map c.args.order.now (pair_at c.args.list.now) in
     let other : place < length pairs → (d : Pair) → bytes_eq (get_or pairs place d).key key ≡ false =
     λ l d. elim c.else-place-order.branch [

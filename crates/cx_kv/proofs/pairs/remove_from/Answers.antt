@@ -9,15 +9,15 @@ none = record { key = []; text = [] }
 
 pub returns-in-Ok-clause-text : goal.returns-in-Ok-clause-text
 returns-in-Ok-clause-text c =
-    let held = rw (c.deref.ensures.value, c.deref-2.ensures.value) at c.in-Ok.ensures.held in
+    let placed = rw (c.deref.ensures.value, c.deref-2.ensures.value) at c.in-Ok.ensures.placed in
     ap (λ (text : List ℕ). Some text) (sym (c.remove_at.ensures.text none))
-    ∙ sym (text_at-held c.args.key.now (picked c.args.list.now.items c.args.order.now.items) c.in-Ok.place none held.before held.inside (held.same none))
+    ∙ sym (text_at-held c.args.key.now (picked c.args.list.now.items c.args.order.now.items) c.in-Ok.place none placed.before placed.inside (placed.same none))
 
 pub returns-in-Ok-clause-pairs : goal.returns-in-Ok-clause-pairs
 returns-in-Ok-clause-pairs c =
-    let held = rw (c.deref.ensures.value, c.deref-2.ensures.value) at c.in-Ok.ensures.held in
+    let placed = rw (c.deref.ensures.value, c.deref-2.ensures.value) at c.in-Ok.ensures.placed in
     c.remove_at.ensures.pairs
-    ∙ sym (without_key-held c.args.key.now (picked c.args.list.now.items c.args.order.now.items) c.in-Ok.place none held.before held.inside (held.same none))
+    ∙ sym (without_key-held c.args.key.now (picked c.args.list.now.items c.args.order.now.items) c.in-Ok.place none placed.before placed.inside (placed.same none))
 
 pub returns-in-Err-clause-text : goal.returns-in-Err-clause-text
 returns-in-Err-clause-text c =

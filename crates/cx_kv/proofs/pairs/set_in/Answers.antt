@@ -5,7 +5,7 @@ use Rattle.cx_kv.proofs.pairs.set_in.Goals as goal
 pub returns-in-Ok-clause-pairs : goal.returns-in-Ok-clause-pairs
 returns-in-Ok-clause-pairs c =
     text_set c.args.key.now c.args.text.now c.args.list.now.items c.set_at.new.list.items c.args.order.now.items c.in-Ok.place c.requires.ordered
-    (rw (c.deref.ensures.value, c.deref-2.ensures.value) at c.in-Ok.ensures.held)
+    (rw (c.deref.ensures.value, c.deref-2.ensures.value) at c.in-Ok.ensures.placed)
     (c.set_at.ensures.items ∙ ap (λ (order : List ℕ). set c.args.list.now.items (get_or order c.in-Ok.place 0) (record { key = c.args.key.now; text = c.args.text.now })) c.deref-in-Ok.ensures.value)
 
 pub returns-in-Err-clause-pairs : goal.returns-in-Err-clause-pairs

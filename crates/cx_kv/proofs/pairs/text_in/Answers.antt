@@ -6,10 +6,10 @@ use Rattle.cx_kv.proofs.pairs.text_in.Goals as goal
 
 pub returns-in-Ok : goal.returns-in-Ok
 returns-in-Ok c =
-    let held = c.in-Ok.ensures.held in
+    let placed = c.in-Ok.ensures.placed in
     let p = c.pair_at.result.now in
     ap (λ (q : Pair). Some q.text) (sym (c.pair_at.ensures p))
-    ∙ sym (text_at-held c.args.key.now (picked c.args.list.now c.args.order.now) c.in-Ok.place p held.before held.inside (held.same p))
+    ∙ sym (text_at-held c.args.key.now (picked c.args.list.now c.args.order.now) c.in-Ok.place p placed.before placed.inside (placed.same p))
 
 pub returns-in-Err : goal.returns-in-Err
 returns-in-Err c =

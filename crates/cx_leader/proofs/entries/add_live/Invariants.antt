@@ -1,7 +1,7 @@
 use Rattle.cx_role.proofs.Common.{◌≡◌, ◌++◌, drop}
-use Rattle.cx_model.specs.Matchmaker.{entries_from}
+use Rattle.cx_model.specs.Matchmaker.{entries_since}
 use Rattle.cx_leader.proofs.entries.add_live.Given as goal
 
 abbrev pub invariant-loop-entry : goal.invariant-loop-entry
-invariant-loop-entry l = l.live.items ++ entries_from l.watermark (drop l.entry-index l.entries)
-    ≡ l.fn.live.items ++ entries_from l.watermark l.entries
+invariant-loop-entry l = l.live.items ++ entries_since l.watermark (drop l.entry-index l.entries)
+    ≡ l.fn.live.items ++ entries_since l.watermark l.entries

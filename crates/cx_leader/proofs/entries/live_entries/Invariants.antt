@@ -1,7 +1,7 @@
 use Rattle.cx_role.proofs.Common.{◌≡◌, ◌++◌, drop, entries_told}
-use Rattle.cx_model.specs.Matchmaker.{entries_from}
+use Rattle.cx_model.specs.Matchmaker.{entries_since}
 use Rattle.cx_leader.proofs.entries.live_entries.Given as goal
 
 abbrev pub invariant-loop-answer : goal.invariant-loop-answer
-invariant-loop-answer l = l.live.items ++ entries_from l.watermark (entries_told (drop l.answer-index l.told))
-    ≡ entries_from l.watermark (entries_told l.told)
+invariant-loop-answer l = l.live.items ++ entries_since l.watermark (entries_told (drop l.answer-index l.told))
+    ≡ entries_since l.watermark (entries_told l.told)

@@ -1,5 +1,5 @@
 use Rattle.std.proofs.Common.{◌≡◌, ◌∙◌, [], None, Some, rules, sym, ap}
-use Rattle.cx_journal.specs.declared.store.Store.TheVariants.{One, Two}
+use Rattle.cx_journal.specs.declared.store.RecordStore.TheVariants.{One, Two}
 use Rattle.cx_node.proofs.StoresBack.{shown_by}
 use Rattle.cx_node.specs.Guest.{keeper_of}
 use Rattle.cx_node.specs.Opening.{disks_in, lent_to}
@@ -35,9 +35,9 @@ loop-seat-preserved-in-Some-One g c =
           (λ end rest. (
             c.close.new.self,
             record {
-              told = closed.told;
-              held = closed.held;
-              others_held = closed.others_held;
+              tells_same = closed.tells_same;
+              stored = closed.stored;
+              others_stored = closed.others_stored;
               cause = closed.cause;
               still = closed.still;
               others = closed.others;
@@ -91,9 +91,9 @@ loop-seat-preserved-in-Some-Two g c =
           (λ end rest. (
             mid,
             record {
-              told = first.told;
-              held = first.held;
-              others_held = first.others_held;
+              tells_same = first.tells_same;
+              stored = first.stored;
+              others_stored = first.others_stored;
               cause = first.cause;
               still = first.still;
               others = first.others;
@@ -102,9 +102,9 @@ loop-seat-preserved-in-Some-Two g c =
             (
               c.close-in-Some-Two-2.new.self,
               record {
-                told = second.told;
-                held = second.held;
-                others_held = second.others_held;
+                tells_same = second.tells_same;
+                stored = second.stored;
+                others_stored = second.others_stored;
                 cause = second.cause;
                 still = second.still;
                 others = second.others;
@@ -138,8 +138,8 @@ returns-clause-out g c =
     let empty : rest.items ≡ [] = no_items rest.items rest.len (search rules) c.in-None.ensures.steps.0 in
     c.loop-seat.invariant.out ∙ ap lent_to empty
 
-pub returns-clause-told : goal.returns-clause-told
-returns-clause-told g c =
+pub returns-clause-tells_same : goal.returns-clause-tells_same
+returns-clause-tells_same g c =
     let shown = shown_by g.D.Depot g.D.Store.Disk in
     let disks = disks_in c.args.seats.items in
     let old = c.args.depot.now in

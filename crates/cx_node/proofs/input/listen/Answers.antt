@@ -1,6 +1,6 @@
 use Rattle.std.proofs.Common.{false, subst}
 use Rattle.std.specs.Io.KnownBytes.{Consumes}
-use Rattle.cx_node.specs.Input.{IsAnswer, lines}
+use Rattle.cx_node.specs.Input.{IsInputAnswer, lines}
 use Rattle.cx_node.specs.declared.input.Refusal.TheVariants as refusal
 use Rattle.cx_node.proofs.Refuses.{all_complete, long_is_refused, read_failed, refused_of_all}
 use Rattle.cx_node.proofs.Taken.{answer_good, answer_hosts, answer_named, answer_port, answer_recordable, answer_scripts}
@@ -22,7 +22,7 @@ returns-in-TooLong-clause-bad_input g c = λ line is.
     c.in-TooLong.ensures.bytes.1 in
     refused_of_all c.args.recording c.args.roles.now (g.S.Source.left c.args.source.now) (g.S.Source.left c.read_all.new.source) bytes
     (refusal.BadInput line) consumed
-    (subst (IsAnswer false c.args.recording c.args.roles.now (lines bytes)) is c.answer_bytes-in-TooLong.ensures)
+    (subst (IsInputAnswer false c.args.recording c.args.roles.now (lines bytes)) is c.answer_bytes-in-TooLong.ensures)
 
 pub returns-in-TooLong-clause-bad_words : goal.returns-in-TooLong-clause-bad_words
 returns-in-TooLong-clause-bad_words g c = λ is.
@@ -32,13 +32,13 @@ returns-in-TooLong-clause-bad_words g c = λ is.
     c.in-TooLong.ensures.bytes.1 in
     refused_of_all c.args.recording c.args.roles.now (g.S.Source.left c.args.source.now)
     (g.S.Source.left c.read_all.new.source) bytes refusal.BadWords consumed
-    (subst (IsAnswer false c.args.recording c.args.roles.now (lines bytes)) is c.answer_bytes-in-TooLong.ensures)
+    (subst (IsInputAnswer false c.args.recording c.args.roles.now (lines bytes)) is c.answer_bytes-in-TooLong.ensures)
 
 pub returns-in-TooLong-clause-read_fault : goal.returns-in-TooLong-clause-read_fault
 returns-in-TooLong-clause-read_fault g c = λ is.
     let bytes = c.deref-in-TooLong.result.now in
     absurd (long_is_refused c.args.recording c.args.roles.now bytes (rw c.deref-in-TooLong.ensures.value c.in-TooLong.ensures.bytes.0)
-    (subst (IsAnswer false c.args.recording c.args.roles.now (lines bytes)) is c.answer_bytes-in-TooLong.ensures))
+    (subst (IsInputAnswer false c.args.recording c.args.roles.now (lines bytes)) is c.answer_bytes-in-TooLong.ensures))
 
 pub returns-in-TooLong-clause-complete : goal.returns-in-TooLong-clause-complete
 returns-in-TooLong-clause-complete g c = λ still.
@@ -49,7 +49,7 @@ returns-in-TooLong-clause-complete g c = λ still.
     all_complete c.args.recording c.args.roles.now (g.S.Source.left c.args.source.now)
     (g.S.Source.left c.read_all.new.source) bytes c.answer_bytes-in-TooLong.result consumed
     (λ is. long_is_refused c.args.recording c.args.roles.now bytes (rw c.deref-in-TooLong.ensures.value c.in-TooLong.ensures.bytes.0)
-    (subst (IsAnswer false c.args.recording c.args.roles.now
+    (subst (IsInputAnswer false c.args.recording c.args.roles.now
     (lines bytes)) is c.answer_bytes-in-TooLong.ensures)) c.answer_bytes-in-TooLong.ensures
 
 pub returns-in-Failed-clause-bad_input : goal.returns-in-Failed-clause-bad_input
@@ -59,7 +59,7 @@ returns-in-Failed-clause-bad_input g c = λ line is.
     (g.S.Source.left c.read_all.new.source) bytes = rw c.deref-in-Failed.ensures.value c.in-Failed.ensures.bytes in
     refused_of_all c.args.recording c.args.roles.now (g.S.Source.left c.args.source.now) (g.S.Source.left c.read_all.new.source) bytes
     (refusal.BadInput line) consumed
-    (subst (IsAnswer false c.args.recording c.args.roles.now (lines bytes)) is c.answer_bytes-in-Failed.ensures)
+    (subst (IsInputAnswer false c.args.recording c.args.roles.now (lines bytes)) is c.answer_bytes-in-Failed.ensures)
 
 pub returns-in-Failed-clause-bad_words : goal.returns-in-Failed-clause-bad_words
 returns-in-Failed-clause-bad_words g c = λ is.
@@ -68,7 +68,7 @@ returns-in-Failed-clause-bad_words g c = λ is.
     (g.S.Source.left c.read_all.new.source) bytes = rw c.deref-in-Failed.ensures.value c.in-Failed.ensures.bytes in
     refused_of_all c.args.recording c.args.roles.now (g.S.Source.left c.args.source.now)
     (g.S.Source.left c.read_all.new.source) bytes refusal.BadWords consumed
-    (subst (IsAnswer false c.args.recording c.args.roles.now (lines bytes)) is c.answer_bytes-in-Failed.ensures)
+    (subst (IsInputAnswer false c.args.recording c.args.roles.now (lines bytes)) is c.answer_bytes-in-Failed.ensures)
 
 pub returns-in-Failed-clause-complete : goal.returns-in-Failed-clause-complete
 returns-in-Failed-clause-complete g c = λ still.

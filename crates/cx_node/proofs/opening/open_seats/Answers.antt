@@ -30,7 +30,7 @@ open_guest-requires-clause-in_depot g c =
     subst (NoneIsOut me) (sym before.out)
     (next_in_depot g.D.Store.Disk.seen g.D.Store.Disk.faults c.args.cluster.now c.args.window c.args.events.now
     (g.D.Depot.tells c.args.depot.now)
-    (files_of (g.D.Depot.held c.args.depot.now)) c.args.roles.now c.loop-role.seats.items me
+    (files_of (g.D.Depot.stored c.args.depot.now)) c.args.roles.now c.loop-role.seats.items me
     next before.opened c.requires.distinct)
 
 pub new-requires : goal.new-requires
@@ -46,28 +46,28 @@ loop-role-preserved g c =
     let next : slice_get c.args.roles.now (length c.loop-role.seats.items) ≡ Some me =
     subst (λ n. slice_get c.args.roles.now n ≡ Some me) (sym before.size)
     (slice_get-get_or c.args.roles.now c.loop-role.role-index (a_role kind.Client 0) c.loop-role-test.true) in
-    let opened = rw (before.told, before.held (shelf me 0), before.held (shelf me 1)) at c.in_ok-guest.ensures.opened in
+    let opened = rw (before.tells_same, before.stored (shelf me 0), before.stored (shelf me 1)) at c.in_ok-guest.ensures.opened in
     let lends = c.in_ok-guest.ensures.lends in
     record {
       opened = rw (c.push_reserved.ensures.items, c.reserve.ensures.items, c.new.ensures)
           (opened_more g.D.Store.Disk.seen g.D.Store.Disk.faults c.args.cluster.now c.args.window c.args.events.now
           (g.D.Depot.tells c.args.depot.now)
-          (files_of (g.D.Depot.held c.args.depot.now)) c.args.roles.now c.loop-role.seats.items me
+          (files_of (g.D.Depot.stored c.args.depot.now)) c.args.roles.now c.loop-role.seats.items me
           next before.opened c.in_ok-guest.guest opened);
       size = rw (c.push_reserved.ensures.items, c.reserve.ensures.items, length-append, before.size) refl;
       out =
           lends.out
           ∙ rw (before.out, c.push_reserved.ensures.items, c.reserve.ensures.items, c.new.ensures, lent_append)
           refl;
-      told = lends.told ∙ before.told;
-      held = λ place. lends.stays place ∙ before.held place;
+      tells_same = lends.tells_same ∙ before.tells_same;
+      stored = λ place. lends.stays place ∙ before.stored place;
       still = λ who. lends.others who (ok_is_err c.in_ok-guest.guest (open_stop.StoreFault who)) ∙ before.still who;
     }
 
-pub returns-in_err-guest-clause-held : goal.returns-in_err-guest-clause-held
-returns-in_err-guest-clause-held g c = λ tells who.
+pub returns-in_err-guest-clause-stored : goal.returns-in_err-guest-clause-stored
+returns-in_err-guest-clause-stored g c = λ tells who.
     let before = c.loop-role.invariant in
-    c.open_guest.ensures.lends.held (before.told ∙ tells) who ∙ same_records _ _ before.held who
+    c.open_guest.ensures.lends.stored (before.tells_same ∙ tells) who ∙ same_records _ _ before.stored who
 
 pub returns-in_err-guest-clause-bad : goal.returns-in_err-guest-clause-bad
 returns-in_err-guest-clause-bad g c = λ role at e tells.
@@ -82,13 +82,13 @@ returns-in_err-guest-clause-bad g c = λ role at e tells.
     (slice_get-get_or c.args.roles.now c.loop-role.role-index (a_role kind.Client 0) c.loop-role-test.true
     ∙ ap Some (sym own)) in
     first_bad g.D.Store.Disk.seen g.D.Store.Disk.faults c.args.cluster.now c.args.window c.args.events.now
-    (g.D.Depot.tells c.args.depot.now) (files_of (g.D.Depot.held c.args.depot.now)) c.args.roles.now
+    (g.D.Depot.tells c.args.depot.now) (files_of (g.D.Depot.stored c.args.depot.now)) c.args.roles.now
     c.loop-role.seats.items
     before.opened tells role at next
     (subst (λ (files : Files). IsBadAs c.args.cluster.now role files at role.kind)
-    (files_same (g.D.Depot.held c.args.depot.now) (g.D.Depot.held c.loop-role.depot) role
-    (λ side. before.held (shelf role side)))
-    (c.in_err-guest.ensures.bad role at (ap Err is) (before.told ∙ tells)))
+    (files_same (g.D.Depot.stored c.args.depot.now) (g.D.Depot.stored c.loop-role.depot) role
+    (λ side. before.stored (shelf role side)))
+    (c.in_err-guest.ensures.bad role at (ap Err is) (before.tells_same ∙ tells)))
 
 pub returns-in_err-guest-clause-apart : goal.returns-in_err-guest-clause-apart
 returns-in_err-guest-clause-apart g c = λ who none.
@@ -97,4 +97,4 @@ returns-in_err-guest-clause-apart g c = λ who none.
     let here : slice_get c.args.roles.now c.loop-role.role-index ≡ Some me = slice_get-get_or c.args.roles.now
     c.loop-role.role-index (a_role kind.Client 0) c.loop-role-test.true in
     let stays = c.open_guest.ensures.lends.apart who (λ e. none c.loop-role.role-index (here ∙ ap Some (sym e))) in
-    (λ side. stays.0 side ∙ before.held (shelf who side), stays.1 ∙ before.still who)
+    (λ side. stays.0 side ∙ before.stored (shelf who side), stays.1 ∙ before.still who)

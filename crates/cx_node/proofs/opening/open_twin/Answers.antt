@@ -23,16 +23,16 @@ returns-in_default-open-clause-lends g c =
     let back = c.close.ensures in
     lends_none g.D.Depot c.args.me _ (open_stop.StoreFault c.args.me) c.args.depot.now c.close.new.self
     (apart_then g.D.Depot c.args.me c.args.depot.now c.open.new.self c.close.new.self
-    (apart_opened g.D.Depot c.args.me _ _ lent.told lent.held lent.later lent.others)
+    (apart_opened g.D.Depot c.args.me _ _ lent.tells_same lent.stored lent.later lent.others)
     (apart_then g.D.Depot c.args.me c.open.new.self c.open-2.new.self c.close.new.self
-    (apart_opened g.D.Depot c.args.me _ _ failed.told failed.held failed.later failed.others)
-    (apart_closed g.D.Depot c.args.me 0 _ _ back.told back.others_held back.later back.others)))
+    (apart_opened g.D.Depot c.args.me _ _ failed.tells_same failed.stored failed.later failed.others)
+    (apart_closed g.D.Depot c.args.me 0 _ _ back.tells_same back.others_stored back.later back.others)))
     (rw (back.out, failed.refused, lent.out)
     (without_last (shelf c.args.me 0) (g.D.Depot.out c.args.depot.now) (c.requires.in_depot 0)))
-    (λ t. ap (λ files. files_records (Some files)) (files_by_sides (g.D.Depot.held c.args.depot.now)
-    (g.D.Depot.held c.close.new.self) c.args.me (back.held (failed.told ∙ lent.told ∙ t) _ (lent.seen t))
-    (back.others_held (shelf c.args.me 1) (λ e. sides_differ c.args.me (sym e)) ∙ failed.held (shelf c.args.me 1)
-    ∙ lent.held (shelf c.args.me 1))))
+    (λ t. ap (λ files. files_records (Some files)) (files_by_sides (g.D.Depot.stored c.args.depot.now)
+    (g.D.Depot.stored c.close.new.self) c.args.me (back.stored (failed.tells_same ∙ lent.tells_same ∙ t) _ (lent.seen t))
+    (back.others_stored (shelf c.args.me 1) (λ e. sides_differ c.args.me (sym e)) ∙ failed.stored (shelf c.args.me 1)
+    ∙ lent.stored (shelf c.args.me 1))))
     (λ none. absurd (none refl))
 
 pub close-requires-in-Err-2 : goal.close-requires-in-Err-2
@@ -47,7 +47,7 @@ returns-in-Ok-wake_twin-clause-lends g c =
     lends_these g.D.Depot c.args.me _ _ c.args.depot.now c.open-2.new.self
     (second.out ∙ ap (λ (out : List Shelf). out ++ shelf c.args.me 1 ∷ []) first.out
     ∙ append_assoc (g.D.Depot.out c.args.depot.now) (shelf c.args.me 0 ∷ []) (shelf c.args.me 1 ∷ []))
-    (second.told ∙ first.told) (λ place. second.held place ∙ first.held place)
+    (second.tells_same ∙ first.tells_same) (λ place. second.stored place ∙ first.stored place)
     (λ who. second.still who ∙ first.still who)
 
 pub returns-in-Err-clause-lends : goal.returns-in-Err-clause-lends
@@ -59,22 +59,22 @@ returns-in-Err-clause-lends g c =
     let two : has_second c.args.me.kind ≡ true = ap has_second c.requires.kind in
     lends_none g.D.Depot c.args.me _ c.unwoken.result c.args.depot.now c.close-in-Err-2.new.self
     (apart_then g.D.Depot c.args.me c.args.depot.now c.open.new.self c.close-in-Err-2.new.self
-    (apart_opened g.D.Depot c.args.me _ _ first.told first.held first.later first.others)
+    (apart_opened g.D.Depot c.args.me _ _ first.tells_same first.stored first.later first.others)
     (apart_then g.D.Depot c.args.me c.open.new.self c.open-2.new.self c.close-in-Err-2.new.self
-    (apart_opened g.D.Depot c.args.me _ _ second.told second.held second.later second.others)
+    (apart_opened g.D.Depot c.args.me _ _ second.tells_same second.stored second.later second.others)
     (apart_then g.D.Depot c.args.me c.open-2.new.self c.close-in-Err.new.self c.close-in-Err-2.new.self
-    (apart_closed g.D.Depot c.args.me 0 _ _ first_back.told first_back.others_held first_back.later first_back.others)
-    (apart_closed g.D.Depot c.args.me 1 _ _ second_back.told second_back.others_held second_back.later
+    (apart_closed g.D.Depot c.args.me 0 _ _ first_back.tells_same first_back.others_stored first_back.later first_back.others)
+    (apart_closed g.D.Depot c.args.me 1 _ _ second_back.tells_same second_back.others_stored second_back.later
     second_back.others))))
     (rw (second_back.out, first_back.out, second.out, first.out)
     (without_both c.args.me (g.D.Depot.out c.args.depot.now) c.requires.in_depot))
-    (λ t. two_stay g.D.Store.Disk.seen c.args.me (g.D.Depot.held c.args.depot.now)
-    (g.D.Depot.held c.close-in-Err-2.new.self) c.in-Ok.first c.in-Ok-open.second c.in-Err.first c.in-Err.second two
-    (first.seen t) (second.seen (first.told ∙ t) ∙ ap Some (first.held (shelf c.args.me 1)))
+    (λ t. two_stay g.D.Store.Disk.seen c.args.me (g.D.Depot.stored c.args.depot.now)
+    (g.D.Depot.stored c.close-in-Err-2.new.self) c.in-Ok.first c.in-Ok-open.second c.in-Err.first c.in-Err.second two
+    (first.seen t) (second.seen (first.tells_same ∙ t) ∙ ap Some (first.stored (shelf c.args.me 1)))
     c.in-Err.ensures.first_tells c.in-Err.ensures.second_tells c.in-Err.ensures.same
-    (λ file e. second_back.others_held (shelf c.args.me 0) (sides_differ c.args.me)
-    ∙ first_back.held (second.told ∙ first.told ∙ t) file e)
-    (second_back.held (first_back.told ∙ second.told ∙ first.told ∙ t)))
+    (λ file e. second_back.others_stored (shelf c.args.me 0) (sides_differ c.args.me)
+    ∙ first_back.stored (second.tells_same ∙ first.tells_same ∙ t) file e)
+    (second_back.stored (first_back.tells_same ∙ second.tells_same ∙ first.tells_same ∙ t)))
     (λ none. let same = c.in-Err.ensures.still
     (λ failed. none (c.unwoken.ensures.stop ∙ ap (unwoken_stop c.args.me) failed)) in
     second_back.still (same.1 ∙ second.fresh) ∙ first_back.still (same.0 ∙ first.fresh) ∙ second.still c.args.me
@@ -86,9 +86,9 @@ returns-in-Err-clause-bad g c = λ role at e.
     let second = c.in-Ok-open.ensures in
     let why = unwoken_bad c.args.me c.in-Err.stop role at (sym c.unwoken.ensures.stop ∙ same_stop _ _ e) in (
       why.1,
-      λ t. bad_two replica_rules c.args.cluster.now (g.D.Depot.held c.args.depot.now) c.args.me at
+      λ t. bad_two replica_rules c.args.cluster.now (g.D.Depot.stored c.args.depot.now) c.args.me at
           (ap has_second c.requires.kind)
-          (c.in-Err.ensures.bad (g.D.Depot.held c.args.depot.now (shelf c.args.me 0))
-          (g.D.Depot.held c.args.depot.now (shelf c.args.me 1)) at (first.seen t)
-          (second.seen (first.told ∙ t) ∙ ap Some (first.held (shelf c.args.me 1))) why.0),
+          (c.in-Err.ensures.bad (g.D.Depot.stored c.args.depot.now (shelf c.args.me 0))
+          (g.D.Depot.stored c.args.depot.now (shelf c.args.me 1)) at (first.seen t)
+          (second.seen (first.tells_same ∙ t) ∙ ap Some (first.stored (shelf c.args.me 1))) why.0),
     )

@@ -67,7 +67,7 @@ pub run_behind-requires-clause-ready : goal.run_behind-requires-clause-ready
 run_behind-requires-clause-ready g c =
     ready_opened g.D.Store.Disk.seen g.D.Store.Disk.faults c.args.cluster.now c.args.window c.args.events.now
     (g.D.Depot.tells c.args.depot.now)
-    (files_of (g.D.Depot.held c.args.depot.now)) c.args.roles.now c.open_all.new.seats.items
+    (files_of (g.D.Depot.stored c.args.depot.now)) c.args.roles.now c.open_all.new.seats.items
     c.requires.distinct (all_named
     (λ r. names_role c.args.cluster.now r) c.args.roles.now c.requires.named) c.open_all.ensures.opened
 
@@ -75,7 +75,7 @@ pub close_seats-requires-clause-distinct : goal.close_seats-requires-clause-dist
 close_seats-requires-clause-distinct g c =
     distinct_opened g.D.Store.Disk.seen g.D.Store.Disk.faults c.args.cluster.now c.args.window c.args.events.now
     (g.D.Depot.tells c.args.depot.now)
-    (files_of (g.D.Depot.held c.args.depot.now)) c.args.roles.now c.open_all.new.seats.items
+    (files_of (g.D.Depot.stored c.args.depot.now)) c.args.roles.now c.open_all.new.seats.items
     c.requires.distinct c.open_all.ensures.opened
 
 pub returns-in-Ok-open_all-clause-answered : goal.returns-in-Ok-open_all-clause-answered
@@ -103,28 +103,28 @@ returns-in-Ok-open_all-clause-answered g c = λ left left_after reads reads_afte
     c.args.turns old new s) (sym run.3)
     (host_ran disk c.args.tend header c.args.cluster.now
     c.args.window c.args.events.now c.args.turns c.args.roles.now old new
-    (g.L.Link.told c.bind_all.new.link) (g.L.Link.faults c.bind_all.new.link) (depot.held c.open_all.new.depot)
-    (depot.held c.run_behind.new.depot) (depot.faults c.open_all.new.depot) c.open_all.new.seats.items run.0 run.1 run.2
+    (g.L.Link.history c.bind_all.new.link) (g.L.Link.faults c.bind_all.new.link) (depot.stored c.open_all.new.depot)
+    (depot.stored c.run_behind.new.depot) (depot.faults c.open_all.new.depot) c.open_all.new.seats.items run.0 run.1 run.2
     c.requires.distinct c.open_all.ensures.opened c.in-Ok-open_all.ensures.all
     (c.bind_all.ensures.all c.if-not-bind_all.false) (c.bind_all.ensures.still c.if-not-bind_all.false)
     (λ role. c.in-Ok-open_all.ensures.others role (ok_is_err tt (open_stop.StoreFault role)))
-    (λ me none. files_same (depot.held c.args.depot.now) (depot.held c.open_all.new.depot) me
-    (c.open_all.ensures.apart me none).0) (λ me. refl) (c.run_behind.ensures.told ∙ c.open_all.ensures.told) ran
-    (subst (λ t. GivesBack disk.seen disk.faults (disks_in run.0) t (depot.held c.open_all.new.depot)
-    (depot.held c.run_behind.new.depot) (depot.faults c.open_all.new.depot) (depot.faults c.run_behind.new.depot))
-    c.open_all.ensures.told run.5)
+    (λ me none. files_same (depot.stored c.args.depot.now) (depot.stored c.open_all.new.depot) me
+    (c.open_all.ensures.apart me none).0) (λ me. refl) (c.run_behind.ensures.tells_same ∙ c.open_all.ensures.tells_same) ran
+    (subst (λ t. GivesBack disk.seen disk.faults (disks_in run.0) t (depot.stored c.open_all.new.depot)
+    (depot.stored c.run_behind.new.depot) (depot.faults c.open_all.new.depot) (depot.faults c.run_behind.new.depot))
+    c.open_all.ensures.tells_same run.5)
     (plain_run c.args.tend c.args.cluster.now)
-    (λ told from is takes. recorded_run disk.seen disk.faults c.args.cluster.now c.args.window c.args.events.now
-    (depot.tells c.args.depot.now) (files_of (depot.held c.args.depot.now)) c.args.roles.now c.open_all.new.seats.items
+    (λ recovered from is takes. recorded_run disk.seen disk.faults c.args.cluster.now c.args.window c.args.events.now
+    (depot.tells c.args.depot.now) (files_of (depot.stored c.args.depot.now)) c.args.roles.now c.open_all.new.seats.items
     c.requires.distinct (all_named (λ r. names_role c.args.cluster.now r) c.args.roles.now c.requires.named)
     c.requires.scripts c.requires.recordable c.requires.some_window c.requires.window
     (record {
       follows = λ tend takes hs fresh. c.recorded_runs_follow.ensures.follows tend c.args.cluster.now takes hs fresh;
       in_flight = λ tend takes hs fresh. c.recorded_runs_follow.ensures.in_flight tend c.args.cluster.now takes hs fresh;
     })
-    c.open_all.ensures.opened c.in-Ok-open_all.ensures.all (fresh is) told from c.args.tend header is takes)
+    c.open_all.ensures.opened c.in-Ok-open_all.ensures.all (fresh is) recovered from c.args.tend header is takes)
     (λ is t. none_used disk.seen disk.faults c.args.cluster.now c.args.window c.args.events.now
-    (depot.tells c.args.depot.now) (files_of (depot.held c.args.depot.now)) c.args.roles.now c.open_all.new.seats.items
+    (depot.tells c.args.depot.now) (files_of (depot.stored c.args.depot.now)) c.args.roles.now c.open_all.new.seats.items
     c.in-Ok-open_all.ensures.all c.open_all.ensures.opened t (fresh is)))
 
 pub returns-clause-answered : goal.returns-clause-answered
@@ -138,39 +138,39 @@ returns-clause-answered g c = λ left left_after reads reads_after.
     let opening = c.open_all.ensures in
     let close = c.close_seats.ensures in
     let back = subst (λ t. GivesBack disk.seen disk.faults (disks_in c.open_all.new.seats.items) t
-    (depot.held c.open_all.new.depot) (depot.held c.close_seats.new.depot) (depot.faults c.open_all.new.depot)
+    (depot.stored c.open_all.new.depot) (depot.stored c.close_seats.new.depot) (depot.faults c.open_all.new.depot)
     (depot.faults c.close_seats.new.depot))
-    opening.told close.back in
+    opening.tells_same close.back in
     let stays = opened_stays disk c.args.cluster.now
-    c.args.window c.args.events.now (depot.tells c.args.depot.now) (files_of (depot.held c.args.depot.now))
-    (depot.held c.open_all.new.depot) (depot.held c.close_seats.new.depot) (depot.faults c.open_all.new.depot)
+    c.args.window c.args.events.now (depot.tells c.args.depot.now) (files_of (depot.stored c.args.depot.now))
+    (depot.stored c.open_all.new.depot) (depot.stored c.close_seats.new.depot) (depot.faults c.open_all.new.depot)
     (depot.faults c.close_seats.new.depot) c.args.roles.now c.open_all.new.seats.items
-    c.requires.distinct opening.opened back opening.held in
+    c.requires.distinct opening.opened back opening.stored in
     let stands = opened_still disk c.args.cluster.now
-    c.args.window c.args.events.now (depot.tells c.args.depot.now) (files_of (depot.held c.args.depot.now))
-    (depot.held c.open_all.new.depot) (depot.held c.close_seats.new.depot) (depot.faults c.open_all.new.depot)
+    c.args.window c.args.events.now (depot.tells c.args.depot.now) (files_of (depot.stored c.args.depot.now))
+    (depot.stored c.open_all.new.depot) (depot.stored c.close_seats.new.depot) (depot.faults c.open_all.new.depot)
     (depot.faults c.close_seats.new.depot) c.args.roles.now c.open_all.new.seats.items
     opening.opened back in
     let apart = opened_unhosted disk c.args.cluster.now
-    c.args.window c.args.events.now (depot.tells c.args.depot.now) (files_of (depot.held c.args.depot.now))
-    (depot.held c.open_all.new.depot) (depot.held c.close_seats.new.depot) (depot.faults c.open_all.new.depot)
+    c.args.window c.args.events.now (depot.tells c.args.depot.now) (files_of (depot.stored c.args.depot.now))
+    (depot.stored c.open_all.new.depot) (depot.stored c.close_seats.new.depot) (depot.faults c.open_all.new.depot)
     (depot.faults c.close_seats.new.depot) c.args.roles.now c.open_all.new.seats.items opening.opened back in
     let early = host_early c.args.tend header c.args.cluster.now c.args.window c.args.events.now c.args.turns
     c.args.roles.now old new c.bind_all.ensures.part.0 c.bind_all.ensures.part.1 refl stays
     (λ me none. (
-      (apart me none).0 ∙ files_same (depot.held c.args.depot.now) (depot.held c.open_all.new.depot) me
+      (apart me none).0 ∙ files_same (depot.stored c.args.depot.now) (depot.stored c.open_all.new.depot) me
           (opening.apart me none).0,
       (apart me none).1 ∙ (opening.apart me none).1,
     ))
-    (close.told ∙ opening.told) in
+    (close.tells_same ∙ opening.tells_same) in
     let binding = host_binding c.args.tend header c.args.cluster.now c.args.window c.args.events.now c.args.turns
     c.args.roles.now old new c.bind_all.ensures.part.0 c.bind_all.ensures.part.1 refl stays
     (λ me none. (
-      (apart me none).0 ∙ files_same (depot.held c.args.depot.now) (depot.held c.open_all.new.depot) me
+      (apart me none).0 ∙ files_same (depot.stored c.args.depot.now) (depot.stored c.open_all.new.depot) me
           (opening.apart me none).0,
       (apart me none).1 ∙ (opening.apart me none).1,
     ))
-    (close.told ∙ opening.told) in
+    (close.tells_same ∙ opening.tells_same) in
     subst (λ s. HostAnswered c.args.roles.now c.args.tend header c.args.cluster.now c.args.window c.args.events.now
     c.args.turns old new s) (sym c.unopened.ensures)
     (host_unopened c.args.tend header c.args.cluster.now c.args.window c.args.events.now c.args.turns c.args.roles.now old
@@ -183,7 +183,7 @@ returns-clause-answered g c = λ left left_after reads reads_after.
     (records_header c.args.recording c.args.header.now ∙ used.0, refl, used.2))
     (λ role e. let used = opening.used role (c.in-Err.is ∙ ap Err e) in
     all_good disk.seen disk.faults c.args.cluster.now c.args.window c.args.events.now (depot.tells c.args.depot.now)
-    (files_of (depot.held c.args.depot.now)) c.args.roles.now c.open_all.new.seats.items used.1 opening.opened)
+    (files_of (depot.stored c.args.depot.now)) c.args.roles.now c.open_all.new.seats.items used.1 opening.opened)
     (λ role no. stands role ∙ opening.others role
     (λ e. no (same_stop c.in-Err.stop (open_stop.StoreFault role) (sym c.in-Err.is ∙ e)))) refl
     (c.bind_all.ensures.still c.if-not-bind_all.false))

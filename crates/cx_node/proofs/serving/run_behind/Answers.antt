@@ -15,7 +15,7 @@ returns-then-not-write_all-clause-ran g c = (
   record {
     done = tt;
     part = behind_cut (store_gives g.D.Store.Disk) c.args.tend c.args.cluster.now c.args.turns c.args.text.now
-        c.args.seats.items (known_first c.args.recording) (g.L.Link.told c.args.link.now)
+        c.args.seats.items (known_first c.args.recording) (g.L.Link.history c.args.link.now)
         (g.W.Sink.taken c.args.out.now) (g.W.Sink.taken c.write_all.new.sink)
         (subst (λ b. WritesAll (g.W.Sink.taken c.args.out.now) (g.W.Sink.taken c.write_all.new.sink) b c.args.text.now)
         c.if-not-write_all.true c.write_all.ensures.bytes);
@@ -35,7 +35,7 @@ returns-clause-ran g c =
       run.2,
       run.3,
       ran_behind (store_gives g.D.Store.Disk) c.args.tend c.args.cluster.now c.args.turns c.args.text.now
-          c.args.seats.items (known_first c.args.recording) (g.L.Link.told c.args.link.now)
+          c.args.seats.items (known_first c.args.recording) (g.L.Link.history c.args.link.now)
           (g.W.Sink.taken c.args.out.now) (g.W.Sink.taken c.write_all.new.sink)
           (scene_of g.L.Link g.W.Sink (hosting c.args.cluster.now run.0 run.1) c.run_seats.new.link c.run_seats.new.out)
           (subst (λ b. WritesAll (g.W.Sink.taken c.args.out.now) (g.W.Sink.taken c.write_all.new.sink) b c.args.text.now)

@@ -1,5 +1,5 @@
 use Rattle.std.proofs.Common.{refl, sym, subst}
-use Rattle.cx_node.specs.Serving.{Says, outside, recorded_header}
+use Rattle.cx_node.specs.Serving.{InputSays, outside, recorded_header}
 use Rattle.cx_node.proofs.Answering.{answered_so, completes_so, err_is, refused_so, refused_tells_bad, refused_tells_used, says_heard}
 use Rattle.cx_node.proofs.Answering.{tells_bad_so, tells_used_so}
 use Rattle.cx_node.proofs.serving.serve.Goals as goal
@@ -12,7 +12,7 @@ returns-in-Ok-clause-answered g c =
     c.args.out.now in
     let new = outside g.S.Source g.L.Link g.D.Depot g.W.Sink c.listen.new.source c.host.new.link c.host.new.depot
     c.host.new.out in
-    let says = subst (λ events. Says c.args.recording c.args.roles.now (g.S.Source.left c.args.input.now)
+    let says = subst (λ events. InputSays c.args.recording c.args.roles.now (g.S.Source.left c.args.input.now)
     (recorded_header c.args.recording c.in-Ok.accepted.header) c.in-Ok.accepted.cluster events)
     (sym c.events.ensures)
     (says_heard c.args.recording c.args.roles.now (g.S.Source.left c.args.input.now) c.in-Ok.accepted.header c.in-Ok.accepted.cluster c.in-Ok.accepted.schedule
@@ -29,7 +29,7 @@ returns-in-Ok-clause-complete g c = completes_so _ _ _ _ _ _ _ _ (returns-in-Ok-
 pub returns-in-Ok-clause-tells_used : goal.returns-in-Ok-clause-tells_used
 returns-in-Ok-clause-tells_used g c =
     let heard = c.in-Ok.ensures in
-    let says = subst (λ events. Says c.args.recording c.args.roles.now (g.S.Source.left c.args.input.now)
+    let says = subst (λ events. InputSays c.args.recording c.args.roles.now (g.S.Source.left c.args.input.now)
     (recorded_header c.args.recording c.in-Ok.accepted.header) c.in-Ok.accepted.cluster events)
     (sym c.events.ensures)
     (says_heard c.args.recording c.args.roles.now (g.S.Source.left c.args.input.now) c.in-Ok.accepted.header c.in-Ok.accepted.cluster c.in-Ok.accepted.schedule
@@ -42,7 +42,7 @@ returns-in-Ok-clause-tells_used g c =
 pub returns-in-Ok-clause-tells_bad : goal.returns-in-Ok-clause-tells_bad
 returns-in-Ok-clause-tells_bad g c =
     let heard = c.in-Ok.ensures in
-    let says = subst (λ events. Says c.args.recording c.args.roles.now (g.S.Source.left c.args.input.now)
+    let says = subst (λ events. InputSays c.args.recording c.args.roles.now (g.S.Source.left c.args.input.now)
     (recorded_header c.args.recording c.in-Ok.accepted.header) c.in-Ok.accepted.cluster events)
     (sym c.events.ensures)
     (says_heard c.args.recording c.args.roles.now (g.S.Source.left c.args.input.now) c.in-Ok.accepted.header c.in-Ok.accepted.cluster c.in-Ok.accepted.schedule
@@ -63,7 +63,7 @@ returns-in-Err-clause-answered g c =
       out = refl;
       writes = refl;
       tells = refl;
-      held = λ me. refl;
+      stored = λ me. refl;
       stores = λ me.
           refl;
     })

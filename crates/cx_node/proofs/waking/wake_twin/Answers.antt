@@ -1,6 +1,6 @@
 use Rattle.std.proofs.Common.{◌≡◌, ◌+◌, ◌∙◌, ℕ, ap, is_some, length, Some, arith, rules}
 use Rattle.cx_base.specs.declared.role.Kind.TheVariants as kind
-use Rattle.cx_journal.specs.Twin.{told_by}
+use Rattle.cx_journal.specs.Twin.{seen_pair_records}
 use Rattle.cx_model.specs.Replica.{replica_rules}
 use Rattle.cx_model.specs.Rules.{refused}
 use Rattle.cx_node.proofs.RefusedPlace.{refused_within}
@@ -26,7 +26,7 @@ returns-in-Err-Record-clause-bad g c = λ a b at first second e.
     let place : refused replica_rules c.args.cluster.now c.args.me c.in-Ok.records.items ≡ Some c.in-Err-Record.index =
     search rules in
     bad_place replica_rules c.args.cluster.now c.args.me a b c.in-Ok.records.items
-    (told_by g.D.Disk.seen c.in-Ok.twin.first c.in-Ok.twin.second) c.in-Err-Record.index at c.in-Ok.twin.generation
+    (seen_pair_records g.D.Disk.seen c.in-Ok.twin.first c.in-Ok.twin.second) c.in-Err-Record.index at c.in-Ok.twin.generation
     kind.Replica c.requires.kind (opened.records a b first second) place
     (opened.kept (ap is_some first, ap is_some second)) (opened.front a b first second)
     (same_place _ _ e ∙ c.place-at.ensures.place opened.whole

@@ -1,8 +1,8 @@
 use Rattle.cx_role.proofs.Common.{◌≡◌, drop, rows_whole}
-use Rattle.cx_model.specs.Matchmaker.{entries_from}
+use Rattle.cx_model.specs.Matchmaker.{entries_since}
 use Rattle.cx_reader.proofs.matched.live_whole.Given as goal
 
 abbrev pub invariant-loop-entry : goal.invariant-loop-entry
 invariant-loop-entry l =
-    rows_whole (entries_from l.watermark (drop l.entry-index l.entries)) l.marks
-    ≡ rows_whole (entries_from l.watermark l.entries) l.marks
+    rows_whole (entries_since l.watermark (drop l.entry-index l.entries)) l.marks
+    ≡ rows_whole (entries_since l.watermark l.entries) l.marks

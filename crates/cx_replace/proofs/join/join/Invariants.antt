@@ -1,9 +1,9 @@
 use Rattle.cx_role.proofs.Common.{◌≡◌, ◌++◌, ◌∷◌, [], drop, entries_told}
-use Rattle.cx_model.specs.Matchmaker.{entries_from}
+use Rattle.cx_model.specs.Matchmaker.{entries_since}
 use Rattle.cx_model.specs.Replacer.{answers_of, sorted_into}
 use Rattle.cx_replace.proofs.join.join.Given as goal
 
 abbrev pub invariant-loop-halt : goal.invariant-loop-halt
 invariant-loop-halt l =
-    sorted_into l.list.items (entries_from l.watermark (entries_told (answers_of (drop l.halt-index l.halts ++ l.last ∷ []))))
-    ≡ sorted_into [] (entries_from l.watermark (entries_told (answers_of (l.halts ++ l.last ∷ []))))
+    sorted_into l.list.items (entries_since l.watermark (entries_told (answers_of (drop l.halt-index l.halts ++ l.last ∷ []))))
+    ≡ sorted_into [] (entries_since l.watermark (entries_told (answers_of (l.halts ++ l.last ∷ []))))

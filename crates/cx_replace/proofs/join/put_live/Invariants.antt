@@ -1,8 +1,8 @@
 use Rattle.cx_role.proofs.Common.{◌≡◌, drop}
-use Rattle.cx_model.specs.Matchmaker.{entries_from}
+use Rattle.cx_model.specs.Matchmaker.{entries_since}
 use Rattle.cx_model.specs.Replacer.{sorted_into}
 use Rattle.cx_replace.proofs.join.put_live.Given as goal
 
 abbrev pub invariant-loop-entry : goal.invariant-loop-entry
-invariant-loop-entry l = sorted_into l.joined.items (entries_from l.watermark (drop l.entry-index l.entries))
-    ≡ sorted_into l.fn.joined.items (entries_from l.watermark l.entries)
+invariant-loop-entry l = sorted_into l.joined.items (entries_since l.watermark (drop l.entry-index l.entries))
+    ≡ sorted_into l.fn.joined.items (entries_since l.watermark l.entries)

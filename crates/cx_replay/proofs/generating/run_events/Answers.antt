@@ -1,7 +1,7 @@
 use Rattle.std.proofs.Common.{◌≡◌, ◌∙◌, length, ap, sym, arith}
 use Rattle.cx_base.specs.declared.event.Event.{Event}
 use Rattle.cx_model.specs.World.{World, run, step}
-use Rattle.cx_script.specs.Generator.{State, gen_cluster, next_event, next_state}
+use Rattle.cx_script.specs.Generator.{GeneratorState, gen_cluster, next_event, next_state}
 use Rattle.cx_world.specs.World.{WorldState}
 use Rattle.cx_world.specs.declared.counts.Counts.{Counts}
 use Rattle.cx_replay.specs.Generated.{gen_state, gen_events}
@@ -10,7 +10,7 @@ use Rattle.cx_replay.proofs.generating.run_events.Goals as goal
 
 pub next-event-requires : goal.next-event-requires
 next-event-requires c =
-    let made : c.loop-made.generator.made ≡ c.loop-made.made = ap (λ (g : State). g.made) c.loop-made.invariant.generator ∙ made_is c.args.seed c.loop-made.made in
+    let made : c.loop-made.generator.made ≡ c.loop-made.made = ap (λ (g : GeneratorState). g.made) c.loop-made.invariant.generator ∙ made_is c.args.seed c.loop-made.made in
     omega (arith, made, c.loop-made-test.true, c.ranges.count)
 
 pub loop-made-preserved : goal.loop-made-preserved

@@ -9,7 +9,7 @@ pub returns-in-Rule-clause-reads : goal.returns-in-Rule-clause-reads
 returns-in-Rule-clause-reads g c =
     let gives = c.in-Line.ensures.gives in
     let line : c.text.result.now ≡ strip_carriage_return gives.part = c.text.ensures ∙ gives.text in
-    subst (HasHeader (g.S.Source.left c.args.input.now) (g.S.Source.left c.next.new.source) c.next.new.self.held) (sym c.in-Rule.ensures.1)
+    subst (HasHeader (g.S.Source.left c.args.input.now) (g.S.Source.left c.next.new.source) c.next.new.self.buffered) (sym c.in-Rule.ensures.1)
     (rule_header _ _ _ _ c.loop-text.invariant.header _ _ gives.part gives.free gives.hands (subst (λ l. is_rule l ≡ true) line c.in-Rule.ensures.0))
 
 pub returns-in-Long-join-clause-reads : goal.returns-in-Long-join-clause-reads
@@ -45,7 +45,7 @@ pub returns-in-End-clause-reads : goal.returns-in-End-clause-reads
 returns-in-End-clause-reads g c = ended_header _ _ _ _ c.loop-text.invariant.header _ c.in-End.ensures.gives.0 c.in-End.ensures.gives.2
 
 pub returns-in-Long-clause-reads : goal.returns-in-Long-clause-reads
-returns-in-Long-clause-reads g c = long_line _ _ _ _ c.loop-text.invariant.header _ c.next.new.self.held c.in-Long.ensures.gives.0 c.in-Long.ensures.gives.1
+returns-in-Long-clause-reads g c = long_line _ _ _ _ c.loop-text.invariant.header _ c.next.new.self.buffered c.in-Long.ensures.gives.0 c.in-Long.ensures.gives.1
 
 pub returns-in-Failed-clause-reads : goal.returns-in-Failed-clause-reads
-returns-in-Failed-clause-reads g c = fails_header _ _ _ _ c.loop-text.invariant.header _ c.next.new.self.held c.in-Failed.ensures.gives.0 c.in-Failed.ensures.gives.1
+returns-in-Failed-clause-reads g c = fails_header _ _ _ _ c.loop-text.invariant.header _ c.next.new.self.buffered c.in-Failed.ensures.gives.0 c.in-Failed.ensures.gives.1

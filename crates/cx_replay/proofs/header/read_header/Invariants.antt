@@ -4,7 +4,7 @@ use Rattle.cx_replay.proofs.header.read_header.Given as goal
 
 abbrev pub invariant-loop-text : goal.invariant-loop-text
 invariant-loop-text g l = record {
-  header : InHeader (g.S.Source.left l.fn.input) (g.S.Source.left l.input) l.lines.held l.text.items;
+  header : InHeader (g.S.Source.left l.fn.input) (g.S.Source.left l.input) l.lines.buffered l.text.items;
   still : g.S.Source.faults l.input ≡ g.S.Source.faults l.fn.input;
 }
 

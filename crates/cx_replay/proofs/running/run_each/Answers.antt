@@ -17,13 +17,13 @@ pub loop-lines-init : goal.loop-lines-init
 loop-lines-init g c =
     let cluster = c.args.cluster.now in
     let input = g.S.Source.left c.args.input.now in
-    let held = c.args.lines.now.held in
+    let buffered = c.args.lines.now.buffered in
     let out = g.W.Sink.taken c.args.out.now in
     let writes = g.W.Sink.faults c.args.out.now in
     record {
       along = λ left b.
-          subst (λ w. Along cluster left input held 0 w out out c.args.text.now.items writes writes) (sym (ap world_of c.requires.fresh))
-          (subst (λ l. Along cluster left input held 0 (start cluster) out out l writes writes) (sym c.requires.none) (begins_along cluster left input held out writes b));
+          subst (λ w. Along cluster left input buffered 0 w out out c.args.text.now.items writes writes) (sym (ap world_of c.requires.fresh))
+          (subst (λ l. Along cluster left input buffered 0 (start cluster) out out l writes writes) (sym c.requires.none) (begins_along cluster left input buffered out writes b));
       running = ap spent_of c.requires.fresh;
       count = omega arith;
       read = refl;
@@ -39,7 +39,7 @@ pub returns-then-not-write_printed-clause-runs : goal.returns-then-not-write_pri
 returns-then-not-write_printed-clause-runs g c = λ left b.
     let ran = c.in_default.ensures in
     let gives = c.in-Line.ensures.gives in
-    let on = goes_along _ _ _ _ _ _ _ _ _ _ _ (c.loop-lines.invariant.along left b) _ c.next.new.self.held gives.part ran.event _ _ gives.free gives.hands
+    let on = goes_along _ _ _ _ _ _ _ _ _ _ _ (c.loop-lines.invariant.along left b) _ c.next.new.self.buffered gives.part ran.event _ _ gives.free gives.hands
     (subst (λ l. Spells c.args.cluster.now (c.loop-lines.number + 1) l ran.event) (c.text-next.ensures ∙ gives.text) ran.spells) (ap world_of ran.world) ran.printed in (
       subst (λ k. Rises k (g.W.Sink.faults c.write_printed.new.out)) on.written.still (c.write_printed.ensures.cause c.if-not-write_printed.true),
       fails_along _ _ _ _ _ _ _ _ _ _ _ on (g.W.Sink.taken c.write_printed.new.out)
@@ -53,7 +53,7 @@ loop-lines-preserved g c =
     let front = subst (WritesFront c.run_line.new.text.items c.write_printed.new.text.items (g.W.Sink.taken c.loop-lines.out) (g.W.Sink.taken c.write_printed.new.out)) c.if-not-write_printed.false c.write_printed.ensures.front in
     record {
       along = λ left b.
-          let on = goes_along _ _ _ _ _ _ _ _ _ _ _ (c.loop-lines.invariant.along left b) _ c.next.new.self.held gives.part ran.event _ _ gives.free gives.hands
+          let on = goes_along _ _ _ _ _ _ _ _ _ _ _ (c.loop-lines.invariant.along left b) _ c.next.new.self.buffered gives.part ran.event _ _ gives.free gives.hands
           (subst (λ l. Spells c.args.cluster.now (c.loop-lines.number + 1) l ran.event) (c.text-next.ensures ∙ gives.text) ran.spells) (ap world_of ran.world) ran.printed in
           writes_along _ _ _ _ _ _ _ _ _ _ _ on c.write_printed.new.text.items (g.W.Sink.taken c.write_printed.new.out) (g.W.Sink.faults c.write_printed.new.out) front (c.write_printed.ensures.still c.if-not-write_printed.false);
       running = ap spent_of ran.world;

@@ -9,6 +9,6 @@ loop-index-preserved c =
       table = c.make_room.ensures.table ∙ loop.invariant.table;
       room = room_on c.args.commands.now loop.index command.result c.loop-index-test.true command.is
           loop.table.rooms c.make_room.new.self.rooms c.args.earlier.now loop.invariant.room c.make_room.ensures.grows
-          c.count_in.result c.count_of.result c.count_in.ensures.count c.count_of.ensures.count
+          c.count_in.result c.command_count_of.result c.count_in.ensures.count c.command_count_of.ensures.count
           c.in_ok-make_room.ensures.room;
     }

@@ -2,11 +2,11 @@ use Rattle.std.proofs.Common.{◌≡◌, ◌∙◌, ◌++◌, true, List, ℕ, O
 use Rattle.std.specs.Option.{option_copied}
 use Rattle.std.specs.Str.Lines.{strip_carriage_return}
 use Rattle.cx_script.proofs.Schedules.{rule_found}
-use Rattle.cx_script.specs.Header.{is_rule, header_in, header_of, of_length}
+use Rattle.cx_script.specs.Header.{is_rule, header_in, header_and_rest, of_length}
 use Rattle.cx_script.proofs.header.split_header.Goals as goal
 
 pub returns-then-is_rule : goal.returns-then-is_rule
-unfolding header_of
+unfolding header_and_rest
 returns-then-is_rule c =
     let header = c.loop-rest.header.items in
     let part = c.first_part.result.0.now in

@@ -1,16 +1,16 @@
 use Rattle.std.proofs.Common.{◌≡◌, ◌-◌, ◌∷◌, ◌∙◌, ℕ, List, Option, Some, option_and_then, ap, sym}
 use Rattle.std.specs.Option.{option_copied, option_map_or}
 use Rattle.cx_script.specs.Places.{fitting, seq_and_floor}
-use Rattle.cx_script.specs.Words.{number_of, parts_of}
+use Rattle.cx_script.specs.Words.{word_number, parts_of}
 use Rattle.cx_script.proofs.Floors.{read_at_slash}
 use Rattle.cx_script.proofs.place.seq_and_floor.Goals as goal
 
 -- what the parts of a word say, once its first is a number
-read : (parts : List (List ℕ)) (front : List ℕ) (behind : Option (List ℕ)) (seq : ℕ) → parts ≡ front ∷ parts_of 47 behind → Some seq ≡ number_of front
-    → seq_and_floor parts ≡ option_and_then (fitting seq) (option_map_or number_of behind (Some (seq - 1)))
+read : (parts : List (List ℕ)) (front : List ℕ) (behind : Option (List ℕ)) (seq : ℕ) → parts ≡ front ∷ parts_of 47 behind → Some seq ≡ word_number front
+    → seq_and_floor parts ≡ option_and_then (fitting seq) (option_map_or word_number behind (Some (seq - 1)))
 read parts front behind seq cut number =
     ap seq_and_floor cut ∙ read_at_slash front behind
-    ∙ ap (option_and_then (λ n. option_and_then (fitting n) (option_map_or number_of behind (Some (n - 1))))) (sym number)
+    ∙ ap (option_and_then (λ n. option_and_then (fitting n) (option_map_or word_number behind (Some (n - 1))))) (sym number)
 
 pub returns-in_err-floor : goal.returns-in_err-floor
 returns-in_err-floor c =

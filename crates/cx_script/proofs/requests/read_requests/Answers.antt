@@ -6,5 +6,5 @@ pub loop-text-init : goal.loop-text-init
 loop-text-init c = record {
   so_far = search rules;
   count = search rules;
-  told = λ client small. rw (c.new-events.ensures.items, c.new-greatest.ensures) (get_or-replicate 64 client 0 0 small);
+  numbers = λ client small. rw (c.new-events.ensures.items, c.new-greatest.ensures) (get_or-replicate 64 client 0 0 small);
 }

@@ -1,12 +1,12 @@
 use Rattle.std.proofs.Common.{◌≡◌, Option, Ok, Some, subst, sym, ap, ◌∙◌, ◌++◌, ◌∷◌, [], ◌<◌, length}
 use Rattle.std.specs.Prelude.{slice_set}
 use Rattle.cx_base.specs.declared.event.Event.{Event}
-use Rattle.cx_script.specs.Requests.{Tells, request_line}
+use Rattle.cx_script.specs.Requests.{HasGreatestNumbers, request_line}
 use Rattle.cx_script.proofs.Rising.{client_small, is_taken, tells_next}
 use Rattle.cx_script.proofs.requests.request.Goals as goal
 
-pub rises-requires : goal.rises-requires
-rises-requires c =
+pub number_rises-requires : goal.number_rises-requires
+number_rises-requires c =
     let spelled : request_line c.args.cluster.now c.args.text.now ≡ Ok (Some c.in-Some.event) = sym c.in_ok-event.ensures ∙ ap (λ (o : Option Event). Ok o) c.in-Some.is in
     client_small c.args.cluster.now c.args.text.now c.in-Some.event c.in-Some-asker.client c.in-Some-asker.seq spelled (sym c.in-Some-asker.ensures)
 
@@ -16,14 +16,14 @@ returns-in-Some-asker-clause-request c = λ before tells.
     let is = sym c.in-Some-asker.ensures in
     is_taken before c.args.greatest.now c.in-Some.event _ c.in-Some-asker.client c.in-Some-asker.seq spelled is
     (client_small c.args.cluster.now c.args.text.now c.in-Some.event c.in-Some-asker.client c.in-Some-asker.seq spelled is)
-    tells (sym c.if-rises.ensures.above)
+    tells (sym c.if-number_rises.ensures.above)
 
-pub returns-in-Some-asker-clause-told : goal.returns-in-Some-asker-clause-told
-returns-in-Some-asker-clause-told c = λ before tells.
+pub returns-in-Some-asker-clause-numbers : goal.returns-in-Some-asker-clause-numbers
+returns-in-Some-asker-clause-numbers c = λ before tells.
     let spelled : request_line c.args.cluster.now c.args.text.now ≡ Ok (Some c.in-Some.event) = sym c.in_ok-event.ensures ∙ ap (λ (o : Option Event). Ok o) c.in-Some.is in
     let is = sym c.in-Some-asker.ensures in
     let small = client_small c.args.cluster.now c.args.text.now c.in-Some.event c.in-Some-asker.client c.in-Some-asker.seq spelled is in
-    let told : c.rises.new.greatest ≡ slice_set c.args.greatest.now c.in-Some-asker.client c.in-Some-asker.seq = c.if-rises.ensures.noted in
-    let inside : c.in-Some-asker.client < length c.args.greatest.now = rw c.if-rises.ensures.clients small in
-    subst (Tells (before ++ c.in-Some.event ∷ [])) (sym told)
-    (tells_next before c.args.greatest.now c.in-Some.event c.in-Some-asker.client c.in-Some-asker.seq is small inside tells (sym c.if-rises.ensures.above))
+    let numbers : c.number_rises.new.greatest ≡ slice_set c.args.greatest.now c.in-Some-asker.client c.in-Some-asker.seq = c.if-number_rises.ensures.noted in
+    let inside : c.in-Some-asker.client < length c.args.greatest.now = rw c.if-number_rises.ensures.clients small in
+    subst (HasGreatestNumbers (before ++ c.in-Some.event ∷ [])) (sym numbers)
+    (tells_next before c.args.greatest.now c.in-Some.event c.in-Some-asker.client c.in-Some-asker.seq is small inside tells (sym c.if-number_rises.ensures.above))

@@ -3,13 +3,13 @@ use Rattle.std.specs.Prelude.{nat_eq, None, Some}
 use Rattle.std.specs.Map.{lookup}
 use Rattle.cx_table.specs.Entries.{room_in, rooms_in}
 use Rattle.cx_table.specs.State.{room_for}
-use Rattle.cx_table.specs.declared.entry.Entry.{Entry}
+use Rattle.cx_table.specs.declared.entry.ClientEntry.{ClientEntry}
 use Rattle.cx_table.proofs.Held.{enter_kept, enter_room, room_is, room_read, write_held, write_kept, write_room}
 use Rattle.cx_table.proofs.Held.{write_unique}
 use Rattle.cx_table.proofs.entries.room_at.Goals as goal
 
-pub returns-in_err-make_room-clause-held : goal.returns-in_err-make_room-clause-held
-returns-in_err-make_room-clause-held c =
+pub returns-in_err-make_room-clause-still : goal.returns-in_err-make_room-clause-still
+returns-in_err-make_room-clause-still c =
     write_held c.args.entries.now c.in-Some.place c.args.client c.index_mut.result.now c.make_room.new.entry c.place_of.ensures.unique c.in-Some.ensures.place c.index_mut.ensures.value c.make_room.ensures.floor c.make_room.ensures.notes
 
 pub returns-in_err-make_room-clause-room : goal.returns-in_err-make_room-clause-room
@@ -30,8 +30,8 @@ pub returns-in-Some-clause-place : goal.returns-in-Some-clause-place
 returns-in-Some-clause-place c =
     write_room c.args.entries.now c.in-Some.place c.args.client c.index_mut.result.now c.make_room.new.entry c.place_of.ensures.unique c.in-Some.ensures.place c.index_mut.ensures.value c.args.count c.in_ok-make_room.ensures.room
 
-pub returns-in-Some-clause-held : goal.returns-in-Some-clause-held
-returns-in-Some-clause-held c =
+pub returns-in-Some-clause-still : goal.returns-in-Some-clause-still
+returns-in-Some-clause-still c =
     write_held c.args.entries.now c.in-Some.place c.args.client c.index_mut.result.now c.make_room.new.entry c.place_of.ensures.unique c.in-Some.ensures.place c.index_mut.ensures.value c.make_room.ensures.floor c.make_room.ensures.notes
 
 pub returns-in-Some-clause-room : goal.returns-in-Some-clause-room
@@ -43,7 +43,7 @@ returns-in-Some-clause-unique c =
     write_unique c.args.entries.now c.in-Some.place c.args.client c.index_mut.result.now c.make_room.new.entry c.place_of.ensures.unique c.in-Some.ensures.place c.index_mut.ensures.value
 
 -- there is no room for a client without an entry
-no_room : (client count : ℕ) (es : List (ℕ × Entry)) → lookup (nat_eq client) es ≡ None → 0 < count
+no_room : (client count : ℕ) (es : List (ℕ × ClientEntry)) → lookup (nat_eq client) es ≡ None → 0 < count
     → count ≤ room_for client (rooms_in es) → ⊥
 no_room client count es none some enough = (let at_most : count ≤ room_in None = rw (room_is client es, none) at enough in omega arith)
 

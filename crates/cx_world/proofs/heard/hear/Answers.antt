@@ -1,4 +1,4 @@
-use Rattle.std.proofs.Common.{rules, ◌≡◌, ℕ, true, Some}
+use Rattle.std.proofs.Common.{rules, ◌≡◌, true, Some}
 use Rattle.std.specs.Prelude.{slice_get}
 use Rattle.cx_model.specs.Heard.{is_heard, told_to}
 use Rattle.cx_world.specs.Heard.{Raised, delivered}

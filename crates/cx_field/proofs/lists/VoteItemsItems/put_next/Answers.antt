@@ -7,8 +7,8 @@ use Rattle.cx_field.proofs.Floors.{value_spells}
 use Rattle.cx_field.proofs.lists.VoteItemsItems.put_next.Goals as goal
 
 on_ok : {X E P Q : Type 0} (result : Result X E) → OnOk result P → (P → Q) → OnOk result Q
-on_ok (Ok x) held f = f held
-on_ok (Err e) held f = tt
+on_ok (Ok x) holds f = f holds
+on_ok (Err e) holds f = tt
 
 spelled : (floors : Bool) (cw : ℕ) (before : List Vote) (v : Vote) (old bytes : List ℕ) → bytes ≡ old ++ round.spell v.round ++ slot.spell v.slot ++ value.spell v.value → bytes ≡ old ++ (vote_with floors cw before).spell v
 unfolding vote_with

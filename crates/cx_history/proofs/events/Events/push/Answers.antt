@@ -8,6 +8,6 @@ invariant_of-self-2 c =
     let inside = c.self.inside in
     let happened = c.args.happened.now in
     rw c.of.ensures (record {
-      count_is = omega (arith, c.in_ok-count.ensures, c.self.invariant.count_is, length_push inside.told.items happened);
-      tells = tells_more inside.told.items happened inside.requests c.push.new.self c.in_ok-push.ensures.ok c.self.invariant.tells;
+      count_is = omega (arith, c.in_ok-count.ensures, c.self.invariant.count_is, length_push inside.events.items happened);
+      tells = tells_more inside.events.items happened inside.requests c.push.new.self c.in_ok-push.ensures.ok c.self.invariant.tells;
     })

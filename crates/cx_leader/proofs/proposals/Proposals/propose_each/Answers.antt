@@ -1,10 +1,10 @@
 use Rattle.cx_role.proofs.Common.{◌≡◌, ◌<◌, ◌≤◌, ◌+◌, ◌-◌, not, arith, subst, refl, Placed, Leader, is_in, role}
 use Rattle.cx_model.specs.Leader.{propose_to}
-use Rattle.cx_leader.specs.Proposing.{Proposing, IsProposing}
+use Rattle.cx_leader.specs.Proposing.{ProposalsState, IsProposing}
 use Rattle.cx_leader.proofs.BySlot.{sent_on, sent_all}
 use Rattle.cx_leader.proofs.proposals.Proposals.propose_each.Goals as goal
 
-abbrev Holds : Proposing → Type 0
+abbrev Holds : ProposalsState → Type 0
 Holds p = IsProposing p.cw p.next p.proposed
 
 pub loop-slot-init : goal.loop-slot-init

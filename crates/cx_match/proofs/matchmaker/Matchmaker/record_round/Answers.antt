@@ -51,7 +51,7 @@ returns-in_err-keep_own g c =
         sends = search rules;
       };
       spared = search rules;
-      told = search rules;
+      tells_same = search rules;
       failed = search rules;
       keeps = search rules;
     })

@@ -6,6 +6,6 @@ use Rattle.cx_node.proofs.care.Care.new.Goals as goal
 
 pub returns : goal.returns
 returns c hs same =
-    let zeros : c.in-Ok.marks.items ≡ replicate c.args.roles 0 = search rules in
-    ap₂ (λ (marks queue : List ℕ). record (no_care hs) { marks = marks; queue = queue })
+    let zeros : c.in-Ok.counts.items ≡ replicate c.args.roles 0 = search rules in
+    ap₂ (λ (counts queue : List ℕ). record (no_care hs) { counts = counts; queue = queue })
     (zeros ∙ splat_is_map hs c.args.roles 0 same) (c.in_ok-queue.ensures ∙ ap below (sym same))

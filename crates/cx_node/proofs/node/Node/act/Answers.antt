@@ -4,8 +4,8 @@ use Rattle.std.proofs.lemmas.Result.{err_from_is_err_and}
 use Rattle.cx_node.specs.declared.node.Stop.TheVariants as stop
 use Rattle.cx_node.specs.Changing.{changing}
 use Rattle.cx_node.specs.Node.{NodeState}
-use Rattle.cx_node.specs.Noting.{counting, noting, shown}
-use Rattle.cx_node.proofs.Seated.{acts_seated, acts_unasked, acts_unsent, acts_unspelled, acts_unwritten, fits_still}
+use Rattle.cx_node.specs.Noting.{with_more_lines, noting, shown}
+use Rattle.cx_node.proofs.SeatedActs.{acts_seated, acts_unasked, acts_unsent, acts_unspelled, acts_unwritten, fits_still}
 use Rattle.cx_node.proofs.node.Node.act.Goals as goal
 
 pub returns-in_err-ask_if-clause-acts : goal.returns-in_err-ask_if-clause-acts
@@ -25,7 +25,7 @@ returns-in_err-ask_if-clause-acts g c =
     rw (is, same)
     (acts_unasked (changing g.K.Keeper.append_gives g.K.Renew.renew_gives) cl gs i c.args.what.now h c.ask_if.new.seat here
     c.requires.ready c.in_err-ask_if.ensures.name
-    r c.self.inside.recorder (g.L.Link.told c.args.link.now) (g.W.Sink.taken c.args.out.now) c.in_err-ask_if.field-0.0
+    r c.self.inside.recorder (g.L.Link.history c.args.link.now) (g.W.Sink.taken c.args.out.now) c.in_err-ask_if.field-0.0
     (λ e. c.in_err-ask_if.ensures.rests (ap Err e))
     (λ e. rw same_recorded at (c.in_err-ask_if.ensures.full (ap Err e)))
     (λ role e. (
@@ -51,7 +51,7 @@ returns-in_err-send_all-clause-acts g c =
     let is : c.from_residual-in_err-send_all.result ≡ Err stop.NoMemory = p.1 ∙ ap Err p.2 in
     rw (is, same)
     (acts_unsent (changing g.K.Keeper.append_gives g.K.Renew.renew_gives) cl gs i c.args.what.now h c.ask_if.new.seat here c.requires.ready c.in_ok-ask_if.ensures.name
-    r c.send_all.new.recorder (g.L.Link.told c.args.link.now) (g.L.Link.told c.send_all.new.link) (g.W.Sink.taken c.args.out.now)
+    r c.send_all.new.recorder (g.L.Link.history c.args.link.now) (g.L.Link.history c.send_all.new.link) (g.W.Sink.taken c.args.out.now)
     c.ask_if.new.events.items (rw same_recorded at c.in_ok-ask_if.ensures.events) (rw same_recorded at c.in_ok-ask_if.ensures.fits)
     c.in_ok-ask_if.ensures.kept
     (rw (same_cluster, c.as_slice.ensures, c.in_ok-ask_if.ensures.sends) at c.in_err-send_all.ensures.part))
@@ -77,7 +77,7 @@ returns-in_err-take_down-clause-acts g c =
     let is : c.from_residual-in_err-take_down.result ≡ Err stop.NoMemory = p.1 ∙ ap Err p.2 in
     rw (is, same)
     (acts_unspelled (changing g.K.Keeper.append_gives g.K.Renew.renew_gives) cl gs i c.args.what.now h c.ask_if.new.seat here c.requires.ready c.in_ok-ask_if.ensures.name
-    r c.take_down.new.recorder (g.L.Link.told c.args.link.now) (g.L.Link.told c.send_all.new.link) (g.W.Sink.taken c.args.out.now)
+    r c.take_down.new.recorder (g.L.Link.history c.args.link.now) (g.L.Link.history c.send_all.new.link) (g.W.Sink.taken c.args.out.now)
     c.ask_if.new.events.items (rw same_recorded at c.in_ok-ask_if.ensures.events) (rw same_recorded at c.in_ok-ask_if.ensures.fits)
     c.in_ok-ask_if.ensures.kept
     (rw (same_cluster, c.as_slice.ensures, c.in_ok-ask_if.ensures.sends) at c.in_ok-send_all.ensures.sent))
@@ -99,7 +99,7 @@ returns-then-not-write_all-clause-acts g c =
     rw (c.in_ok-send_all.ensures.noted, c.as_slice.ensures, same_recorded, c.deref.ensures.value) at c.in_ok-take_down.ensures.text in
     rw same
     (acts_unwritten (changing g.K.Keeper.append_gives g.K.Renew.renew_gives) cl gs i c.args.what.now h c.ask_if.new.seat here c.requires.ready c.in_ok-ask_if.ensures.name
-    r c.take_down.new.recorder (g.L.Link.told c.args.link.now) (g.L.Link.told c.send_all.new.link) (g.W.Sink.taken c.args.out.now)
+    r c.take_down.new.recorder (g.L.Link.history c.args.link.now) (g.L.Link.history c.send_all.new.link) (g.W.Sink.taken c.args.out.now)
     (g.W.Sink.taken c.write_all.new.sink) c.ask_if.new.outbox.list c.ask_if.new.events.items c.ask_if.new.text.items
     c.take_down.new.text.items c.in_ok-ask_if.ensures.kept c.in_ok-ask_if.ensures.sends c.in_ok-ask_if.ensures.text
     (rw same_recorded at c.in_ok-ask_if.ensures.events) (rw same_recorded at c.in_ok-ask_if.ensures.fits) text_is
@@ -122,11 +122,11 @@ returns-clause-acts g c =
     c.ask_if.new.text.items =
     rw (c.in_ok-send_all.ensures.noted, c.as_slice.ensures, same_recorded, c.deref.ensures.value) at c.in_ok-take_down.ensures.text in
     let counted : c.take_down.new.recorder
-    ≡ option_map (counting (length c.ask_if.new.events.items)) (option_map (noting c.ask_if.new.outbox.list) r) =
+    ≡ option_map (with_more_lines (length c.ask_if.new.events.items)) (option_map (noting c.ask_if.new.outbox.list) r) =
     rw (c.in_ok-send_all.ensures.noted, c.as_slice.ensures, same_recorded, c.deref.ensures.value) at c.in_ok-take_down.ensures.counted in
     rw same
     (acts_seated (changing g.K.Keeper.append_gives g.K.Renew.renew_gives) cl gs i c.args.what.now h c.ask_if.new.seat here c.requires.ready c.in_ok-ask_if.ensures.name
-    r c.take_down.new.recorder (g.L.Link.told c.args.link.now) (g.L.Link.told c.send_all.new.link) (g.W.Sink.taken c.args.out.now)
+    r c.take_down.new.recorder (g.L.Link.history c.args.link.now) (g.L.Link.history c.send_all.new.link) (g.W.Sink.taken c.args.out.now)
     (g.W.Sink.taken c.write_all.new.sink) c.ask_if.new.outbox.list c.ask_if.new.events.items c.ask_if.new.text.items
     c.take_down.new.text.items c.in_ok-ask_if.ensures.role c.in_ok-ask_if.ensures.kept c.in_ok-ask_if.ensures.live
     c.in_ok-ask_if.ensures.sends c.in_ok-ask_if.ensures.text

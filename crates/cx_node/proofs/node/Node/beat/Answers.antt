@@ -9,7 +9,8 @@ use Rattle.cx_node.specs.Guest.{hosted_in}
 use Rattle.cx_course.specs.Run.{is_client}
 use Rattle.cx_course.specs.Tending.{clients_tended, first_leader, leader_tended, others_tick, those_tick, without_care}
 use Rattle.cx_node.specs.Tends.{tended}
-use Rattle.cx_node.proofs.Tended.{act_as, beat_clients, beat_counts, beat_leader, beat_others, others_is}
+use Rattle.cx_node.proofs.Tended.{others_is}
+use Rattle.cx_node.proofs.TendedActs.{act_as, beat_clients, beat_counts, beat_leader, beat_others}
 use Rattle.cx_node.proofs.node.Node.beat.Goals as goal
 
 pub returns-in_err-tick_those-clause-acts : goal.returns-in_err-tick_those-clause-acts

@@ -1,7 +1,7 @@
 use Rattle.std.proofs.Common.{sym, ◌∙◌}
 use Rattle.cx_node.specs.Acts.{scene_of}
 use Rattle.cx_node.specs.Changing.{changing}
-use Rattle.cx_node.proofs.Tended.{collect_due, collect_none}
+use Rattle.cx_node.proofs.TendedActs.{collect_due, collect_none}
 use Rattle.cx_node.proofs.node.Node.collect.Goals as goal
 
 pub returns-then-can_collect-clause-acts : goal.returns-then-can_collect-clause-acts

@@ -5,7 +5,7 @@ use Rattle.cx_node.specs.Node.{course_at}
 use Rattle.cx_node.specs.Acts.{scene_of}
 use Rattle.cx_node.specs.Changing.{changing}
 use Rattle.cx_course.specs.Tending.{collected}
-use Rattle.cx_node.proofs.Tended.{due, not_due}
+use Rattle.cx_node.proofs.TendedActs.{due, not_due}
 use Rattle.cx_node.proofs.node.Node.collect_for.Goals as goal
 
 pub returns-then-is-clause-acts : goal.returns-then-is-clause-acts

@@ -1,6 +1,6 @@
 use Rattle.cx_node.specs.Acts.{scene_of}
 use Rattle.cx_node.specs.Changing.{changing}
-use Rattle.cx_node.proofs.Tended.{gets_none, gets_some}
+use Rattle.cx_node.proofs.TendedActs.{gets_none, gets_some}
 use Rattle.cx_node.proofs.node.Node.command.Goals as goal
 
 pub returns-in-Some-clause-acts : goal.returns-in-Some-clause-acts

@@ -6,7 +6,8 @@ use Rattle.cx_course.specs.Course.{stays}
 use Rattle.cx_course.specs.Tending.{beat, turn_ended}
 use Rattle.cx_node.specs.Tends.{tended}
 use Rattle.cx_node.proofs.Actions.{acts_nothing}
-use Rattle.cx_node.proofs.Tended.{counts_as, ended_beat, ended_still, moved_as}
+use Rattle.cx_node.proofs.Tended.{counts_as, ended_beat, ended_still}
+use Rattle.cx_node.proofs.TendedActs.{moved_as}
 use Rattle.cx_node.proofs.node.Node.end_turn.Goals as goal
 
 pub returns-then-is_beat-clause-acts : goal.returns-then-is_beat-clause-acts

@@ -2,19 +2,19 @@ use Rattle.std.proofs.Common.{◌≡◌, ◌<◌, Some, length, get_or, slice_ge
 use Rattle.std.proofs.lemmas.Option.{slice_get_read}
 use Rattle.cx_base.specs.Role.{role}
 use Rattle.cx_base.specs.declared.role.Kind.TheVariants as kind
-use Rattle.cx_leader.specs.Tending.{is_new}
+use Rattle.cx_leader.specs.Tending.{is_new_leader}
 use Rattle.cx_model.specs.Leader.{LeaderDurable, LeaderVolatile}
 use Rattle.cx_model.specs.Rules.{Running}
 use Rattle.cx_node.specs.Guest.{hosted_in}
 use Rattle.cx_node.specs.Node.{NodeState}
-use Rattle.cx_course.specs.Run.{place_of}
+use Rattle.cx_course.specs.Run.{hosted_place}
 use Rattle.cx_node.specs.Tends.{is_leader_so}
 use Rattle.cx_node.proofs.Places.{place_within}
 use Rattle.cx_node.proofs.Tended.{first_none, first_some}
 use Rattle.cx_node.proofs.node.Node.has_new_leader.Goals as goal
 
 pub returns-in_default : goal.returns-in_default
-returns-in_default g c = sym (ap (is_leader_so (λ (l : Running LeaderDurable LeaderVolatile). is_new l.durable)) (first_none c.args.self.now.guests (ap (λ r. place_of r (hosted_in c.args.self.now.guests)) (sym c.first_name.ensures) ∙ sym c.find.ensures ∙ c.in_default.is)))
+returns-in_default g c = sym (ap (is_leader_so (λ (l : Running LeaderDurable LeaderVolatile). is_new_leader l.durable)) (first_none c.args.self.now.guests (ap (λ r. hosted_place r (hosted_in c.args.self.now.guests)) (sym c.first_name.ensures) ∙ sym c.find.ensures ∙ c.in_default.is)))
 
 pub index-requires : goal.index-requires
 index-requires g c =
@@ -29,7 +29,7 @@ returns g c =
     let same = ap (λ (s : NodeState g.row.K.Denot). s.guests) c.self.view_is in
     let i = c.in-Some.place in
     let h = c.index.result.now in
-    let found : place_of (role kind.Leader 0) hs ≡ Some i = ap (λ r. place_of r hs) (sym c.first_name.ensures) ∙ sym c.find.ensures ∙ c.in-Some.is in
+    let found : hosted_place (role kind.Leader 0) hs ≡ Some i = ap (λ r. hosted_place r hs) (sym c.first_name.ensures) ∙ sym c.find.ensures ∙ c.in-Some.is in
     let inside : i < length gs = place_within (role kind.Leader 0) gs i found in
     let here : slice_get gs i ≡ Some h = slice_get_read gs (length gs) i h refl inside (c.index.ensures ∙ ap (λ xs. get_or xs i h) same) in
-    c.is_new.ensures ∙ ap (is_leader_so (λ (l : Running LeaderDurable LeaderVolatile). is_new l.durable)) (sym (first_some gs i h found here))
+    c.is_new.ensures ∙ ap (is_leader_so (λ (l : Running LeaderDurable LeaderVolatile). is_new_leader l.durable)) (sym (first_some gs i h found here))

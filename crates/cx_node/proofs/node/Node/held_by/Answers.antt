@@ -2,7 +2,7 @@ use Rattle.std.proofs.Common.{◌≡◌, ◌<◌, Some, length, get_or, slice_ge
 use Rattle.std.proofs.lemmas.Option.{slice_get_read}
 use Rattle.cx_node.specs.Guest.{hosted_in}
 use Rattle.cx_node.specs.Node.{NodeState}
-use Rattle.cx_course.specs.Run.{place_of}
+use Rattle.cx_course.specs.Run.{hosted_place}
 use Rattle.cx_node.proofs.Places.{place_within}
 use Rattle.cx_node.proofs.Tended.{held_none, held_some}
 use Rattle.cx_node.proofs.node.Node.held_by.Goals as goal
@@ -23,7 +23,7 @@ returns g c =
     let same = ap (λ (s : NodeState g.row.K.Denot). s.guests) c.self.view_is in
     let i = c.in-Some.place in
     let h = c.index.result.now in
-    let found : place_of c.args.role hs ≡ Some i = sym c.find.ensures ∙ c.in-Some.is in
+    let found : hosted_place c.args.role hs ≡ Some i = sym c.find.ensures ∙ c.in-Some.is in
     let inside : i < length gs = place_within c.args.role gs i found in
     let here : slice_get gs i ≡ Some h = slice_get_read gs (length gs) i h refl inside (c.index.ensures ∙ ap (λ xs. get_or xs i h) same) in
     c.held.ensures ∙ held_some gs c.args.role i h found here

@@ -11,18 +11,18 @@ use Rattle.cx_node.specs.Changing.{changing}
 use Rattle.cx_node.specs.Guest.{hosted_in}
 use Rattle.cx_node.specs.Node.{NodeState, course_at}
 use Rattle.cx_course.specs.Course.{does_at}
-use Rattle.cx_course.specs.Run.{grid_of, idle_at, place_of}
+use Rattle.cx_course.specs.Run.{grid_of, idle_at, hosted_place}
 use Rattle.cx_node.proofs.Parts.{lead_busy, lead_idle, lead_none}
 use Rattle.cx_node.proofs.Places.{place_within}
-use Rattle.cx_node.proofs.Seated.{hosted_at}
+use Rattle.cx_node.proofs.SeatedActs.{hosted_at}
 use Rattle.cx_node.proofs.node.Node.lead.Goals as goal
 
 pub returns-in_default-clause-acts : goal.returns-in_default-clause-acts
 returns-in_default-clause-acts g c =
     let hs = hosted_in c.args.self.now.guests in
-    let found : place_of (role kind.Leader 0) hs ≡ None = ap (λ r. place_of r hs) (sym c.new.ensures)
+    let found : hosted_place (role kind.Leader 0) hs ≡ None = ap (λ r. hosted_place r hs) (sym c.new.ensures)
     ∙ sym c.find.ensures ∙ c.in_default.is in
-    lead_none (changing g.K.Keeper.append_gives g.K.Renew.renew_gives) c.args.self.now.cluster (place_of (role kind.Leader 0) hs)
+    lead_none (changing g.K.Keeper.append_gives g.K.Renew.renew_gives) c.args.self.now.cluster (hosted_place (role kind.Leader 0) hs)
     (scene_of g.L.Link g.W.Sink c.args.self.now c.args.link.now c.args.out.now) found c.requires.ready
 
 pub index-requires : goal.index-requires
@@ -39,12 +39,12 @@ returns-then-not-is_idle_leader-clause-acts g c =
     let same = ap (λ (s : NodeState g.row.K.Denot). s.guests) c.self.view_is in
     let i = c.in-Some.place in
     let h = c.index.result.now in
-    let found : place_of (role kind.Leader 0) hs ≡ Some i = ap (λ r. place_of r hs) (sym c.new.ensures)
+    let found : hosted_place (role kind.Leader 0) hs ≡ Some i = ap (λ r. hosted_place r hs) (sym c.new.ensures)
     ∙ sym c.find.ensures ∙ c.in-Some.is in
     let inside : i < length gs = place_within (role kind.Leader 0) gs i found in
     let here : slice_get gs i ≡ Some h = slice_get_read gs (length gs) i h refl inside
     (c.index.ensures ∙ ap (λ xs. get_or xs i h) same) in
-    lead_busy (changing g.K.Keeper.append_gives g.K.Renew.renew_gives) c.args.self.now.cluster (place_of (role kind.Leader 0) hs) i
+    lead_busy (changing g.K.Keeper.append_gives g.K.Renew.renew_gives) c.args.self.now.cluster (hosted_place (role kind.Leader 0) hs) i
     (scene_of g.L.Link g.W.Sink c.args.self.now c.args.link.now c.args.out.now) found
     (ap idle_at (hosted_at gs i h here) ∙ sym c.is_idle_leader.ensures
     ∙ c.if-not-is_idle_leader.true) c.requires.ready
@@ -61,12 +61,12 @@ returns-clause-acts g c =
     let same_cluster = ap (λ (s : NodeState g.row.K.Denot). s.cluster) c.self.view_is in
     let i = c.in-Some.place in
     let h = c.index.result.now in
-    let found : place_of (role kind.Leader 0) hs ≡ Some i = ap (λ r. place_of r hs) (sym c.new.ensures)
+    let found : hosted_place (role kind.Leader 0) hs ≡ Some i = ap (λ r. hosted_place r hs) (sym c.new.ensures)
     ∙ sym c.find.ensures ∙ c.in-Some.is in
     let inside : i < length gs = place_within (role kind.Leader 0) gs i found in
     let here : slice_get gs i ≡ Some h = slice_get_read gs (length gs) i h refl inside
     (c.index.ensures ∙ ap (λ xs. get_or xs i h) same) in
-    lead_idle (changing g.K.Keeper.append_gives g.K.Renew.renew_gives) c.args.self.now.cluster (place_of (role kind.Leader 0) hs) i c.act.result
+    lead_idle (changing g.K.Keeper.append_gives g.K.Renew.renew_gives) c.args.self.now.cluster (hosted_place (role kind.Leader 0) hs) i c.act.result
     (scene_of g.L.Link g.W.Sink c.args.self.now c.args.link.now c.args.out.now)
     (scene_of g.L.Link g.W.Sink c.act.new.self c.act.new.link c.act.new.out) found
     (ap idle_at (hosted_at gs i h here) ∙ sym c.is_idle_leader.ensures ∙ c.if-not-is_idle_leader.false)

@@ -9,7 +9,8 @@ use Rattle.cx_node.specs.Node.{NodeState, course_at}
 use Rattle.cx_course.specs.Tending.{first_leader, gets, leader_asked, leader_cared, leader_tended, with_care}
 use Rattle.cx_node.specs.Tends.{tended}
 use Rattle.cx_node.proofs.Actions.{acts_nothing}
-use Rattle.cx_node.proofs.Tended.{counts_as, leader_none, leader_some, moved_as, on_ok}
+use Rattle.cx_node.proofs.Tended.{counts_as, leader_none, leader_some, on_ok}
+use Rattle.cx_node.proofs.TendedActs.{moved_as}
 use Rattle.cx_node.proofs.node.Node.tend_leader.Goals as goal
 
 pub returns-in-Some-clause-acts : goal.returns-in-Some-clause-acts

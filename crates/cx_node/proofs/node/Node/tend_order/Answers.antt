@@ -1,7 +1,7 @@
 use Rattle.std.proofs.Common.{sym, ◌∙◌}
 use Rattle.cx_node.specs.Acts.{scene_of}
 use Rattle.cx_node.specs.Changing.{changing}
-use Rattle.cx_node.proofs.Tended.{order_comes, order_waits}
+use Rattle.cx_node.proofs.TendedActs.{order_comes, order_waits}
 use Rattle.cx_node.proofs.node.Node.tend_order.Goals as goal
 
 pub returns-then-has_begun-clause-acts : goal.returns-then-has_begun-clause-acts

@@ -5,7 +5,7 @@ use Rattle.cx_node.specs.Node.{course_at}
 use Rattle.cx_node.specs.Acts.{Acts, scene_of}
 use Rattle.cx_node.specs.Changing.{changing}
 use Rattle.cx_course.specs.Run.{snaps}
-use Rattle.cx_node.proofs.Tended.{tend_prepare_order, tend_prepare_snap}
+use Rattle.cx_node.proofs.TendedActs.{tend_prepare_order, tend_prepare_snap}
 use Rattle.cx_node.proofs.node.Node.tend_prepare.Goals as goal
 
 pub returns-in_err-tend_order-clause-acts : goal.returns-in_err-tend_order-clause-acts

@@ -5,7 +5,7 @@ use Rattle.cx_node.specs.Changing.{changing}
 use Rattle.cx_node.specs.Node.{NodeState}
 use Rattle.cx_node.specs.declared.come.Come.TheVariants as come
 use Rattle.cx_node.specs.declared.come.Come.{Come}
-use Rattle.cx_node.proofs.Tended.{took_fault, took_foreign, took_letter, took_nothing}
+use Rattle.cx_node.proofs.TendedActs.{took_fault, took_foreign, took_letter, took_nothing}
 use Rattle.cx_record.specs.Numbers.{Recorded}
 use Rattle.cx_node.proofs.node.Node.tend_take.Goals as goal
 
@@ -15,12 +15,12 @@ returns-in_err-come-clause-acts g c =
     let same : c.self.inside.seats.items ≡ gs = ap (λ (s : NodeState g.row.K.Denot). s.guests) c.self.view_is in
     let known = c.args.self.now.recorded in
     let same_known : c.self.inside.recorder ≡ known = ap (λ (s : NodeState g.row.K.Denot). s.recorded) c.self.view_is in
-    let link = g.L.Link.told c.args.link.now in
-    let mid = g.L.Link.told c.receive.new.link in
+    let link = g.L.Link.history c.args.link.now in
+    let mid = g.L.Link.history c.receive.new.link in
     let out = g.W.Sink.taken c.args.out.now in
     let p = err_from_is_err_and c.from_residual.result c.from_residual.ensures.1 in
     let is : c.from_residual.result ≡ Err c.in_err-come.field-0.0 = p.1 ∙ ap Err p.2 in
-    let took = took_fault (changing g.K.Keeper.append_gives g.K.Renew.renew_gives) c.args.self.now.cluster gs known link mid out c.in_err-come.field-0.0 c.requires.ready (subst (λ (k : Option Recorded). Receives k link mid (Err c.in_err-come.field-0.0)) same_known c.in_err-come.ensures.told) in
+    let took = took_fault (changing g.K.Keeper.append_gives g.K.Renew.renew_gives) c.args.self.now.cluster gs known link mid out c.in_err-come.field-0.0 c.requires.ready (subst (λ (k : Option Recorded). Receives k link mid (Err c.in_err-come.field-0.0)) same_known c.in_err-come.ensures.receives) in
     rw (is, same, same_known) (took.0, took.1, tt)
 
 pub returns-in_err-heed-in-Letter-clause-acts : goal.returns-in_err-heed-in-Letter-clause-acts
@@ -29,11 +29,11 @@ returns-in_err-heed-in-Letter-clause-acts g c =
     let same : c.self.inside.seats.items ≡ gs = ap (λ (s : NodeState g.row.K.Denot). s.guests) c.self.view_is in
     let known = c.args.self.now.recorded in
     let same_known : c.self.inside.recorder ≡ known = ap (λ (s : NodeState g.row.K.Denot). s.recorded) c.self.view_is in
-    let link = g.L.Link.told c.args.link.now in
-    let mid = g.L.Link.told c.receive.new.link in
+    let link = g.L.Link.history c.args.link.now in
+    let mid = g.L.Link.history c.receive.new.link in
     let out = g.W.Sink.taken c.args.out.now in
     let same_cluster : c.self.inside.cluster ≡ c.args.self.now.cluster = ap (λ (s : NodeState g.row.K.Denot). s.cluster) c.self.view_is in
-    let got : Receives known link mid (Ok (come.Letter c.in-Letter.number c.in-Letter.datagram)) = subst (λ (o : Come). Receives known link mid (Ok o)) c.in-Letter.is (rw same_known at c.in_ok-come.ensures.told) in
+    let got : Receives known link mid (Ok (come.Letter c.in-Letter.number c.in-Letter.datagram)) = subst (λ (o : Come). Receives known link mid (Ok o)) c.in-Letter.is (rw same_known at c.in_ok-come.ensures.receives) in
     let p = err_from_is_err_and c.from_residual-in_err-heed-in-Letter.result c.from_residual-in_err-heed-in-Letter.ensures.1 in
     let is : c.from_residual-in_err-heed-in-Letter.result ≡ Err c.in_err-heed-in-Letter.field-0.0 = p.1 ∙ ap Err p.2 in
     let took = took_letter (changing g.K.Keeper.append_gives g.K.Renew.renew_gives) c.args.self.now.cluster c.in-Letter.number c.in-Letter.datagram gs known link mid out (Err c.in_err-heed-in-Letter.field-0.0) (scene_of g.L.Link g.W.Sink c.heed.new.self c.heed.new.link c.heed.new.out) c.requires.ready got
@@ -46,11 +46,11 @@ returns-in_ok-heed-in-Letter-clause-acts g c =
     let same : c.self.inside.seats.items ≡ gs = ap (λ (s : NodeState g.row.K.Denot). s.guests) c.self.view_is in
     let known = c.args.self.now.recorded in
     let same_known : c.self.inside.recorder ≡ known = ap (λ (s : NodeState g.row.K.Denot). s.recorded) c.self.view_is in
-    let link = g.L.Link.told c.args.link.now in
-    let mid = g.L.Link.told c.receive.new.link in
+    let link = g.L.Link.history c.args.link.now in
+    let mid = g.L.Link.history c.receive.new.link in
     let out = g.W.Sink.taken c.args.out.now in
     let same_cluster : c.self.inside.cluster ≡ c.args.self.now.cluster = ap (λ (s : NodeState g.row.K.Denot). s.cluster) c.self.view_is in
-    let got : Receives known link mid (Ok (come.Letter c.in-Letter.number c.in-Letter.datagram)) = subst (λ (o : Come). Receives known link mid (Ok o)) c.in-Letter.is (rw same_known at c.in_ok-come.ensures.told) in
+    let got : Receives known link mid (Ok (come.Letter c.in-Letter.number c.in-Letter.datagram)) = subst (λ (o : Come). Receives known link mid (Ok o)) c.in-Letter.is (rw same_known at c.in_ok-come.ensures.receives) in
     took_letter (changing g.K.Keeper.append_gives g.K.Renew.renew_gives) c.args.self.now.cluster c.in-Letter.number c.in-Letter.datagram gs known link mid out (Ok tt) (scene_of g.L.Link g.W.Sink c.heed.new.self c.heed.new.link c.heed.new.out) c.requires.ready got
     (rw (same, same_known, same_cluster) at c.in_ok-heed-in-Letter.ensures.acts)
 
@@ -60,10 +60,10 @@ returns-in-Foreign-clause-acts g c =
     let same : c.self.inside.seats.items ≡ gs = ap (λ (s : NodeState g.row.K.Denot). s.guests) c.self.view_is in
     let known = c.args.self.now.recorded in
     let same_known : c.self.inside.recorder ≡ known = ap (λ (s : NodeState g.row.K.Denot). s.recorded) c.self.view_is in
-    let link = g.L.Link.told c.args.link.now in
-    let mid = g.L.Link.told c.receive.new.link in
+    let link = g.L.Link.history c.args.link.now in
+    let mid = g.L.Link.history c.receive.new.link in
     let out = g.W.Sink.taken c.args.out.now in
-    rw (same, same_known) (took_foreign (changing g.K.Keeper.append_gives g.K.Renew.renew_gives) c.args.self.now.cluster gs known link mid out c.requires.ready (subst (λ (o : Come). Receives known link mid (Ok o)) c.in-Foreign.is (rw same_known at c.in_ok-come.ensures.told)))
+    rw (same, same_known) (took_foreign (changing g.K.Keeper.append_gives g.K.Renew.renew_gives) c.args.self.now.cluster gs known link mid out c.requires.ready (subst (λ (o : Come). Receives known link mid (Ok o)) c.in-Foreign.is (rw same_known at c.in_ok-come.ensures.receives)))
 
 pub returns-in-Nothing-clause-acts : goal.returns-in-Nothing-clause-acts
 returns-in-Nothing-clause-acts g c =
@@ -71,7 +71,7 @@ returns-in-Nothing-clause-acts g c =
     let same : c.self.inside.seats.items ≡ gs = ap (λ (s : NodeState g.row.K.Denot). s.guests) c.self.view_is in
     let known = c.args.self.now.recorded in
     let same_known : c.self.inside.recorder ≡ known = ap (λ (s : NodeState g.row.K.Denot). s.recorded) c.self.view_is in
-    let link = g.L.Link.told c.args.link.now in
-    let mid = g.L.Link.told c.receive.new.link in
+    let link = g.L.Link.history c.args.link.now in
+    let mid = g.L.Link.history c.receive.new.link in
     let out = g.W.Sink.taken c.args.out.now in
-    rw (same, same_known) (took_nothing (changing g.K.Keeper.append_gives g.K.Renew.renew_gives) c.args.self.now.cluster gs known link mid out c.requires.ready (subst (λ (o : Come). Receives known link mid (Ok o)) c.in-Nothing.is (rw same_known at c.in_ok-come.ensures.told)))
+    rw (same, same_known) (took_nothing (changing g.K.Keeper.append_gives g.K.Renew.renew_gives) c.args.self.now.cluster gs known link mid out c.requires.ready (subst (λ (o : Come). Receives known link mid (Ok o)) c.in-Nothing.is (rw same_known at c.in_ok-come.ensures.receives)))

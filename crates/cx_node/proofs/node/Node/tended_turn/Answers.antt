@@ -8,7 +8,7 @@ use Rattle.cx_node.specs.Acts.{Acts, scene_of}
 use Rattle.cx_node.specs.Changing.{changing}
 use Rattle.cx_course.specs.Tending.{flushed, tend_comes, turn_ended, without_care}
 use Rattle.cx_node.specs.Tends.{tended}
-use Rattle.cx_node.proofs.Tended.{turn_end, turn_flush, turn_prepare, turn_take}
+use Rattle.cx_node.proofs.TendedActs.{turn_end, turn_flush, turn_prepare, turn_take}
 use Rattle.cx_node.proofs.node.Node.tended_turn.Goals as goal
 
 pub returns-in_err-tend_prepare-clause-acts : goal.returns-in_err-tend_prepare-clause-acts

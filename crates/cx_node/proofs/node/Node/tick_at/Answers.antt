@@ -9,14 +9,14 @@ use Rattle.cx_course.specs.Course.{does_at}
 use Rattle.cx_course.specs.Tending.{is_so}
 use Rattle.cx_node.specs.Tends.{is_meant}
 use Rattle.cx_course.specs.declared.doing.Doing.TheVariants.{Give}
-use Rattle.cx_node.proofs.Tended.{due, not_due, so_at, so_within}
+use Rattle.cx_node.proofs.TendedActs.{due, not_due, so_at, so_within}
 use Rattle.cx_node.proofs.node.Node.tick_at.Goals as goal
 
 pub act-requires-clause-place : goal.act-requires-clause-place
 act-requires-clause-place g c =
     let gs = c.args.self.now.guests in
     let same = ap (λ (s : NodeState g.row.K.Denot). s.guests) c.self.view_is in
-    let test = is_meant c.args.whom c.args.care.now.marks c.args.place in
+    let test = is_meant c.args.whom c.args.care.now.counts c.args.place in
     let so = so_at test gs _ c.args.place c.is_meant_at.result (c.deref.ensures.value ∙ same) c.is_meant_at.ensures
     ∙ c.if-is_meant_at.true in
     omega (arith, so_within test (hosted_in gs) c.args.place so, length-map gs (hosted_of {K = g.row.K.Denot}))
@@ -27,7 +27,7 @@ returns-then-is_meant_at-clause-acts g c =
     let hs = hosted_in gs in
     let same = ap (λ (s : NodeState g.row.K.Denot). s.guests) c.self.view_is in
     let i = c.args.place in
-    let test = is_meant c.args.whom c.args.care.now.marks i in
+    let test = is_meant c.args.whom c.args.care.now.counts i in
     due (changing g.K.Keeper.append_gives g.K.Renew.renew_gives) c.args.self.now.cluster (is_so test (slice_get hs i)) (does_at i (Give 0 input.Tick) (course_at c.args.self.now))
     c.act.result (scene_of g.L.Link g.W.Sink c.args.self.now c.args.link.now c.args.out.now)
     (scene_of g.L.Link g.W.Sink c.act.new.self c.act.new.link c.act.new.out)
@@ -40,7 +40,7 @@ returns-clause-acts g c =
     let hs = hosted_in gs in
     let same = ap (λ (s : NodeState g.row.K.Denot). s.guests) c.self.view_is in
     let i = c.args.place in
-    let test = is_meant c.args.whom c.args.care.now.marks i in
+    let test = is_meant c.args.whom c.args.care.now.counts i in
     not_due (changing g.K.Keeper.append_gives g.K.Renew.renew_gives) c.args.self.now.cluster (is_so test (slice_get hs i)) (does_at i (Give 0 input.Tick) (course_at c.args.self.now))
     (scene_of g.L.Link g.W.Sink c.args.self.now c.args.link.now c.args.out.now)
     (so_at test gs _ i c.is_meant_at.result (c.deref.ensures.value ∙ same) c.is_meant_at.ensures ∙ c.if-is_meant_at.false)

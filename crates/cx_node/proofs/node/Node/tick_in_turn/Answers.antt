@@ -9,14 +9,14 @@ use Rattle.cx_node.specs.Guest.{AreReady}
 use Rattle.cx_course.specs.Tending.{ticks_if}
 use Rattle.cx_node.specs.Tends.{is_meant}
 use Rattle.cx_node.proofs.Actions.{blames_then, no_blame}
-use Rattle.cx_node.proofs.Tended.{all_asked, none_asked, one_asked, one_stopped}
+use Rattle.cx_node.proofs.TendedActs.{all_asked, none_asked, one_asked, one_stopped}
 use Rattle.cx_node.proofs.node.Node.tick_in_turn.Goals as goal
 
 pub loop-place-init : goal.loop-place-init
 loop-place-init g c =
     record {
       acts =
-          none_asked (changing g.K.Keeper.append_gives g.K.Renew.renew_gives) c.args.self.now.cluster (is_meant c.args.whom c.args.care.now.marks)
+          none_asked (changing g.K.Keeper.append_gives g.K.Renew.renew_gives) c.args.self.now.cluster (is_meant c.args.whom c.args.care.now.counts)
           c.args.places.now c.args.places.now
           (scene_of g.L.Link g.W.Sink c.args.self.now c.args.link.now c.args.out.now) refl;
       ready = c.requires.ready;
@@ -28,7 +28,7 @@ pub loop-place-preserved : goal.loop-place-preserved
 loop-place-preserved g c =
     let l = c.loop-place in
     let all = c.args.places.now in
-    let test = is_meant c.args.whom c.args.care.now.marks in
+    let test = is_meant c.args.whom c.args.care.now.counts in
     let place = get_or all l.place-index 0 in
     let before = scene_of g.L.Link g.W.Sink l.self l.link l.out in
     let now = scene_of g.L.Link g.W.Sink c.tick_at.new.self c.tick_at.new.link c.tick_at.new.out in
@@ -50,7 +50,7 @@ pub returns-in_err-tick_at-clause-acts : goal.returns-in_err-tick_at-clause-acts
 returns-in_err-tick_at-clause-acts g c =
     let l = c.loop-place in
     let all = c.args.places.now in
-    let test = is_meant c.args.whom c.args.care.now.marks in
+    let test = is_meant c.args.whom c.args.care.now.counts in
     let place = get_or all l.place-index 0 in
     let before = scene_of g.L.Link g.W.Sink l.self l.link l.out in
     let now = scene_of g.L.Link g.W.Sink c.tick_at.new.self c.tick_at.new.link c.tick_at.new.out in
@@ -69,7 +69,7 @@ pub returns-clause-acts : goal.returns-clause-acts
 returns-clause-acts g c =
     let l = c.loop-place in
     let all = c.args.places.now in
-    all_asked (changing g.K.Keeper.append_gives g.K.Renew.renew_gives) c.args.self.now.cluster (is_meant c.args.whom c.args.care.now.marks) all
+    all_asked (changing g.K.Keeper.append_gives g.K.Renew.renew_gives) c.args.self.now.cluster (is_meant c.args.whom c.args.care.now.counts) all
     (drop l.place-index all) (scene_of g.L.Link g.W.Sink c.args.self.now c.args.link.now c.args.out.now)
     (scene_of g.L.Link g.W.Sink l.self l.link l.out) (drop_all l.place-index all c.loop-place-test.false)
     l.invariant.acts l.invariant.ready

@@ -3,12 +3,12 @@ use Rattle.cx_node.specs.Acts.{Blames, failed, scene_of}
 use Rattle.cx_node.specs.Changing.{changing}
 use Rattle.cx_node.specs.Guest.{AreReady}
 use Rattle.cx_node.specs.Tends.{is_meant}
-use Rattle.cx_node.proofs.Tended.{Asked}
+use Rattle.cx_node.proofs.TendedActs.{Asked}
 use Rattle.cx_node.proofs.node.Node.tick_in_turn.Given as goal
 
 abbrev pub invariant-loop-place : goal.invariant-loop-place
 invariant-loop-place g l = record {
-  acts : Asked (changing g.K.Keeper.append_gives g.K.Renew.renew_gives) l.fn.self.cluster (is_meant l.whom l.care.marks) l.places
+  acts : Asked (changing g.K.Keeper.append_gives g.K.Renew.renew_gives) l.fn.self.cluster (is_meant l.whom l.care.counts) l.places
       (drop l.place-index l.places)
       (scene_of g.L.Link g.W.Sink l.fn.self l.fn.link l.fn.out) (scene_of g.L.Link g.W.Sink l.self l.link l.out);
   ready : AreReady l.fn.self.cluster l.self.guests;

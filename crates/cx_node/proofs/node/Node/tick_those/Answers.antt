@@ -11,7 +11,7 @@ use Rattle.cx_node.specs.Guest.{AreReady, hosted_in, hosted_of}
 use Rattle.cx_course.specs.Tending.{ticks_if}
 use Rattle.cx_node.specs.Tends.{is_meant}
 use Rattle.cx_node.proofs.Actions.{blames_then, no_blame}
-use Rattle.cx_node.proofs.Tended.{all_asked, none_asked, one_asked, one_stopped}
+use Rattle.cx_node.proofs.TendedActs.{all_asked, none_asked, one_asked, one_stopped}
 use Rattle.cx_node.proofs.node.Node.tick_those.Goals as goal
 
 pub loop-place-init : goal.loop-place-init
@@ -20,7 +20,7 @@ loop-place-init g c =
     let whole : n - 0 ≡ n = omega arith in
     record {
       acts =
-          none_asked (changing g.K.Keeper.append_gives g.K.Renew.renew_gives) c.args.self.now.cluster (is_meant c.args.whom c.args.care.now.marks)
+          none_asked (changing g.K.Keeper.append_gives g.K.Renew.renew_gives) c.args.self.now.cluster (is_meant c.args.whom c.args.care.now.counts)
           (below n) (numbers 0 (n - 0))
           (scene_of g.L.Link g.W.Sink c.args.self.now c.args.link.now c.args.out.now) (ap (numbers 0) whole);
       ready = c.requires.ready;
@@ -33,7 +33,7 @@ pub loop-place-preserved : goal.loop-place-preserved
 loop-place-preserved g c =
     let l = c.loop-place in
     let n = length (hosted_in c.args.self.now.guests) in
-    let test = is_meant c.args.whom c.args.care.now.marks in
+    let test = is_meant c.args.whom c.args.care.now.counts in
     let before = scene_of g.L.Link g.W.Sink l.self l.link l.out in
     let now = scene_of g.L.Link g.W.Sink c.tick_at.new.self c.tick_at.new.link c.tick_at.new.out in
     let more : l.place < n = omega (
@@ -62,7 +62,7 @@ pub returns-in_err-tick_at-clause-acts : goal.returns-in_err-tick_at-clause-acts
 returns-in_err-tick_at-clause-acts g c =
     let l = c.loop-place in
     let n = length (hosted_in c.args.self.now.guests) in
-    let test = is_meant c.args.whom c.args.care.now.marks in
+    let test = is_meant c.args.whom c.args.care.now.counts in
     let before = scene_of g.L.Link g.W.Sink l.self l.link l.out in
     let now = scene_of g.L.Link g.W.Sink c.tick_at.new.self c.tick_at.new.link c.tick_at.new.out in
     let p = err_from_is_err_and c.from_residual.result c.from_residual.ensures.1 in
@@ -95,7 +95,7 @@ returns-clause-acts g c =
       length-map c.args.self.now.guests
           (hosted_of {K = g.row.K.Denot}),
     ) in
-    all_asked (changing g.K.Keeper.append_gives g.K.Renew.renew_gives) c.args.self.now.cluster (is_meant c.args.whom c.args.care.now.marks)
+    all_asked (changing g.K.Keeper.append_gives g.K.Renew.renew_gives) c.args.self.now.cluster (is_meant c.args.whom c.args.care.now.counts)
     (below n) (numbers l.place (n - l.place))
     (scene_of g.L.Link g.W.Sink c.args.self.now c.args.link.now c.args.out.now)
     (scene_of g.L.Link g.W.Sink l.self l.link l.out) (ap (numbers l.place) none) l.invariant.acts l.invariant.ready

@@ -3,7 +3,7 @@ use Rattle.std.specs.Prelude.{slice_get}
 use Rattle.cx_node.specs.declared.guest.Guest.{Guest}
 use Rattle.cx_course.specs.Changing.{changes_of}
 use Rattle.cx_node.specs.Changing.{changing}
-use Rattle.cx_node.specs.Guest.{FailsIn, KeeperFails, hosted_of, keeper_of, who}
+use Rattle.cx_node.specs.Guest.{HasChangeFailedIn, KeeperFails, hosted_of, keeper_of, who}
 use Rattle.cx_course.specs.Hosted.{Step, does, given}
 use Rattle.cx_node.proofs.Acted.{given_is, sends_are, text_is}
 use Rattle.cx_node.proofs.Named.{is_shown, keeper_named, named_itself, own_name}
@@ -30,7 +30,7 @@ returns-in_err-give-in-Give-clause-step g c =
           let here = subst (λ (m : Step). KeeperFails gives m.kept guest c.give.new.guest) moved fails in
           let there = subst (λ (h : Guest _). KeeperFails gives
           (does (hosted_of c.args.self.now) c.args.what.now).kept h c.give.new.guest) shown here in
-          subst (λ (o : Option _). FailsIn gives
+          subst (λ (o : Option _). HasChangeFailedIn gives
           (slice_get (changes_of (who c.args.self.now) (does (hosted_of c.args.self.now) c.args.what.now).kept) 0)
           (keeper_of c.args.self.now) o)
           (sym (keeper_named c.self.inside.me c.give.new.guest)) there;

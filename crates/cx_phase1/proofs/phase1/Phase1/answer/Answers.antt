@@ -3,7 +3,7 @@ use Rattle.cx_grid.specs.Quorum.{with_mark}
 use Rattle.cx_model.specs.declared.states.Promised.{Promised}
 use Rattle.cx_model.specs.Matched.{is_member_of, rows_whole}
 use Rattle.cx_model.specs.Plan.{has_promised, promised_by}
-use Rattle.cx_phase1.specs.Sound.{IsPromise}
+use Rattle.cx_phase1.specs.Sound.{IsPromiseInRange}
 use Rattle.cx_phase1.proofs.CountLaws.{member_below_64, marked_more, rows-marked, promise_told, sound_more}
 use Rattle.cx_phase1.proofs.phase1.Phase1.answer.Goals as goal
 use Rattle.cx_phase1.proofs.phase1.Phase1.answer.Goals.{then-rows_whole, else-rows_whole}
@@ -11,19 +11,19 @@ use Rattle.cx_phase1.proofs.phase1.Phase1.answer.Goals.{then-rows_whole, else-ro
 pub end_of-self-inside-requires : goal.end_of-self-inside-requires
 end_of-self-inside-requires c =
     let p : Promised = record { acceptor = c.args.acceptor; cw = c.args.cw; votes = c.args.votes.now } in
-    let told : IsPromise p = promise_told p c.requires.cw c.requires.votes in
+    let told : IsPromiseInRange p = promise_told p c.requires.cw c.requires.votes in
     rw c.as_slice.ensures.items told.votes
 
 pub take_in-requires-clause-cw : goal.take_in-requires-clause-cw
 take_in-requires-clause-cw c =
     let p : Promised = record { acceptor = c.args.acceptor; cw = c.args.cw; votes = c.args.votes.now } in
-    let told : IsPromise p = promise_told p c.requires.cw c.requires.votes in
+    let told : IsPromiseInRange p = promise_told p c.requires.cw c.requires.votes in
     told.cw
 
 pub take_in-requires-clause-votes : goal.take_in-requires-clause-votes
 take_in-requires-clause-votes c =
     let p : Promised = record { acceptor = c.args.acceptor; cw = c.args.cw; votes = c.args.votes.now } in
-    let told : IsPromise p = promise_told p c.requires.cw c.requires.votes in
+    let told : IsPromiseInRange p = promise_told p c.requires.cw c.requires.votes in
     rw (c.into_vec.ensures, c.in_ok-copied.ensures) told.votes
 
 pub add-requires : goal.add-requires

@@ -13,8 +13,8 @@ invariant_of-self-in_err-reserve c =
     let closed = held_closed old.count old.chunks.items c.close.new.chunks.items old.last.items c.close.new.last.items old.room.items c.self.invariant c.close.ensures.same c.close.ensures.full in
     rw c.reserve.ensures.items closed
 
-pub invariant_of-self-in_err-held : goal.invariant_of-self-in_err-held
-invariant_of-self-in_err-held c =
+pub invariant_of-self-in_err-stored : goal.invariant_of-self-in_err-stored
+invariant_of-self-in_err-stored c =
     let old = c.self.inside in
     let closed = held_closed old.count old.chunks.items c.close.new.chunks.items old.last.items c.close.new.last.items old.room.items c.self.invariant c.close.ensures.same c.close.ensures.full in
     record {
@@ -28,5 +28,5 @@ invariant_of-self-2 c =
     let old = c.self.inside in
     let chunks = c.close.new.chunks.items in
     let closed = held_closed old.count old.chunks.items chunks old.last.items c.close.new.last.items old.room.items c.self.invariant c.close.ensures.same c.close.ensures.full in
-    let last : c.push_reserved.new.self.items ≡ c.close.new.last.items ++ c.in_ok-held.held ∷ [] = c.push_reserved.ensures.items ∙ ap (λ (l : List (List ℕ)). l ++ c.in_ok-held.held ∷ []) c.reserve.ensures.items in
-    rw last (held_more old.count c.in_ok-count.count chunks c.close.new.last.items old.room.items c.put_piece.new.room.items c.in_ok-held.held closed c.in_ok-count.ensures c.put_piece.ensures.room)
+    let last : c.push_reserved.new.self.items ≡ c.close.new.last.items ++ c.in_ok-stored.stored ∷ [] = c.push_reserved.ensures.items ∙ ap (λ (l : List (List ℕ)). l ++ c.in_ok-stored.stored ∷ []) c.reserve.ensures.items in
+    rw last (held_more old.count c.in_ok-count.count chunks c.close.new.last.items old.room.items c.put_piece.new.room.items c.in_ok-stored.stored closed c.in_ok-count.ensures c.put_piece.ensures.room)

@@ -1,7 +1,7 @@
 use Rattle.cx_role.proofs.Common.{◌≡◌, map, refl, subst, sym, true, rules, Pending}
 use Rattle.cx_model.specs.Proxy.{phase2a_to, column_for}
-use Rattle.cx_ring.specs.Ring.{raised}
-use Rattle.cx_proxy.specs.Holds.{Holds}
+use Rattle.cx_ring.specs.Ring.{raise_ring}
+use Rattle.cx_proxy.specs.Holds.{HasPendingRing}
 use Rattle.cx_proxy.specs.Slots.{ring_with, slot_of}
 use Rattle.cx_proxy.proofs.Holding.{holds_asked, holds_raised}
 use Rattle.cx_proxy.proofs.Rows.{asks, declines, lacks, not_past}
@@ -10,7 +10,7 @@ use Rattle.cx_proxy.proofs.proxy.Proxy.propose.Goals as goal
 pub invariant_of-self : goal.invariant_of-self
 invariant_of-self c =
     let ring = c.self.inside.pending in
-    subst (Holds c.self.inside.me) (sym c.raise.ensures) (holds_raised _ ring c.self.invariant _ ring.room (λ h. h))
+    subst (HasPendingRing c.self.inside.me) (sym c.raise.ensures) (holds_raised _ ring c.self.invariant _ ring.room (λ h. h))
 
 pub returns-in-Some : goal.returns-in-Some
 returns-in-Some c =
@@ -33,15 +33,15 @@ returns-in_err-all_or_none c =
     (lacks _ _ _ c.self.inside.pending _ _ c.from_residual-in_err-all_or_none.ensures.0 (sym c.in_default.ensures))
 
 -- what is left in the end
-left : (c : goal.Joined-put) → let p : Pending = record c.args.pending { value = c.args.value.now } in
-    c.put.new.pendings ≡ ring_with p (raised slot_of p.cw (record c.self.inside.pending { room = true }))
-left c = rw (c.put.ensures.items, c.raise-2.ensures, c.in_ok-make_room.ensures.ok, c.in_ok-asked.ensures) refl
+left : (c : goal.Joined-put_pending) → let p : Pending = record c.args.pending { value = c.args.value.now } in
+    c.put_pending.new.pendings ≡ ring_with p (raise_ring slot_of p.cw (record c.self.inside.pending { room = true }))
+left c = rw (c.put_pending.ensures.items, c.raise-2.ensures, c.in_ok-make_room.ensures.ok, c.in_ok-asked.ensures) refl
 
 pub invariant_of-self-2 : goal.invariant_of-self-2
 invariant_of-self-2 c =
     let i = c.self.inside in
     let low = not_past i.cluster i.me i.live i.pending c.args.pending (sym c.in_default.ensures) in
-    subst (Holds i.me) (sym (left c)) (holds_asked _ _ _ c.self.invariant c.requires.parts low)
+    subst (HasPendingRing i.me) (sym (left c)) (holds_asked _ _ _ c.self.invariant c.requires.parts low)
 
 pub returns : goal.returns
 returns c =

@@ -1,21 +1,21 @@
 use Rattle.std.proofs.Common.{◌≡◌, true, sym, ◌∙◌}
-use Rattle.cx_model.specs.Replica.{is_whole, replica_rules}
+use Rattle.cx_model.specs.Replica.{is_renewal_whole, replica_rules}
 use Rattle.cx_role.specs.Role.{MayKeep}
-use Rattle.cx_replica.specs.Rows.{chosen_in}
+use Rattle.cx_replica.specs.Rows.{chosen_row_in}
 use Rattle.cx_replica.proofs.Executing.{slot_below}
 use Rattle.cx_replica.proofs.Rows.{chosen_fits, next_below, wants_nothing}
 use Rattle.cx_replica.proofs.replica.Replica.chosen.Given.{Over}
 use Rattle.cx_replica.proofs.replica.Replica.chosen.Goals as goal
 use Rattle.cx_replica.proofs.replica.Replica.chosen.Goals.{After-take}
 
-whole : (g : Over) (c : After-take g) → is_whole c.args.self.now.durable ≡ true
+whole : (g : Over) (c : After-take g) → is_renewal_whole c.args.self.now.durable ≡ true
 whole g c =
     let wanted = c.self.inside.wanted in
     rw (← c.self.view_is)
     (wants_nothing wanted.pairs wanted.clients wanted.values (c.self.invariant.whole (rw (← c.self.view_is) at c.requires.live)))
 
 fits : (g : Over) (c : After-take g)
-    → MayKeep replica_rules c.args.self.now (chosen_in c.args.self.now c.args.slot c.args.value.now)
+    → MayKeep replica_rules c.args.self.now (chosen_row_in c.args.self.now c.args.slot c.args.value.now)
 fits g c =
     chosen_fits c.args.self.now c.args.slot c.args.value.now (slot_below c.args.slot c.requires.slot) (whole g c) c.requires.value
     (rw (← c.self.view_is) c.self.invariant.waiting)

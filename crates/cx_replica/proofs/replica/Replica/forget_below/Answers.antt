@@ -37,7 +37,7 @@ returns g c =
       };
       no_memory = λ e. cc;
       spared = λ e. cc;
-      told = c.renew.ensures.told;
+      tells_same = c.renew.ensures.tells_same;
       failed = λ e. cc;
       keeps = λ e. cc;
     }

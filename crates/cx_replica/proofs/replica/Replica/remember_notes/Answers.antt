@@ -1,7 +1,7 @@
 use Rattle.std.proofs.Common.{subst, sym}
 use Rattle.cx_model.specs.Replica.{Machine}
 use Rattle.cx_replica.specs.Rows.{replica_durable}
-use Rattle.cx_replica.specs.Sound.{IsNoted}
+use Rattle.cx_replica.specs.Sound.{IsTableOfCluster}
 use Rattle.cx_replica.proofs.Noted.{client_noted}
 use Rattle.cx_replica.proofs.Rows.{sound_notes, noted_parts}
 use Rattle.cx_replica.proofs.replica.Replica.remember_notes.Goals as goal
@@ -15,4 +15,4 @@ invariant_of-result c =
     let noted = client_noted i.cluster c.args.client c.args.floor c.args.notes.now i.machine.left.table parts.0 c.requires.some parts.1 parts.2 c.self.invariant.noted in
     sound_notes i.cluster i.me i.live i.log i.machine.left c.in_ok-machine.machine.left i.wanted i.deferred.items c.self.invariant
     (rw (← c.self.view_is) at c.requires.waits) c.in_ok-machine.ensures.ordered
-    (subst (λ (m : Machine). IsNoted i.cluster m.table) (sym c.in_ok-machine.ensures.left) noted)
+    (subst (λ (m : Machine). IsTableOfCluster i.cluster m.table) (sym c.in_ok-machine.ensures.left) noted)

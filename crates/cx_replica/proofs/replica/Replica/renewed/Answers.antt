@@ -24,5 +24,5 @@ pub push_tail-requires-clause-values : goal.push_tail-requires-clause-values
 push_tail-requires-clause-values c =
     let i = c.self.inside in
     let own : are_values c.args.self.now.durable.log ≡ true = subst (λ (s : Running ReplicaDurable ReplicaVolatile). are_values s.durable.log ≡ true) c.self.view_is
-    (own_fits i.cluster i.log.list c.self.invariant.held) in
+    (own_fits i.cluster i.log.list c.self.invariant.own) in
     rw c.requires.list (all_later (λ (v : Value). value.fits v) (c.args.tail.now.first - c.args.self.now.durable.first) c.args.self.now.durable.log own)

@@ -8,9 +8,9 @@ returns-then-slot-self g c =
     let inside = c.self.inside in
     elim c.then-slot-self.branch [
       | then-slot-self-via-then-slot-self w ↦
-          rw (sym c.self.view_is) (sym (outside g.S.Slotted.at inside.first c.args.slot inside.told.items c.self.invariant.near (inl w.if-slot-self.true)))
+          rw (sym c.self.view_is) (sym (outside g.S.Slotted.at inside.first c.args.slot inside.values.items c.self.invariant.near (inl w.if-slot-self.true)))
       | then-slot-self-via-else-slot-self+then-slot-self-ge-WINDOW w ↦
-          rw (sym c.self.view_is) (sym (outside g.S.Slotted.at inside.first c.args.slot inside.told.items c.self.invariant.near (inr (omega (arith, w.if-slot-self.false, w.if-slot-self-ge-WINDOW.true)))))
+          rw (sym c.self.view_is) (sym (outside g.S.Slotted.at inside.first c.args.slot inside.values.items c.self.invariant.near (inr (omega (arith, w.if-slot-self.false, w.if-slot-self-ge-WINDOW.true)))))
     ]
 
 pub returns : goal.returns

@@ -2,7 +2,7 @@ use Rattle.std.proofs.Common.{◌≡◌, ◌+◌, ◌≤◌, ◌^◌, List, max,
 use Rattle.cx_base.specs.declared.command.Value.{Value}
 use Rattle.cx_base.specs.declared.command.Placed.{Placed}
 use Rattle.cx_ring.specs.Ring.{RingState}
-use Rattle.cx_rlog.specs.State.{IsReady, LogState}
+use Rattle.cx_rlog.specs.State.{AreReadyValues, LogState}
 use Rattle.cx_rlog.proofs.Following.{still_raised}
 use Rattle.cx_rlog.proofs.Waiting.{ready_waiting}
 use Rattle.cx_rlog.proofs.log.Log.put.Goals as goal
@@ -14,7 +14,7 @@ invariant_of-self c =
     let new = inside.first + vec_len c.hold_all.new.list in
     let state : LogState = record { first = inside.first; list = inside.list.items; early = inside.early.items; spare = inside.spare } in
     let same : state ≡ c.args.self.now = c.self.view_is in
-    let ready : IsReady state c.args.values = subst (λ (s : LogState). IsReady s c.args.values) (sym same) c.requires.ready in
+    let ready : AreReadyValues state c.args.values = subst (λ (s : LogState). AreReadyValues s c.args.values) (sym same) c.requires.ready in
     let room : length c.args.values ≤ inside.spare = subst (λ (s : LogState). length c.args.values ≤ s.spare) (sym same) c.requires.room in
     let short : inside.first + length inside.list.items + length c.args.values ≤ 2 ^ 40 = subst (λ (s : LogState). s.first + length s.list + length c.args.values ≤ 2 ^ 40) (sym same) c.requires.short in
     let count : length c.into_vec-values.result.items ≡ length c.args.values = ap (λ (values : List Value). length values) c.into_vec-values.ensures in

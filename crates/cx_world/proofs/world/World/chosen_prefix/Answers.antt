@@ -2,7 +2,7 @@ use Rattle.std.proofs.Common.{◌≡◌, List, ap, sym, ◌∙◌}
 use Rattle.cx_base.specs.declared.command.Value.{Value}
 use Rattle.cx_model.specs.World.{World}
 use Rattle.cx_promises.specs.Lawful.{IsCommandList}
-use Rattle.cx_world.specs.World.{WorldState, roles_of, lists_of}
+use Rattle.cx_world.specs.World.{WorldState, seat_roles, lists_of}
 use Rattle.cx_world.proofs.Answered.{ok_then}
 use Rattle.cx_world.proofs.Promised.{list_of_run}
 use Rattle.cx_world.proofs.world.World.chosen_prefix.Goals as goal
@@ -10,7 +10,7 @@ use Rattle.cx_world.proofs.world.World.chosen_prefix.Goals as goal
 pub returns-clause-agreed : goal.returns-clause-agreed
 returns-clause-agreed c =
     let fields = c.self.inside in
-    let w : World = record { cluster = fields.cluster; roles = roles_of (lists_of fields.seats); events = fields.events; kept = fields.kept; sent = fields.sent } in
+    let w : World = record { cluster = fields.cluster; roles = seat_roles (lists_of fields.seats); events = fields.events; kept = fields.kept; sent = fields.sent } in
     λ fresh.
     let holds = c.self.invariant (ap (λ (x : WorldState). x.spent) c.self.view_is ∙ fresh) in
     let seen : WorldState = c.args.self.now in

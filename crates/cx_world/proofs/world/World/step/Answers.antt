@@ -1,7 +1,7 @@
 use Rattle.std.proofs.Common.{◌≡◌, false, List, ap, length, refl, subst, take, take_all, arith, ◌∙◌}
 use Rattle.cx_model.specs.World.{World, event_list}
 use Rattle.cx_promises.proofs.Lawful.{lawful}
-use Rattle.cx_world.specs.World.{BeginWith, WorldState, roles_of, lists_of}
+use Rattle.cx_world.specs.World.{BeginWith, WorldState, seat_roles, lists_of}
 use Rattle.cx_world.proofs.Answered.{on_err}
 use Rattle.cx_world.proofs.Steps.{all_taken_after, held_after}
 use Rattle.cx_world.proofs.world.World.step.Goals as goal
@@ -11,7 +11,7 @@ invariant_of-self-2 c =
     let fields = c.self.inside in
     let fresh : fields.spent ≡ false = ap (λ (x : WorldState). x.spent) c.self.view_is ∙ c.requires.fresh in
     let holds = c.self.invariant fresh in
-    let w : World = record { cluster = fields.cluster; roles = roles_of (lists_of fields.seats); events = fields.events; kept = fields.kept; sent = fields.sent } in
+    let w : World = record { cluster = fields.cluster; roles = seat_roles (lists_of fields.seats); events = fields.events; kept = fields.kept; sent = fields.sent } in
     let changed = c.in_ok-who.field-0 in
     λ _. held_after w c.args.event.now changed.who changed.why changed.kept (lists_of c.change.new.seats) c.change.new.out.list
     (c.in_ok-who.ensures w refl refl holds.seats) holds.ran holds.taken c.requires.taken
@@ -36,6 +36,6 @@ begins xs = take_all (length xs) xs (omega arith)
 pub returns-in_err-hear-clause-begun : goal.returns-in_err-hear-clause-begun
 returns-in_err-hear-clause-begun c =
     let fields = c.self.inside in
-    let now : World = record { cluster = fields.cluster; roles = roles_of (lists_of c.change.new.seats); events = fields.events; kept = fields.kept; sent = fields.sent } in
+    let now : World = record { cluster = fields.cluster; roles = seat_roles (lists_of c.change.new.seats); events = fields.events; kept = fields.kept; sent = fields.sent } in
     on_err (BeginWith c.args.self.now.world now) c.from_residual-in_err-hear.result
     (subst (λ (x : WorldState). BeginWith x.world now) c.self.view_is (record { events = begins fields.events; kept = begins fields.kept; sent = begins fields.sent }))

@@ -1,7 +1,0 @@
-use Rattle.cx_role.proofs.Common.{◌≡◌, drop}
-use Rattle.cx_model.specs.Acceptor.{is_of, vote_at}
-use Rattle.cx_acceptor.proofs.votes.has_vote.Given as goal
-
-abbrev pub invariant-loop-vote : goal.invariant-loop-vote
-invariant-loop-vote l =
-    is_of l.round (vote_at l.slot (drop l.vote-index l.votes)) ≡ is_of l.round (vote_at l.slot l.votes)

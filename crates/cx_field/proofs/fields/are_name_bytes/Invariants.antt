@@ -1,7 +1,0 @@
-use Rattle.std.proofs.Common.{◌≡◌, ◌&&◌, drop}
-use Rattle.std.specs.List.{list_all}
-use Rattle.cx_base.specs.Name.{is_name_byte}
-use Rattle.cx_field.proofs.fields.are_name_bytes.Given as goal
-
-abbrev pub invariant-loop-byte : goal.invariant-loop-byte
-invariant-loop-byte l = (l.all && list_all is_name_byte (drop l.byte-index l.bytes)) ≡ list_all is_name_byte l.bytes

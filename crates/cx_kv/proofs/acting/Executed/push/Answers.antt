@@ -1,4 +1,0 @@
-use Rattle.cx_kv.proofs.acting.Executed.push.Goals as goal
-
-pub invariant_of-self-2 : goal.invariant_of-self-2
-invariant_of-self-2 c = rw c.of.ensures (c.in_ok-note.ensures.ok c.self.inside.told.items c.self.invariant)
