@@ -11,12 +11,15 @@ from trials import run, tool_of
 
 TOP = pathlib.Path(__file__).resolve().parent.parent
 
-# In the place of `rt`: it refuses each edit of a crate but those that are called missed, and says which crate it was asked for.
+# In the place of `rt`: it refuses each edit of the crates that it is named but those that are called missed.
 PROVER = """#!/bin/sh
-echo "$*"
-for edit in crates/$2/must-fail/*; do
-  case $edit in *missed*) what="NOT REFUSED: it is still proved" ;; *) what="refused, as it must be: a goal" ;; esac
-  echo "rt: must-fail $2/${edit##*/}: $what"
+echo "$*, $RT_JOBS at once"
+shift
+for crate in "$@"; do
+  for edit in crates/$crate/must-fail/*; do
+    case $edit in *missed*) what="NOT REFUSED: it is still proved" ;; *) what="refused, as it must be: a goal" ;; esac
+    echo "rt: must-fail $crate/${edit##*/}: $what"
+  done
 done
 """
 
@@ -69,13 +72,15 @@ class PlantsTest(unittest.TestCase):
 
     def test_plants_stand_in_the_place_of_edits(self) -> None:
         status, out, _ = run("plants", "one")
+        first, *lines = out.splitlines()
+        self.assertRegex(first, r"^ci one, [1-9]\d* at once$")
         said = [f"rt: must-fail one/{name}.edit: refused, as it must be: a goal" for name in "ab"]
-        self.assertEqual((status, out.splitlines()), (0, ["must-fail one", *said, "one: 2 of 2 refused"]))
+        self.assertEqual((status, lines), (0, [*said, "one: 2 of 2 refused"]))
         self.assertTrue((self.top / "crates/one/must-fail/own.edit").exists())
 
     def test_what_is_not_refused_is_told(self) -> None:
         status, out, _ = run("plants")
-        self.assertEqual((status, [line for line in out.splitlines() if line.endswith(" refused")]), (1, ["one: 2 of 2 refused", "two: 0 of 1 refused"]))
+        self.assertEqual((status, out.splitlines()[-2:]), (1, ["one: 2 of 2 refused", "two: 0 of 1 refused"]))
 
     def test_a_crate_without_plants(self) -> None:
         status, out, said = run("plants", "one", "none")

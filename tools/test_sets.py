@@ -15,6 +15,7 @@ COUNTED = ["match opened behind a stop", "replacer opened behind a stop",
            *(f"replacer StopNack {word}" for word in ("nacked", "old")),
            *(f"{kind} Sets {word}" for kind in ("leader", "reader", "replacer") for word in ("learnt", "old")),
            *(f"{name} stopped" for name in ("GarbageA", "MatchA", "MatchRead")),
+           *(f"{name} new" for name in ("MatchA", "MatchRead")), "match StopA new",
            *(f"replacer tick {word}" for word in ("idle", "resent"))]
 
 

@@ -12,12 +12,12 @@ ghost use Rattle.cx_kv.specs.Rising.{IsRising, has_lower_key};
 ghost use Rattle.cx_kv.specs.State.{MapState};
 
 use crate::order::{index_at, look_up, pair_at};
-use cx_base::{Key, NoMemory, Pair, Text};
+use cx_base::{KEYS, Key, NoMemory, Pair, Text};
 use std::alloc::Global;
 use std::marker::Model;
 
 /// How many pairs there can be.
-const MOST: usize = 1 << 32;
+const MOST: usize = KEYS as usize;
 
 /// A map from keys to texts, with room that was taken beforehand. Contracts see the list of its pairs in the rising
 /// order of their keys, and for how many more keys there is room.

@@ -2,7 +2,7 @@
 //!
 //! Its theorems are: `decode` answers the one datagram that the bytes spell, or exactly the first
 //! test that they fail; `encode_into` appends that spelling, which begins no other datagram's
-//! (`one_spelling`); `record_from` and `record_into` do the same for records.
+//! (`one_spelling`); `record_from` and `record_into` read and append records so.
 #![tactic(auto)]
 
 mod bodies;

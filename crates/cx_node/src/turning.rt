@@ -15,7 +15,7 @@ ghost use Rattle.cx_course.specs.Tending.{any_turn};
 
 use crate::care::Care;
 use crate::{Come, Node, Stop};
-use cx_base::{Cluster, Grid, Kind, NoMemory, Order, RoleId};
+use cx_base::{Cluster, Grid, Kind, MEMBERS, NoMemory, Order, RoleId};
 use cx_course::Doing;
 use cx_edge::{Link, Sink, TakeEnd};
 use cx_keeper::Renew;
@@ -23,16 +23,14 @@ use cx_msg::{Input, WireFault, decode};
 use cx_record::Recorder;
 use std::alloc::Global;
 
-// The greatest number of members of a grid, and the first acceptors.
-const MEMBERS: u16 = 16;
-
-const FIRST: [u16; 16] = [0, 1, 2, 3, 4, 5, 6, 7, 8, 9, 10, 11, 12, 13, 14, 15];
+// The first acceptors, as many as a grid can have.
+const FIRST: [u16; MEMBERS] = [0, 1, 2, 3, 4, 5, 6, 7, 8, 9, 10, 11, 12, 13, 14, 15];
 
 /// The grid that leader 0 is ordered to lead: the first acceptors, in two rows where their number is even, else in one.
 pub fn first_grid(cluster: &Cluster) -> Grid
     ensures { result ≡ grid_of cluster.now }
 {
-    let count = cluster.acceptors.min(MEMBERS);
+    let count = cluster.acceptors.min(MEMBERS as u16);
     let members = &FIRST[..count as usize];
     if count % 2 == 0 {
         return Grid::from_parts(2, (count / 2) as u8, members);

@@ -26,7 +26,7 @@ use std::alloc::Global;
 pub enum WakeStop {
     /// The store failed.
     Failed,
-    /// The store has other bytes at this place, in bytes, than a journal of this role. Of two files it is a place in the live one.
+    /// The store has other bytes at this place, in bytes, than a journal of this role. Of two files it is a place in the live one, or 1 where their generations do not fit.
     Bad { at: u64 },
     NoMemory,
 }

@@ -5,15 +5,12 @@ ghost use Rattle.indexmap.specs.IndexMap.{spare};
 ghost use Rattle.cx_record.specs.Numbers.{blank, has_room, last_sent};
 ghost use Rattle.cx_record.specs.Table.{datagram_number};
 
-use cx_base::NoMemory;
+use cx_base::{MAX_LINES, NoMemory};
 use cx_history::Sent;
 use cx_msg::{Datagram, encode_into};
 use indexmap::IndexMap;
 use std::alloc::Global;
 use std::marker::Model;
-
-// The most lines that a schedule may have.
-const MOST_LINES: u64 = 65_535;
 
 /// A datagram that was sent, with its number: datagrams are numbered from 0, in the order of sending.
 #[derive(Drop)]
@@ -89,7 +86,7 @@ impl Recorder {
     pub fn has_room(&self, more: u64) -> bool
         ensures { result ≡ has_room more self.now }
     {
-        self.lines.saturating_add(more) <= MOST_LINES
+        self.lines.saturating_add(more) <= MAX_LINES
     }
 
     /// Counts lines that were written.

@@ -21,9 +21,9 @@ ghost use Rattle.cx_table.specs.declared.judge.Judge.TheVariants as judge;
 
 use crate::clients;
 use crate::orders::{pairs_rise, rise_behind};
-use crate::rooms::{COMMANDS, Rooms};
+use crate::rooms::Rooms;
 use crate::sending::send_results;
-use cx_base::{Answered, Cluster, Command, Key, NoMemory, Note, Pair, RoleId, Text, Value};
+use cx_base::{Answered, BATCH, Cluster, Command, Key, NoMemory, Note, Pair, RoleId, Text, Value};
 use cx_field::reply_fits;
 use cx_kv::PairMap;
 use cx_role::Outbox;
@@ -136,7 +136,7 @@ impl Machine {
         ensures room { OnOk result (HasRoom self.new (command_list values.now)) }
     {
         // A command adds at most one key.
-        self.store.make_room(COMMANDS * values.len())?;
+        self.store.make_room(BATCH * values.len())?;
         clients::make_room(&mut self.table, values)?;
         Ok(())
     }
@@ -256,7 +256,7 @@ impl Machine {
         requires values { IsTrue (are_values values.now) }
         ensures { OnOk result (self.new.left ≡ machine_from first self.old.left values.now) }
     {
-        let mut answers = Vec::with_capacity(alloc, COMMANDS)?;
+        let mut answers = Vec::with_capacity(alloc, BATCH)?;
         self.make_room(values)?;
         for (index, value) in values.iter().enumerate() {
             answers.clear();

@@ -2,12 +2,9 @@
 
 ghost use Rattle.std.specs.Prelude.{◌≡◌, ◌+◌, ◌<◌, ◌≤◌, [], IfOk, vec_capacity};
 
-use cx_base::{Answered, NoMemory};
+use cx_base::{Answered, BATCH, NoMemory};
 use std::alloc::Global;
 use std::marker::Model;
-
-/// The most commands that a value has.
-pub const COMMANDS: usize = 8;
 
 /// Vectors without answers, each with room for those of one value. Contracts see how many they are.
 #[derive(Drop)]
@@ -35,7 +32,7 @@ impl Rooms {
     {
         let mut list = Vec::with_capacity(alloc, values)?;
         for _number in 0..values {
-            list.push(Vec::with_capacity(alloc, COMMANDS)?)?;
+            list.push(Vec::with_capacity(alloc, BATCH)?)?;
         }
         Ok(Rooms { list })
     }
