@@ -132,14 +132,20 @@ fn keeps_the_first(depot: &mut impl Depot, role: RoleId, side: u8) -> bool {
     first && second && is_cut
 }
 
+// Whether a file has these bytes. It is removed.
+fn had(rt: &HostRuntime, name: &str, bytes: &[u8]) -> Result<bool, Fail> {
+    let found = fs::read(rt, name)?;
+    fs::remove_file(rt, name)?;
+    Ok(found.as_slice() == bytes)
+}
+
 #[test]
 fn a_file_is_cut(rt: HostRuntime) -> Result<(), Fail> {
     let mut depot = FileDepot::new(rt.alloc(), &rt, &[acceptor()])?;
     assert!(rt; depot.open(RoleId::new(Kind::Acceptor, 0), 0).is_err());
     assert!(rt; depot.open(acceptor(), 1).is_err());
     assert!(rt; keeps_the_first(&mut depot, acceptor(), 0));
-    assert!(rt; fs::read(&rt, NAME)?.as_slice() == [1].as_slice());
-    fs::remove_file(&rt, NAME)?;
+    assert!(rt; had(&rt, NAME, &[1])?);
     Ok(())
 }
 
@@ -149,10 +155,8 @@ fn a_replica_has_two_files(rt: HostRuntime) -> Result<(), Fail> {
     assert!(rt; depot.open(replica(), 0).is_ok());
     assert!(rt; keeps_the_first(&mut depot, replica(), 1));
     assert!(rt; depot.open(replica(), 2).is_err());
-    assert!(rt; fs::read(&rt, FIRST_NAME)?.is_empty());
-    assert!(rt; fs::read(&rt, SECOND_NAME)?.as_slice() == [1].as_slice());
-    fs::remove_file(&rt, FIRST_NAME)?;
-    fs::remove_file(&rt, SECOND_NAME)?;
+    assert!(rt; had(&rt, FIRST_NAME, &[])?);
+    assert!(rt; had(&rt, SECOND_NAME, &[1])?);
     Ok(())
 }
 
