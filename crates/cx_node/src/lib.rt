@@ -22,8 +22,9 @@ mod turning;
 mod whom;
 
 pub use come::Come;
-pub use cx_seat::{Guest, OpenStop, Seat, WakeStop, close_seats, open_seats};
-pub use cx_seat::{stops_are_crashes, wake, wake_twin};
+pub use cx_seat::{
+    Guest, OpenStop, Seat, WakeStop, close_seats, open_seats, stops_are_crashes, wake, wake_twin,
+};
 pub use examples::{beats, no_leader, queues, reports, waits};
 pub use header::HeaderText;
 pub use input::{Accepted, NodeInput, Refusal, listen};

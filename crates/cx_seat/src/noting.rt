@@ -88,7 +88,8 @@ fn keep<T: Copy + Drop>(list: &mut Vec<T>, one: &Option<T>) -> Result<(), NoMemo
     Ok(())
 }
 
-/// The event that a step is of its own, if it is one, in the place of what is there.
+/// The event that a step is of its own, if it is one, comes in the place of what is there: with it the lines of the step begin, and
+/// `Seat::note_requests` adds the others. `NoMemory` comes where the list could not grow.
 pub fn note_own(me: RoleId, what: &Doing, events: &mut Vec<Event>) -> Result<(), NoMemory>
     ensures { OnOk result (events.new.items ≡ own_event me what.now) }
 {
@@ -112,7 +113,7 @@ pub fn note_requests(
     Ok(())
 }
 
-/// Whether the record has room for the lines of these events.
+/// Whether the record has room for the lines of these events. Where it hasn't, their step must not be made.
 pub fn has_room(recorder: &Recorder, events: &[Event]) -> bool
     ensures { result ≡ has_room (length events.now) recorder.now }
 {
@@ -129,7 +130,8 @@ fn add_lines(events: &[Event], text: &mut Vec<u8>) -> Result<(), NoMemory>
     Ok(())
 }
 
-/// Where the node records, the lines of a step's events come in the place of its role's text, and are counted.
+/// Takes down a step that was made: where the node records, the lines of the step's events come in the place of its role's text, and
+/// are counted; else nothing is done. `NoMemory` comes where the text could not grow.
 pub fn take_down(
     recorder: &mut Option<Recorder>,
     events: &[Event],

@@ -298,7 +298,9 @@ fn first_used<D: Disk>(seats: &[Seat<RecordStore<D>>]) -> Option<RoleId>
     None
 }
 
-/// Opens these roles in their order. Where their node is to record, no store may have a record.
+/// Opens these roles in their order, as `open_seats` does, and with its errors. Where their node is to record, no store may have a
+/// record: `NotFresh` names the first role whose store has one, after all were opened. Whatever it answers, the seats have the stores
+/// that are out: `close_seats` gives them back.
 pub fn open_all<D: Depot>(
     alloc: Global,
     cluster: &Cluster,
