@@ -6,14 +6,14 @@ use Rattle.std.proofs.lemmas.Grind.{flat_map-append}
 use Rattle.cx_base.specs.Faults.{Rises}
 use Rattle.cx_base.specs.declared.cluster.Cluster.{Cluster}
 use Rattle.cx_edge.specs.Link.{LinkHistory, with_taken}
-use Rattle.cx_node.specs.Changing.{Changing}
-use Rattle.cx_node.specs.declared.guest.Guest.{Guest}
+use Rattle.cx_seat.specs.Changing.{Changing}
+use Rattle.cx_seat.specs.declared.guest.Guest.{Guest}
 use Rattle.cx_node.specs.declared.node.Stop.{Stop}
 use Rattle.cx_node.specs.declared.node.Stop.TheVariants.{LinkFault, NoMemory, WriteFault}
 use Rattle.cx_course.specs.Action.{Action, AreTakesOf, Took, bound_by, taken_by}
 use Rattle.cx_node.specs.Acts.{Acts, Blames, Failures}
 use Rattle.cx_node.specs.Doing.{Linked, Scene, course_in, scene}
-use Rattle.cx_node.specs.Guest.{AreReady, hosted_in}
+use Rattle.cx_seat.specs.Guest.{AreReady, hosted_in}
 use Rattle.cx_course.specs.Run.{TakeResults}
 use Rattle.cx_course.specs.Course.{Course, Moved, stays, then_do, took}
 use Rattle.cx_record.specs.Numbers.{Recorded}

@@ -20,10 +20,10 @@ use Rattle.cx_node.specs.declared.node.RunEnd.{RunEnd}
 use Rattle.cx_node.specs.declared.node.RunEnd.TheVariants as end
 use Rattle.cx_node.specs.Hosting.{HasOpened, HasRun, HostAnswered, HostBinding, HostDid, HostEnds, HostEndsAt}
 use Rattle.cx_node.specs.Input.{FailsRead, input_of, may_host, refused_of}
-use Rattle.cx_node.specs.Opening.{IsFirstBad, IsFirstUsed, is_store_used}
+use Rattle.cx_seat.specs.Opening.{IsFirstBad, IsFirstUsed, is_store_used}
 use Rattle.cx_node.specs.Serving.{AllRead, IsNodeAnswer, AnswersPart, NodeCompletes, Ends, EndsAt, EndsBinding, EndsWell, IsUntouched, Outside, InputSays}
 use Rattle.cx_node.specs.Serving.{TellsBad, TellsUsed, recorded_header, refused_status}
-use Rattle.cx_node.proofs.FirstBad.{one_first}
+use Rattle.cx_seat.proofs.FirstBad.{one_first}
 use Rattle.cx_node.proofs.HostedRuns.{records_header}
 
 -- what was heard is what the input says, and it is refused for nothing

@@ -19,25 +19,27 @@ use Rattle.cx_keeper.specs.Keeper.{KeeperChange, Renewal, list_after}
 use Rattle.cx_model.specs.Lists.{bool_cases, differ_role, get_set_other, get_set_same, not_both, number_itself}
 use Rattle.cx_model.specs.Lists.{same_number, same_role-itself}
 use Rattle.cx_msg.specs.declared.kept.Record.{Record}
-use Rattle.cx_node.specs.declared.guest.Guest.{Guest}
+use Rattle.cx_seat.specs.declared.guest.Guest.{Guest}
 use Rattle.cx_node.specs.declared.node.Stop.{Stop}
 use Rattle.cx_node.specs.declared.node.Stop.TheVariants as stop
 use Rattle.cx_course.specs.Action.{Action, Kept}
 use Rattle.cx_course.specs.Changing.{StoreChange, changes_of, lists_after}
-use Rattle.cx_node.specs.Changing.{Changing, Refuses}
+use Rattle.cx_seat.specs.Changing.{Changing, Refuses}
 use Rattle.cx_node.specs.Doing.{GuestFails, GuestsGrow, GuestsRest, StopsAt}
-use Rattle.cx_node.specs.Guest.{AreChangesMade, HasChangeFailed, HasChangeFailedIn, Grows, Rests, keeper_of, who}
-use Rattle.cx_node.specs.Hosting.{GivesBack}
-use Rattle.cx_node.specs.Opening.{AreApart, AreOpened, IsOpened, disks_in, is_durable}
-use Rattle.cx_node.specs.Stores.{Lent, NoneFailed, disks_of, files_by, files_of, has_second, is_two}
+use Rattle.cx_seat.specs.Guest.{AreChangesMade, HasChangeFailed, HasChangeFailedIn, Grows, Rests, keeper_of, who}
+use Rattle.cx_seat.specs.Closing.{GivesBack}
+use Rattle.cx_seat.specs.Opening.{AreApart, AreOpened, IsOpened, disks_in, is_durable}
+use Rattle.cx_seat.specs.Stores.{Lent, NoneFailed, disks_of, files_by, files_of, has_second, is_two}
 use Rattle.cx_node.proofs.AnyKind.{told_any}
 use Rattle.cx_node.proofs.Done.{same_at}
-use Rattle.cx_node.proofs.GivenBack.{lender, lent_at}
+use Rattle.cx_seat.proofs.GivenBack.{lender, lent_at}
 use Rattle.cx_node.proofs.Grown.{changes_append}
-use Rattle.cx_node.proofs.OpenedRoles.{AreOpenedFrom, get_beside, has_records, keeps_store, name_is}
+use Rattle.cx_node.proofs.Recovered.{AreOpenedFrom}
+use Rattle.cx_seat.proofs.OpenedRoles.{get_beside, has_records, keeps_store, name_is}
 use Rattle.cx_node.proofs.StoredRecords.{changed_still, changed_tells, changed_told, changed_two, failed_tells, failed_told}
 use Rattle.cx_node.proofs.StoredRecords.{failed_two, fails_rises, gives, kept, none_failed_at, refused_still, refused_tells}
-use Rattle.cx_node.proofs.StoredRecords.{refused_told, refused_two, role_of_disk, tells}
+use Rattle.cx_node.proofs.StoredRecords.{refused_told, refused_two, tells}
+use Rattle.cx_seat.proofs.Lent.{role_of_disk}
 
 grows_some : {K : Type 0} (g : Changing K) (cs : List KeeperChange) (o p : Option K) (j : K) → o ≡ Some j → Grows g cs o p
     → (k : K) × (p ≡ Some k) × AreChangesMade g cs j k

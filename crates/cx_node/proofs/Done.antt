@@ -8,14 +8,14 @@ use Rattle.std.proofs.lemmas.Option.{none-some, same_Some, slice_get-map}
 use Rattle.std.specs.Io.KnownBytes.{Appends}
 use Rattle.std.specs.List.{list_any}
 use Rattle.cx_base.specs.declared.cluster.Cluster.{Cluster}
-use Rattle.cx_node.specs.declared.guest.Guest.{Guest}
+use Rattle.cx_seat.specs.declared.guest.Guest.{Guest}
 use Rattle.cx_node.specs.declared.node.Stop.{Stop}
 use Rattle.cx_node.specs.declared.node.Stop.TheVariants as stop
 use Rattle.cx_course.specs.Action.{Action, Filled, Kept, Took, is_filled, kept_as, kept_in, printed_by, printed_in}
 use Rattle.cx_course.specs.Changing.{StoreChange}
-use Rattle.cx_node.specs.Changing.{Changing}
+use Rattle.cx_seat.specs.Changing.{Changing}
 use Rattle.cx_node.specs.Doing.{Did, DidPart, Does, GuestsGrow, GuestsRest, Scene, StopsAt, course_in, scene}
-use Rattle.cx_node.specs.Guest.{GuestGrows, Rests, keeper_of, who}
+use Rattle.cx_seat.specs.Guest.{GuestGrows, Rests, keeper_of, who}
 use Rattle.cx_course.specs.Course.{Course, Moved, stays, then_do}
 use Rattle.cx_node.proofs.Asked.{linked_nothing, linked_then}
 use Rattle.cx_node.proofs.Grown.{before, behind, grows_none, guest_then}

@@ -10,10 +10,10 @@ use Rattle.cx_course.specs.Hosted.{Hosted, does}
 use Rattle.cx_course.specs.declared.doing.Doing.{Doing}
 use Rattle.cx_course.specs.declared.doing.Doing.TheVariants.{Begin, Give, Snap}
 use Rattle.cx_msg.specs.Letter.{Letter}
-use Rattle.cx_node.specs.Changing.{Changing}
-use Rattle.cx_node.specs.Guest.{HasChangeFailedIn, Grows, Rests, hosted_of, keeper_of, who}
-use Rattle.cx_node.specs.declared.guest.Guest.{Guest}
-use Rattle.cx_node.specs.declared.guest.Guest.TheVariants as guest
+use Rattle.cx_seat.specs.Changing.{Changing}
+use Rattle.cx_seat.specs.Guest.{HasChangeFailedIn, Grows, Rests, hosted_of, keeper_of, who}
+use Rattle.cx_seat.specs.declared.guest.Guest.{Guest}
+use Rattle.cx_seat.specs.declared.guest.Guest.TheVariants as guest
 use Rattle.cx_record.specs.Numbers.{Recorded, has_room, most_lines}
 
 more_full : (lines n more most : ℕ) → nat_le (lines + n) most ≡ false → nat_le (lines + (n + more)) most ≡ false

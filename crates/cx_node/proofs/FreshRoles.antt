@@ -31,11 +31,12 @@ use Rattle.cx_model.specs.Rules.{Rules, opened}
 use Rattle.cx_msg.specs.declared.kept.Record.{Record}
 use Rattle.cx_record.specs.Readable.{IsRecordable}
 use Rattle.cx_script.specs.Requests.{IsScript, script_of}
-use Rattle.cx_node.specs.declared.guest.Guest.{Guest}
-use Rattle.cx_node.specs.Opening.{AreApart, AreOpened, is_durable, opened_as}
+use Rattle.cx_seat.specs.declared.guest.Guest.{Guest}
+use Rattle.cx_seat.specs.Opening.{AreApart, AreOpened, is_durable, opened_as}
 use Rattle.cx_node.specs.Serving.{IsRecordedRun, hosts, run_of}
-use Rattle.cx_node.proofs.OpenedRoles.{AreOpenedFrom, distinct_opened, get_beside, get_map, hosts_opened}
-use Rattle.cx_node.proofs.Unused.{NoneIsUsed, fresh_opened}
+use Rattle.cx_node.proofs.Recovered.{AreOpenedFrom, hosts_opened}
+use Rattle.cx_seat.proofs.OpenedRoles.{distinct_opened, get_beside, get_map}
+use Rattle.cx_seat.proofs.Unused.{NoneIsUsed, fresh_opened}
 
 -- what holds of each place holds of each member
 all_members : {X : Type 0} (P : X → Type 0) (xs : List X) → All P xs → (x : X) → Member x xs → P x

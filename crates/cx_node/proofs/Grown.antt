@@ -5,10 +5,10 @@ use Rattle.std.proofs.lemmas.Option.{none-some}
 use Rattle.cx_base.specs.declared.role.RoleId.{RoleId}
 use Rattle.cx_base.specs.Role.{same_role}
 use Rattle.cx_keeper.specs.Keeper.{KeeperChange}
-use Rattle.cx_node.specs.declared.guest.Guest.{Guest}
+use Rattle.cx_seat.specs.declared.guest.Guest.{Guest}
 use Rattle.cx_course.specs.Changing.{StoreChange, changes_of}
-use Rattle.cx_node.specs.Changing.{Changing}
-use Rattle.cx_node.specs.Guest.{AreChangesMade, Grows, GuestGrows, keeper_of, who}
+use Rattle.cx_seat.specs.Changing.{Changing}
+use Rattle.cx_seat.specs.Guest.{AreChangesMade, Grows, GuestGrows, keeper_of, who}
 
 -- the place after a list at which a prefix of another ends
 pub behind : {X : Type 0} (xs ys : List X) (n : ℕ) → (k : ℕ) × (take k (xs ++ ys) ≡ xs ++ take n ys)

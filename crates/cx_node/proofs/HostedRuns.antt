@@ -26,28 +26,30 @@ use Rattle.cx_course.specs.Course.{Course, course_of}
 use Rattle.cx_course.specs.Hosted.{Hosted}
 use Rattle.cx_course.specs.Run.{TakeResults}
 use Rattle.cx_course.specs.Tending.{node_run}
-use Rattle.cx_node.specs.declared.guest.Guest.{Guest}
+use Rattle.cx_seat.specs.declared.guest.Guest.{Guest}
 use Rattle.cx_node.specs.declared.node.RunEnd.{RunEnd}
 use Rattle.cx_node.specs.declared.node.RunEnd.TheVariants as end
 use Rattle.cx_node.specs.declared.node.Stop.{Stop}
 use Rattle.cx_node.specs.declared.node.Stop.TheVariants as stop
-use Rattle.cx_node.specs.declared.opening.OpenStop.{OpenStop}
-use Rattle.cx_node.specs.declared.opening.OpenStop.TheVariants as open_stop
+use Rattle.cx_seat.specs.declared.opening.OpenStop.{OpenStop}
+use Rattle.cx_seat.specs.declared.opening.OpenStop.TheVariants as open_stop
 use Rattle.cx_node.specs.Acts.{failures}
 use Rattle.cx_node.specs.Doing.{Did as DidNode, DidPart, Linked, Scene, course_in, scene}
-use Rattle.cx_node.specs.Guest.{who}
-use Rattle.cx_node.specs.Hosting.{GivesBack, HasOpened, HasRun, HostAnswered, HostBinding, HostDid, HostEnds, HostEndsAt, HostEndsAtChange, HostEndsEarly, Ran}
+use Rattle.cx_seat.specs.Guest.{who}
+use Rattle.cx_seat.specs.Closing.{GivesBack}
+use Rattle.cx_node.specs.Hosting.{HasOpened, HasRun, HostAnswered, HostBinding, HostDid, HostEnds, HostEndsAt, HostEndsAtChange, HostEndsEarly, Ran}
 use Rattle.cx_node.specs.Hosting.{RunsBehind, RunsPartBehind, ended_status, known_first, unopened_status, with_binds}
 use Rattle.cx_node.specs.Node.{IsEnd, IsUnderway}
-use Rattle.cx_node.specs.Opening.{AreApart, AreOpened, IsBadAs, IsFirstBad, IsFirstUsed, disks_in, is_durable, is_store_used}
+use Rattle.cx_seat.specs.Opening.{AreApart, AreOpened, IsBadAs, IsFirstBad, IsFirstUsed, disks_in, is_durable, is_store_used}
 use Rattle.cx_node.specs.Ports.{bind_of}
 use Rattle.cx_node.specs.Serving.{Did, IsRecordedRun, Outside, ServedPart, begun_with, record_head, hosts, recorded_header, run_of, records_in_files}
-use Rattle.cx_node.specs.Stores.{files_of, is_two}
+use Rattle.cx_seat.specs.Stores.{files_of, is_two}
 use Rattle.cx_node.proofs.Asked.{binds_kept, binds_printed, linked_binds, linked_nothing, linked_then}
 use Rattle.cx_node.proofs.ClosedStores.{ran_still, ran_stores, stops_rises, stops_still, stops_stores, told_whole}
 use Rattle.cx_node.proofs.ClosedStores.{unhosted}
 use Rattle.cx_node.proofs.Grown.{behind, behind_next}
-use Rattle.cx_node.proofs.OpenedRoles.{AreOpenedFrom, AreTold, get_beside, good_opened, hosts_opened, name_is, told_opened}
+use Rattle.cx_node.proofs.Recovered.{AreOpenedFrom, AreTold, hosts_opened, told_opened}
+use Rattle.cx_seat.proofs.OpenedRoles.{get_beside, good_opened, name_is}
 use Rattle.cx_node.proofs.SteadySeats.{IsSteady, steady_did, steady_stops, steady_then}
 use Rattle.cx_node.proofs.StoredRecords.{gives, shape_stays, take_next}
 use Rattle.cx_node.proofs.Turned.{no_end}

@@ -13,17 +13,17 @@ use Rattle.cx_msg.specs.Letter.{Letter}
 use Rattle.cx_msg.specs.declared.fault.WireFault.{WireFault}
 use Rattle.cx_msg.specs.declared.fault.WireFault.TheVariants as faults
 use Rattle.cx_msg.specs.declared.input.Input.TheVariants as input
-use Rattle.cx_node.specs.Changing.{Changing}
+use Rattle.cx_seat.specs.Changing.{Changing}
 use Rattle.cx_node.specs.declared.come.Come.{Come}
 use Rattle.cx_node.specs.declared.come.Come.TheVariants as come
 use Rattle.cx_course.specs.declared.doing.Doing.{Doing}
 use Rattle.cx_course.specs.declared.doing.Doing.TheVariants.{Give, Snap}
-use Rattle.cx_node.specs.declared.guest.Guest.{Guest}
+use Rattle.cx_seat.specs.declared.guest.Guest.{Guest}
 use Rattle.cx_node.specs.declared.node.Stop.{Stop}
 use Rattle.cx_node.specs.declared.node.Stop.TheVariants.{LinkFault, NoMemory, RecordFull, StoreFault, WriteFault}
 use Rattle.cx_node.specs.Acts.{Acts, ActsOnce, Receives, come_of, read_as}
 use Rattle.cx_node.specs.Doing.{Scene, course_in, scene}
-use Rattle.cx_node.specs.Guest.{AreReady, hosted_in}
+use Rattle.cx_seat.specs.Guest.{AreReady, hosted_in}
 use Rattle.cx_course.specs.Course.{Course, Moved, does_at, stays, then_do, took}
 use Rattle.cx_course.specs.Run.{all_do, at_place, brings, brought, comes, first_do, grid_of}
 use Rattle.cx_course.specs.Run.{idle_at, lead_at, ordered, hosted_place, prepared, snaps, spelled, ticked, node_turn}

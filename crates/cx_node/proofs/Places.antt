@@ -8,8 +8,8 @@ use Rattle.std.proofs.lemmas.Option.{cond_some}
 use Rattle.cx_base.specs.Lists.{numbers}
 use Rattle.cx_base.specs.Role.{same_role}
 use Rattle.cx_base.specs.declared.role.RoleId.{RoleId}
-use Rattle.cx_node.specs.declared.guest.Guest.{Guest}
-use Rattle.cx_node.specs.Guest.{hosted_in, hosted_of, who}
+use Rattle.cx_seat.specs.declared.guest.Guest.{Guest}
+use Rattle.cx_seat.specs.Guest.{hosted_in, hosted_of, who}
 use Rattle.cx_course.specs.Hosted.{Hosted}
 use Rattle.cx_course.specs.Run.{all_finished, has_finished, is_client, hosted_place}
 

@@ -27,9 +27,8 @@ use Rattle.cx_course.specs.declared.doing.Doing.{Doing}
 use Rattle.cx_course.specs.declared.doing.Doing.TheVariants.{Begin, Give, Snap}
 use Rattle.cx_course.specs.Action.{Action, Kept, Printed, Sent, step_actions}
 use Rattle.cx_course.specs.Changing.{StoreChange, changed_by, changes_of}
-use Rattle.cx_node.specs.Changing.{Changing}
-use Rattle.cx_node.specs.Guest.{HasChangeFailedIn}
-use Rattle.cx_node.specs.Guest.{who}
+use Rattle.cx_seat.specs.Changing.{Changing}
+use Rattle.cx_seat.specs.Guest.{HasChangeFailedIn, who}
 use Rattle.cx_course.specs.Hosted.{Hosted, ClientAt, BatcherAt, LeaderAt, ProxyAt, AcceptorAt, MatchmakerAt}
 use Rattle.cx_course.specs.Hosted.{ReplicaAt, UnbatcherAt, ReaderAt, ReplacerAt, does, kind_at, name_of, snap_of}
 use Rattle.cx_node.proofs.Grown.{before, behind}

@@ -18,21 +18,20 @@ use Rattle.cx_model.specs.Lists.{same_number}
 use Rattle.cx_model.specs.Names.{names_role}
 use Rattle.cx_msg.specs.Letter.{Letter}
 use Rattle.cx_course.specs.declared.doing.Doing.{Doing}
-use Rattle.cx_node.specs.declared.guest.Guest.{Guest}
+use Rattle.cx_seat.specs.declared.guest.Guest.{Guest}
 use Rattle.cx_node.specs.declared.node.Stop.{Stop}
 use Rattle.cx_node.specs.declared.node.Stop.TheVariants as stop
 use Rattle.cx_course.specs.Action.{Action, Answered, Filled, Kept, Noted, Printed, Sent, bound_in, step_actions, taken_in}
 use Rattle.cx_node.specs.Acts.{Acts}
 use Rattle.cx_course.specs.Changing.{changes_of}
-use Rattle.cx_node.specs.Changing.{Changing}
+use Rattle.cx_seat.specs.Changing.{Changing}
 use Rattle.cx_node.specs.Doing.{HasLinkSent, HasLinkSentPart, Did, DidPart, GuestsGrow, GuestsRest, scene}
 use Rattle.cx_course.specs.Alike.{AreDistinct}
-use Rattle.cx_node.specs.Guest.{AreReady, HasChangeFailedIn, Grows, GuestGrows, IsGuestReady, Rests, hosted_in}
-use Rattle.cx_node.specs.Guest.{hosted_of, keeper_of, who}
+use Rattle.cx_seat.specs.Guest.{AreReady, HasChangeFailedIn, Grows, GuestGrows, IsGuestReady, Rests, hosted_in, hosted_of, keeper_of, who}
 use Rattle.cx_course.specs.Hosted.{Step}
 use Rattle.cx_course.specs.Hosted.{does, is_live_role, kind_at, name_of}
 use Rattle.cx_course.specs.Course.{Course, Moved, does_at, has_room_for, found_does, made, made_if, seen, step_events}
-use Rattle.cx_node.specs.Noting.{with_more_lines, noting, shown}
+use Rattle.cx_seat.specs.Noting.{with_more_lines, noting, shown}
 use Rattle.cx_record.specs.Lines.{events_text}
 use Rattle.cx_record.specs.Numbers.{Recorded, has_room, with_step}
 use Rattle.cx_node.proofs.Asked.{IsNoted, are_noted, linked_step, none_noted, step_bound, step_kept, step_made, step_printed}

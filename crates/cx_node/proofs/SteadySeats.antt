@@ -16,13 +16,13 @@ use Rattle.cx_journal.specs.declared.store.RecordStore.TheVariants.{One, Two}
 use Rattle.cx_keeper.specs.Keeper.{KeeperChange}
 use Rattle.cx_keeper.specs.declared.keeper.KeepFault.{KeepFault}
 use Rattle.cx_keeper.specs.declared.keeper.KeepFault.TheVariants.{Failed, NoMemory}
-use Rattle.cx_node.specs.declared.guest.Guest.{Guest}
+use Rattle.cx_seat.specs.declared.guest.Guest.{Guest}
 use Rattle.cx_node.specs.declared.node.RunEnd.{RunEnd}
 use Rattle.cx_node.specs.declared.node.Stop.{Stop}
 use Rattle.cx_node.specs.declared.node.Stop.TheVariants as stop
 use Rattle.cx_course.specs.Action.{Action, Printed, is_filled, kept_in, printed_in}
 use Rattle.cx_course.specs.Changing.{changes_of}
-use Rattle.cx_node.specs.Changing.{Changing, Refuses}
+use Rattle.cx_seat.specs.Changing.{Changing, Refuses}
 use Rattle.cx_edge.specs.Link.{LinkHistory}
 use Rattle.cx_edge.specs.Sink.{AppendsPart}
 use Rattle.cx_record.specs.Numbers.{Recorded}
@@ -31,16 +31,16 @@ use Rattle.cx_node.specs.Hosting.{Ran, RunsBehind, RunsPartBehind}
 use Rattle.cx_node.specs.Doing.{Did, GuestFails, GuestsGrow, GuestsRest, Linked, Scene, StopsAt, course_in, scene}
 use Rattle.cx_node.specs.Doing.{with_actions}
 use Rattle.cx_course.specs.Alike.{AreDistinct}
-use Rattle.cx_node.specs.Guest.{AreChangesMade, HasChangeFailedIn, Grows, Rests, hosted_in, hosted_of, keeper_of, who}
+use Rattle.cx_seat.specs.Guest.{AreChangesMade, HasChangeFailedIn, Grows, Rests, hosted_in, hosted_of, keeper_of, who}
 use Rattle.cx_course.specs.Hosted.{name_of}
 use Rattle.cx_node.specs.Node.{Runs, RunsPart}
-use Rattle.cx_node.specs.Opening.{disks_in, lent_to}
-use Rattle.cx_node.specs.Stores.{Lent, disks_of, is_two, places_of}
+use Rattle.cx_seat.specs.Opening.{disks_in, lent_to}
+use Rattle.cx_seat.specs.Stores.{Lent, disks_of, is_two, places_of}
 use Rattle.cx_course.specs.Tending.{node_run}
 use Rattle.cx_node.proofs.Asked.{linked_nothing}
 use Rattle.cx_node.proofs.Done.{did_nothing, did_then, guests_rest, same_at, then_part}
 use Rattle.cx_node.proofs.Grown.{before}
-use Rattle.cx_node.proofs.OpenedRoles.{get_beside, get_map, map_get}
+use Rattle.cx_seat.proofs.OpenedRoles.{get_beside, get_map, map_get}
 use Rattle.cx_node.proofs.Turned.{no_end}
 
 -- nothing is kept, and nothing left out, among printed bytes

@@ -1,5 +1,5 @@
 -- What a store has after changes, and why one failed.
-use Rattle.std.proofs.Common.{◌≡◌, ◌≤◌, ◌⊎◌, ℕ, zero, suc, arith, Bool, true, List, [], ◌∷◌, ◌++◌, take, Option, None, Some}
+use Rattle.std.proofs.Common.{◌≡◌, ◌≤◌, ◌⊎◌, ℕ, zero, suc, arith, Bool, true, List, [], ◌∷◌, ◌++◌, take, Some}
 use Rattle.std.proofs.Common.{Result, Ok, Err, refl, sym, ap, ◌∙◌, subst, inl, inr, is_some}
 use Rattle.std.specs.Prelude.{slice_get}
 use Rattle.std.proofs.lemmas.Option.{none-some, same_Some}
@@ -18,10 +18,10 @@ use Rattle.cx_journal.specs.declared.store.RecordStore.TheVariants.{One, Two}
 use Rattle.cx_journal.proofs.Stores.{store_whole_after}
 use Rattle.cx_msg.specs.declared.kept.Record.{Record}
 use Rattle.cx_course.specs.Changing.{lists_after}
-use Rattle.cx_node.specs.Changing.{Changing, Refuses}
-use Rattle.cx_node.specs.Guest.{AreChangesMade, HasChangeFailed}
+use Rattle.cx_seat.specs.Changing.{Changing, Refuses}
+use Rattle.cx_seat.specs.Guest.{AreChangesMade, HasChangeFailed}
 use Rattle.cx_node.specs.Hosting.{store_gives}
-use Rattle.cx_node.specs.Stores.{Lent, NoneFailed, disks_of, is_two}
+use Rattle.cx_seat.specs.Stores.{Lent, NoneFailed, disks_of, is_two}
 
 pub take_next : {X : Type 0} (xs : List X) (n : ℕ) (x : X) → slice_get xs n ≡ Some x → take (suc n) xs ≡ take n xs
     ++ x ∷ []
@@ -43,16 +43,7 @@ ok_is_no_fault e = cc
 no_memory_is_no_fault : ◌≡◌ {A = Result (Unit {0}) KeepFault} (Err NoMemory) (Err Failed) → ⊥
 no_memory_is_no_fault e = cc
 
--- a disk of a store is its role's, and has not failed where none of them has
-pub role_of_disk : {S : Type 0} (me : RoleId) (o : Option (RecordStore S)) (n : ℕ) (l : Lent S)
-    → slice_get (disks_of me o) n ≡ Some l → l.place.role ≡ me
-role_of_disk me None n l at = absurd (none-some l at)
-role_of_disk me (Some (One j)) zero l at = ap (λ (l : Lent _). l.place.role) (sym (same_Some _ l at))
-role_of_disk me (Some (One j)) (suc n) l at = absurd (none-some l at)
-role_of_disk me (Some (Two t)) zero l at = ap (λ (l : Lent _). l.place.role) (sym (same_Some _ l at))
-role_of_disk me (Some (Two t)) (suc zero) l at = ap (λ (l : Lent _). l.place.role) (sym (same_Some _ l at))
-role_of_disk me (Some (Two t)) (suc (suc n)) l at = absurd (none-some l at)
-
+-- where none of a store's disks has failed, each has not
 pub none_failed_at : {S : Type 0} (disk_faults : S → ℕ) (me : RoleId) (s : RecordStore S) (n : ℕ) (l : Lent S)
     → slice_get (disks_of me (Some s)) n ≡ Some l → NoneFailed disk_faults s → disk_faults l.disk ≡ 0
 none_failed_at faults me (One j) zero l at none = ap (λ (l : Lent _). faults l.disk) (sym (same_Some _ l at)) ∙ none

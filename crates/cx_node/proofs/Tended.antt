@@ -14,10 +14,10 @@ use Rattle.cx_model.specs.Leader.{LeaderDurable, LeaderVolatile}
 use Rattle.cx_model.specs.Rules.{Running}
 use Rattle.cx_msg.specs.Letter.{Letter}
 use Rattle.cx_node.specs.declared.come.Come.TheVariants as come
-use Rattle.cx_node.specs.declared.guest.Guest.{Guest}
+use Rattle.cx_seat.specs.declared.guest.Guest.{Guest}
 use Rattle.cx_course.specs.declared.standing.Standing.{Standing}
 use Rattle.cx_node.specs.Acts.{come_of, read_as}
-use Rattle.cx_node.specs.Guest.{hosted_in, hosted_of}
+use Rattle.cx_seat.specs.Guest.{hosted_in, hosted_of}
 use Rattle.cx_course.specs.Hosted.{Hosted}
 use Rattle.cx_course.specs.Course.{Course, Moved, stays, took, then_do}
 use Rattle.cx_course.specs.Run.{brought, is_client, hosted_place}

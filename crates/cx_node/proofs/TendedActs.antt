@@ -12,21 +12,22 @@ use Rattle.cx_edge.specs.Link.{LinkHistory}
 use Rattle.cx_leader.specs.Tending.{can_collect, is_new_leader}
 use Rattle.cx_msg.specs.Letter.{Letter}
 use Rattle.cx_msg.specs.declared.input.Input.TheVariants as input
-use Rattle.cx_node.specs.Changing.{Changing}
+use Rattle.cx_seat.specs.Changing.{Changing}
 use Rattle.cx_node.specs.declared.come.Come.TheVariants as come
 use Rattle.cx_course.specs.declared.doing.Doing.TheVariants.{Give}
-use Rattle.cx_node.specs.declared.guest.Guest.{Guest}
+use Rattle.cx_seat.specs.declared.guest.Guest.{Guest}
 use Rattle.cx_node.specs.declared.node.Stop.{Stop}
 use Rattle.cx_node.specs.declared.node.Stop.TheVariants.{LinkFault, NoMemory, RecordFull, StoreFault, WriteFault}
 use Rattle.cx_node.specs.Acts.{Acts, Receives}
 use Rattle.cx_node.specs.Doing.{Scene, course_in, scene}
-use Rattle.cx_node.specs.Guest.{AreReady, hosted_in, hosted_of}
+use Rattle.cx_seat.specs.Guest.{AreReady, hosted_in, hosted_of}
 use Rattle.cx_course.specs.Hosted.{Hosted}
 use Rattle.cx_course.specs.Course.{Course, Moved, stays, took, then_do}
 use Rattle.cx_course.specs.Run.{at_place, ordered, hosted_place, snaps}
 use Rattle.cx_course.specs.Tending.{Care, Tended, beat, clients_tended, collected, first_leader, flushed, gets, heeded, held_by_role, in_turn, is_so, kind_ticks, leader_tended, others_tick, reported, tend_comes, tend_ordered, tend_prepared, tended_turn, ticks_if, turn_ended, without_care}
 use Rattle.cx_record.specs.Numbers.{Recorded, numbered}
-use Rattle.cx_node.specs.Tends.{TendsOnce, is_leader_so, tended}
+use Rattle.cx_node.specs.Tends.{TendsOnce, tended}
+use Rattle.cx_seat.specs.Seat.{is_leader_so}
 use Rattle.cx_node.proofs.Actions.{Done, acts_before, acts_cut, acts_none, acts_nothing, acts_then, acts_took, course}
 use Rattle.cx_node.proofs.Tended.{letter_heeded, foreign_heeded, nothing_heeded, what_heeded, all_heeded, then_stays}
 

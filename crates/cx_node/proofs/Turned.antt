@@ -5,14 +5,14 @@ use Rattle.std.proofs.Common.{append_assoc, append-nil, add-zero, inl, inr}
 use Rattle.std.proofs.lemmas.List.{take-append-le}
 use Rattle.std.specs.Prelude.{IfErr, OnOk}
 use Rattle.cx_base.specs.declared.cluster.Cluster.{Cluster}
-use Rattle.cx_node.specs.Changing.{Changing}
+use Rattle.cx_seat.specs.Changing.{Changing}
 use Rattle.cx_course.specs.declared.doing.Doing.TheVariants.{Begin}
 use Rattle.cx_node.specs.declared.node.RunEnd.{RunEnd}
 use Rattle.cx_node.specs.declared.node.Stop.{Stop}
 use Rattle.cx_node.specs.declared.node.Stop.TheVariants.{NoMemory}
 use Rattle.cx_node.specs.Acts.{Acts, ActsLong, ActsOnce}
 use Rattle.cx_node.specs.Doing.{Scene, course_in}
-use Rattle.cx_node.specs.Guest.{hosted_in}
+use Rattle.cx_seat.specs.Guest.{hosted_in}
 use Rattle.cx_course.specs.Run.{TakeResults}
 use Rattle.cx_node.specs.Node.{IsUnderway, RunsPart}
 use Rattle.cx_course.specs.Course.{Course, Moved, stays, then_do}

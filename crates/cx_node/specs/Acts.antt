@@ -11,9 +11,9 @@ use Rattle.cx_node.specs.declared.come.Come.TheVariants as come
 use Rattle.cx_node.specs.declared.node.Stop.{Stop}
 use Rattle.cx_node.specs.declared.node.Stop.TheVariants.{LinkFault, NoMemory, RecordFull, StoreFault, WriteFault}
 use Rattle.cx_course.specs.Action.{AreTakesOf}
-use Rattle.cx_node.specs.Changing.{Changing}
+use Rattle.cx_seat.specs.Changing.{Changing}
 use Rattle.cx_node.specs.Doing.{DidPart, Does, Scene, course_in, scene}
-use Rattle.cx_node.specs.Guest.{AreReady}
+use Rattle.cx_seat.specs.Guest.{AreReady}
 use Rattle.cx_node.specs.Node.{IsUnderway, NodeState}
 use Rattle.cx_course.specs.Course.{Course, Moved}
 use Rattle.cx_course.specs.Run.{TakeResults, all_finished, brought}

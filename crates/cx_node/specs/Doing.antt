@@ -9,13 +9,13 @@ use Rattle.cx_edge.specs.Link.{LinkHistory}
 use Rattle.cx_msg.specs.Letter.{Letter}
 use Rattle.cx_keeper.specs.Keeper.{KeeperChange, Renewal}
 use Rattle.cx_msg.specs.declared.kept.Record.{Record}
-use Rattle.cx_node.specs.declared.guest.Guest.{Guest}
+use Rattle.cx_seat.specs.declared.guest.Guest.{Guest}
 use Rattle.cx_node.specs.declared.node.Stop.{Stop}
 use Rattle.cx_node.specs.declared.node.Stop.TheVariants as stop
 use Rattle.cx_course.specs.Action.{Action, Filled, Kept, Took, bound_in, is_filled, kept_in, printed_in, sent_in, taken_in}
 use Rattle.cx_course.specs.Changing.{StoreChange}
-use Rattle.cx_node.specs.Changing.{Changing}
-use Rattle.cx_node.specs.Guest.{HasChangeFailedIn, GuestGrows, Rests, hosted_in, keeper_of, who}
+use Rattle.cx_seat.specs.Changing.{Changing}
+use Rattle.cx_seat.specs.Guest.{HasChangeFailedIn, GuestGrows, Rests, hosted_in, keeper_of, who}
 use Rattle.cx_node.specs.Ports.{bind_of, sendings}
 use Rattle.cx_course.specs.Course.{Course, Moved}
 use Rattle.cx_record.specs.Numbers.{Recorded}

@@ -1,5 +1,5 @@
 -- What binding, running and giving back come to, after an input that was accepted.
-use Rattle.std.specs.Prelude.{◌≡◌, ◌⊎◌, ◌≤◌, ℕ, suc, Bool, true, false, List, ◌++◌, Option, None, Some, is_some, Result, Ok, Err, IfOk, IfErr, IfSome, if◌then◌else◌}
+use Rattle.std.specs.Prelude.{◌≡◌, ◌⊎◌, ℕ, suc, Bool, true, false, List, ◌++◌, Option, None, Some, is_some, Result, Ok, Err, IfOk, IfErr, IfSome, if◌then◌else◌}
 use Rattle.std.specs.Prelude.{map, option_map, slice_get, take}
 use Rattle.cx_base.specs.declared.cluster.Cluster.{Cluster}
 use Rattle.cx_base.specs.declared.event.Event.{Event}
@@ -8,32 +8,29 @@ use Rattle.cx_base.specs.declared.status.Status.{Status}
 use Rattle.cx_base.specs.declared.status.Status.TheVariants as status
 use Rattle.cx_base.specs.Faults.{Rises}
 use Rattle.cx_disk.specs.declared.disk.Disk.{Ghosts as DiskGhosts}
-use Rattle.cx_edge.specs.declared.depot.Depot.{Ghosts as DepotGhosts}
 use Rattle.cx_edge.specs.Link.{Bind, LinkHistory}
-use Rattle.cx_edge.specs.declared.shelf.Shelf.{Shelf}
 use Rattle.cx_journal.specs.Store.{IsStoreChange}
 use Rattle.cx_journal.specs.declared.store.RecordStore.{RecordStore}
 use Rattle.cx_keeper.specs.Keeper.{Append, KeeperChange, Renewal}
 use Rattle.cx_msg.specs.declared.kept.Record.{Record}
-use Rattle.cx_node.specs.declared.guest.Guest.{Guest}
+use Rattle.cx_seat.specs.declared.guest.Guest.{Guest}
 use Rattle.cx_node.specs.declared.node.RunEnd.{RunEnd}
 use Rattle.cx_node.specs.declared.node.RunEnd.TheVariants as end
 use Rattle.cx_node.specs.declared.node.Stop.{Stop}
 use Rattle.cx_node.specs.declared.node.Stop.TheVariants as stop
-use Rattle.cx_node.specs.declared.opening.OpenStop.{OpenStop}
-use Rattle.cx_node.specs.declared.opening.OpenStop.TheVariants as open_stop
+use Rattle.cx_seat.specs.declared.opening.OpenStop.{OpenStop}
+use Rattle.cx_seat.specs.declared.opening.OpenStop.TheVariants as open_stop
 use Rattle.cx_node.specs.Acts.{Failures}
-use Rattle.cx_node.specs.Changing.{Changing, changing}
+use Rattle.cx_seat.specs.Changing.{Changing, changing}
 use Rattle.cx_node.specs.Doing.{Did, DidPart, Scene, course_in}
 use Rattle.cx_course.specs.Action.{Action, Bound, Filled, AreTakesOf, Kept, Printed, Took}
 use Rattle.cx_course.specs.Run.{TakeResults}
 use Rattle.cx_course.specs.Tending.{node_run}
 use Rattle.cx_record.specs.Numbers.{Recorded, blank}
 use Rattle.cx_node.specs.Node.{IsEnd, IsUnderway, NodeState}
-use Rattle.cx_node.specs.Opening.{IsBadAs, IsFirstBad, IsFirstUsed, disks_in, is_store_used}
+use Rattle.cx_seat.specs.Opening.{IsBadAs, IsFirstBad, IsFirstUsed, is_store_used}
 use Rattle.cx_node.specs.Ports.{bind_of}
 use Rattle.cx_node.specs.Serving.{Did as DidOutside, Outside, Served, ServedPart, begun_with, whole_run}
-use Rattle.cx_node.specs.Stores.{Lent}
 
 -- ---- what is answered
 
@@ -63,27 +60,6 @@ with_binds binds h = record h { binds = h.binds ++ binds }
 -- the same with these roles bound to their ports, where the history is known
 abbrev pub with_bound : Cluster → List RoleId → Option LinkHistory → Option LinkHistory
 with_bound c roles history = option_map (with_binds (map (bind_of c) roles)) history
-
--- These disks were given back: the depot holds at its place what each holds, elsewhere what it had, and each fault of
--- one, and nothing else, has raised its role's count.
-pub record GivesBack {D : Type 0} (seen : D → Option (List ℕ)) (disk_faults : D → ℕ) (lent : List (Lent D))
-    (tells : Bool) (stored stored_after : Shelf → List ℕ) (faults faults_after : RoleId → ℕ) : Type 0 where
-  pub holds : tells ≡ true → (i : ℕ) (l : Lent D) (file : List ℕ) → slice_get lent i ≡ Some l
-      → seen l.disk ≡ Some file → stored_after l.place ≡ file
-  pub others : (place : Shelf) → ((i : ℕ) (l : Lent D) → slice_get lent i ≡ Some l → l.place ≡ place → ⊥)
-      → stored_after place ≡ stored place
-  pub failed : (i : ℕ) (l : Lent D) → slice_get lent i ≡ Some l → Rises 0 (disk_faults l.disk)
-      → Rises (faults l.place.role) (faults_after l.place.role)
-  pub still : (role : RoleId)
-      → ((i : ℕ) (l : Lent D) → slice_get lent i ≡ Some l → l.place.role ≡ role → disk_faults l.disk ≡ 0)
-      → faults_after role ≡ faults role
-  pub later : (role : RoleId) → faults role ≤ faults_after role
-
--- the disks of these roles were given back to this depot
-abbrev pub AreGivenBack : {D S : Type 0} → DepotGhosts D S → DiskGhosts S → List (Guest (RecordStore S)) → D → D → Type 0
-AreGivenBack by_depot by_disk guests old new =
-    GivesBack by_disk.seen by_disk.faults (disks_in guests) (by_depot.tells old)
-    (by_depot.stored old) (by_depot.stored new) (by_depot.faults old) (by_depot.faults new)
 
 -- what a change of a store over such disks may answer, and leave
 abbrev pub store_gives : {D : Type 0} → DiskGhosts D → Changing (RecordStore D)

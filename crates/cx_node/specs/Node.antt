@@ -2,14 +2,14 @@
 use Rattle.std.specs.Prelude.{◌≡◌, ◌⊎◌, ◌≤◌, ◌<◌, ℕ, true, false, List, length, take, Option}
 use Rattle.std.specs.List.{list_any}
 use Rattle.cx_base.specs.declared.cluster.Cluster.{Cluster}
-use Rattle.cx_node.specs.declared.guest.Guest.{Guest}
+use Rattle.cx_seat.specs.declared.guest.Guest.{Guest}
 use Rattle.cx_node.specs.declared.node.RunEnd.{RunEnd}
 use Rattle.cx_node.specs.declared.node.RunEnd.TheVariants.{Done, Turns}
 use Rattle.cx_node.specs.declared.node.Stop.{Stop}
 use Rattle.cx_course.specs.Action.{AreTakesOf}
-use Rattle.cx_node.specs.Changing.{Changing}
+use Rattle.cx_seat.specs.Changing.{Changing}
 use Rattle.cx_node.specs.Doing.{DidPart, Does, Scene, course_in}
-use Rattle.cx_node.specs.Guest.{hosted_in}
+use Rattle.cx_seat.specs.Guest.{hosted_in}
 use Rattle.cx_course.specs.Course.{Course}
 use Rattle.cx_course.specs.Run.{TakeResults, all_finished, is_client}
 use Rattle.cx_record.specs.Numbers.{Recorded}

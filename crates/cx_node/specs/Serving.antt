@@ -28,10 +28,10 @@ use Rattle.cx_course.specs.Hosted.{Hosted}
 use Rattle.cx_node.specs.Input.{FailsRead, input_of, refused_of}
 use Rattle.cx_course.specs.Run.{TakeResults}
 use Rattle.cx_node.specs.Node.{IsEnd, IsUnderway}
-use Rattle.cx_node.specs.Opening.{IsBadAs, IsFirstBad, IsFirstUsed, is_durable, opened_as}
+use Rattle.cx_seat.specs.Opening.{IsBadAs, IsFirstBad, IsFirstUsed, is_durable, opened_as}
 use Rattle.cx_course.specs.Course.{Course, Moved, course_of}
 use Rattle.cx_course.specs.Follows.{FollowsBetween, EachKeptIsNext}
-use Rattle.cx_node.specs.Stores.{files_of}
+use Rattle.cx_seat.specs.Stores.{files_of}
 use Rattle.cx_course.specs.Tending.{node_run}
 
 -- What a node has outside: what its source has left, the history of its link, what its output has taken, what its

@@ -1,14 +1,11 @@
 -- The result of a part of a tended turn: what its roles did, and what it counted.
-use Rattle.std.specs.Prelude.{◌≡◌, ℕ, Bool, false, not, List, [], ◌∷◌, Option, Result, Ok, Err, OnOk}
-use Rattle.std.specs.Option.{option_map_or}
+use Rattle.std.specs.Prelude.{◌≡◌, ℕ, Bool, not, List, [], ◌∷◌, Option, Result, Ok, Err, OnOk}
 use Rattle.cx_base.specs.declared.cluster.Cluster.{Cluster}
-use Rattle.cx_model.specs.Leader.{LeaderDurable, LeaderVolatile}
-use Rattle.cx_model.specs.Rules.{Running}
 use Rattle.cx_node.specs.declared.node.Stop.{Stop}
 use Rattle.cx_node.specs.declared.whom.Whom.{Whom}
 use Rattle.cx_node.specs.declared.whom.Whom.TheVariants.{Kind, Others, Overtaken}
 use Rattle.cx_node.specs.Acts.{Acts}
-use Rattle.cx_node.specs.Changing.{Changing}
+use Rattle.cx_seat.specs.Changing.{Changing}
 use Rattle.cx_node.specs.Doing.{Scene}
 use Rattle.cx_course.specs.Hosted.{Hosted}
 use Rattle.cx_course.specs.Course.{Course, Moved}
@@ -24,11 +21,6 @@ abbrev pub is_meant : Whom → List ℕ → ℕ → Hosted → Bool
 is_meant (Kind k) counts = λ i h. is_of_kind k h
 is_meant Others counts = λ i h. not (is_client h)
 is_meant Overtaken counts = is_overtaken counts
-
--- a test of a leader, which another role doesn't pass
-abbrev pub is_leader_so : (Running LeaderDurable LeaderVolatile → Bool)
-    → Option (Running LeaderDurable LeaderVolatile) → Bool
-is_leader_so test l = option_map_or test l false
 
 -- whether it was done at all
 abbrev pub done_of : {T : Type 0} → Result T Stop → Result (Unit {0}) Stop

@@ -6,21 +6,21 @@ ghost use Rattle.cx_base.specs.declared.role.RoleId.{RoleId};
 ghost use Rattle.cx_base.specs.Role.{same_role};
 ghost use Rattle.cx_node.specs.declared.node.Stop.TheVariants as stop;
 ghost use Rattle.cx_node.specs.Acts.{ActsPart, Blames, failed, scene_of};
-ghost use Rattle.cx_node.specs.Changing.{changing};
-ghost use Rattle.cx_node.specs.Guest.{AreReady, GuestGrows, KeeperFails, KeeperRests, hosted_in, hosted_of, who};
+ghost use Rattle.cx_seat.specs.Changing.{changing};
+ghost use Rattle.cx_seat.specs.Guest.{AreReady, GuestGrows, KeeperFails, KeeperRests, hosted_in, hosted_of, who};
 ghost use Rattle.cx_course.specs.Hosted.{does, is_live_role};
 ghost use Rattle.cx_course.specs.Course.{does_at, has_room_for, step_events};
 ghost use Rattle.cx_course.specs.Run.{all_do, at_place, hosted_place};
 
-use crate::noting::{has_room, note_own, take_down};
 use crate::sending::send_all;
-use crate::{Node, Seat, Stop};
+use crate::{Node, Stop};
 use cx_base::{Event, RoleId};
 use cx_course::Doing;
 use cx_edge::{Link, Sink, write_all};
 use cx_keeper::Renew;
 use cx_record::Recorder;
 use cx_role::{Outbox, StepFault};
+use cx_seat::{Seat, has_room, note_own, take_down};
 
 // A role does what it is asked. Where its store failed, the stop names it.
 fn ask<K: Renew>(

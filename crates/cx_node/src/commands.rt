@@ -7,22 +7,24 @@ ghost use Rattle.cx_base.specs.Role.{role, same_role};
 ghost use Rattle.cx_base.specs.declared.role.Kind.TheVariants as kind;
 ghost use Rattle.cx_leader.specs.Tending.{can_collect, is_new_leader};
 ghost use Rattle.cx_node.specs.Acts.{ActsPart, Blames, failed, scene_of};
-ghost use Rattle.cx_node.specs.Changing.{changing};
-ghost use Rattle.cx_node.specs.Guest.{AreReady, hosted_in, hosted_of};
+ghost use Rattle.cx_seat.specs.Changing.{changing};
+ghost use Rattle.cx_seat.specs.Guest.{AreReady, hosted_in, hosted_of};
 ghost use Rattle.cx_course.specs.Course.{stays};
 ghost use Rattle.cx_course.specs.Run.{is_client};
 ghost use Rattle.cx_course.specs.Tending.{collected, completed, first_leader, gets};
 ghost use Rattle.cx_course.specs.Tending.{held_by_role, in_turn, is_so, reported, standing_of};
 ghost use Rattle.cx_course.specs.Tending.{tend_ordered, tend_prepared, those_tick, ticks_if};
-ghost use Rattle.cx_node.specs.Tends.{is_leader_so, is_meant};
+ghost use Rattle.cx_seat.specs.Seat.{is_leader_so};
+ghost use Rattle.cx_node.specs.Tends.{is_meant};
 
 use crate::care::Care;
-use crate::{Node, Seat, Stop, Whom};
+use crate::{Node, Stop, Whom};
 use cx_base::{Kind, Order, RoleId};
 use cx_course::{Doing, Standing};
 use cx_edge::{Link, Sink};
 use cx_keeper::Renew;
 use cx_msg::Input;
+use cx_seat::Seat;
 
 // A replica ticks when its log comes to a further multiple of this number of slots.
 const REPORTED: u64 = 8;

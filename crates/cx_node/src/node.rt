@@ -5,14 +5,13 @@ ghost use Rattle.std.specs.List.{list_all, list_any};
 ghost use Rattle.cx_base.specs.Faults.{Rises};
 ghost use Rattle.cx_node.specs.declared.node.Stop.TheVariants as stop;
 ghost use Rattle.cx_node.specs.Acts.{ActsLong, Blames, failed, scene_of};
-ghost use Rattle.cx_node.specs.Changing.{changing};
-ghost use Rattle.cx_node.specs.Guest.{AreReady, hosted_in, hosted_of};
+ghost use Rattle.cx_seat.specs.Changing.{changing};
+ghost use Rattle.cx_seat.specs.Guest.{AreReady, hosted_in, hosted_of};
 ghost use Rattle.cx_node.specs.Node.{Runs, RunsPart};
 ghost use Rattle.cx_course.specs.Run.{all_finished, has_finished, is_client};
 ghost use Rattle.cx_course.specs.Tending.{first_care};
 ghost use Rattle.cx_record.specs.Numbers.{blank};
 
-use crate::Seat;
 use crate::care::Care;
 use cx_base::{Cluster, Event, MAX_DATAGRAM_LENGTH, NoMemory, RoleId};
 use cx_course::Doing;
@@ -20,6 +19,7 @@ use cx_edge::{Link, Sink};
 use cx_keeper::Renew;
 use cx_record::Recorder;
 use cx_role::Outbox;
+use cx_seat::Seat;
 use std::alloc::Global;
 use std::marker::Model;
 

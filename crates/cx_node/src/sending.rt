@@ -2,7 +2,7 @@
 
 ghost use Rattle.std.specs.Prelude.{◌≡◌, [], ◌∷◌, option_map, OnOk, OnErr};
 ghost use Rattle.cx_node.specs.Doing.{HasLinkSent, HasLinkSentPart};
-ghost use Rattle.cx_node.specs.Noting.{noting};
+ghost use Rattle.cx_seat.specs.Noting.{noting};
 ghost use Rattle.cx_node.specs.Ports.{roles_before, port_of};
 
 use cx_base::{Cluster, Kind, NoMemory, RoleId};

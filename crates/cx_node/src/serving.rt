@@ -6,29 +6,28 @@ ghost use Rattle.cx_base.specs.declared.role.RoleId.{RoleId};
 ghost use Rattle.cx_journal.specs.declared.store.RecordStore.{RecordStore};
 ghost use Rattle.cx_model.specs.Names.{names_role};
 ghost use Rattle.cx_script.specs.Requests.{IsScript, script_of};
-ghost use Rattle.cx_node.specs.declared.guest.Guest.{Guest};
+ghost use Rattle.cx_seat.specs.declared.guest.Guest.{Guest};
 ghost use Rattle.cx_node.specs.declared.node.RunEnd.{RunEnd};
 ghost use Rattle.cx_node.specs.declared.node.Stop.{Stop};
 ghost use Rattle.cx_node.specs.Acts.{failed, scene_of};
-ghost use Rattle.cx_node.specs.Guest.{AreReady};
-ghost use Rattle.cx_node.specs.Hosting.{AreGivenBack, HostAnswered, Ran, ended_status, hosting, known_first};
+ghost use Rattle.cx_seat.specs.Guest.{AreReady};
+ghost use Rattle.cx_seat.specs.Closing.{AreGivenBack};
+ghost use Rattle.cx_node.specs.Hosting.{HostAnswered, Ran, ended_status, hosting, known_first};
 ghost use Rattle.cx_node.specs.Hosting.{store_gives, unopened_status};
-ghost use Rattle.cx_node.specs.Opening.{AreApart, lent_to};
+ghost use Rattle.cx_seat.specs.Opening.{AreApart, lent_to};
 ghost use Rattle.cx_node.specs.Serving.{IsNodeAnswer, NodeCompletes, TellsBad, TellsUsed, record_head, outside, outside_read};
 ghost use Rattle.cx_node.specs.Serving.{recorded_header, refused_status};
 ghost use Rattle.cx_record.specs.Numbers.{Recorded};
 ghost use Rattle.cx_record.specs.Readable.{IsRecordable};
 
-use crate::Seat;
 use crate::binding::bind_all;
-use crate::closing::close_seats;
 use crate::input::{Refusal, listen};
 use crate::node::{Node, RunEnd, Stop};
-use crate::opening::{OpenStop, open_all};
 use cx_base::{Cluster, Event, NoMemory, RoleId, Status};
 use cx_course::recorded_runs_follow;
 use cx_edge::{Depot, Link, Sink, Source, write_all};
 use cx_journal::RecordStore;
+use cx_seat::{OpenStop, Seat, close_seats, open_all};
 use std::alloc::Global;
 
 // What an input that is refused is answered.

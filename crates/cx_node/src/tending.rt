@@ -5,8 +5,8 @@ ghost use Rattle.std.specs.Prelude.{sum_by, Option, is_some, IfOk, if◌then◌e
 ghost use Rattle.cx_base.specs.Role.{role};
 ghost use Rattle.cx_leader.specs.Tending.{can_collect};
 ghost use Rattle.cx_node.specs.Acts.{Acts, ActsPart, Blames, failed, scene_of};
-ghost use Rattle.cx_node.specs.Changing.{changing};
-ghost use Rattle.cx_node.specs.Guest.{AreReady, hosted_of};
+ghost use Rattle.cx_seat.specs.Changing.{changing};
+ghost use Rattle.cx_seat.specs.Guest.{AreReady, hosted_of};
 ghost use Rattle.cx_node.specs.Node.{course_at};
 ghost use Rattle.cx_record.specs.Numbers.{numbered};
 ghost use Rattle.cx_course.specs.Run.{is_client};
@@ -18,12 +18,13 @@ ghost use Rattle.cx_node.specs.Tends.{done_of};
 
 use crate::care::Care;
 use crate::turning::{first_grid, receive};
-use crate::{Come, Node, Seat, Stop, Whom};
+use crate::{Come, Node, Stop, Whom};
 use cx_base::{Cluster, Kind, NoMemory, Order};
 use cx_course::{Doing, Standing};
 use cx_edge::{Link, Sink};
 use cx_keeper::Renew;
 use cx_msg::{Datagram, Input};
+use cx_seat::Seat;
 use std::alloc::Global;
 
 // How many clients there are.

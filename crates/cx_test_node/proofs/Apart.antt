@@ -5,7 +5,7 @@ use Rattle.std.proofs.lemmas.Option.{same_Some}
 use Rattle.cx_base.specs.declared.role.RoleId.{RoleId}
 use Rattle.cx_base.specs.declared.role.Kind.TheVariants as kind
 use Rattle.cx_base.specs.Role.{code_of, role}
-use Rattle.cx_node.specs.Opening.{AreApart}
+use Rattle.cx_seat.specs.Opening.{AreApart}
 
 -- the codes of their kinds are the numbers from n on
 abbrev count_from : ℕ → List RoleId → Bool

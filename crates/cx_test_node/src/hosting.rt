@@ -2,7 +2,7 @@
 
 ghost use Rattle.std.specs.Prelude.{◌≡◌, [], IfOk};
 ghost use Rattle.cx_edge.specs.MemDepot.{depot_out};
-ghost use Rattle.cx_node.specs.Opening.{AreApart};
+ghost use Rattle.cx_seat.specs.Opening.{AreApart};
 
 use cx_base::{Kind, RoleId, Status};
 use cx_disk::{DiskRoom, MemDisk, Unsynced};

@@ -1,6 +1,6 @@
 use Rattle.std.proofs.Common.{◌≡◌, option_map, take}
 use Rattle.cx_node.specs.Doing.{HasLinkSent}
-use Rattle.cx_node.specs.Noting.{noting}
+use Rattle.cx_seat.specs.Noting.{noting}
 use Rattle.cx_node.proofs.sending.send_all.Given as goal
 
 abbrev pub invariant-loop-letter : goal.invariant-loop-letter

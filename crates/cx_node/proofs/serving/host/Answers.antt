@@ -1,20 +1,21 @@
 use Rattle.std.proofs.Common.{◌≡◌, ◌∙◌, Bool, true, Result, Err, is_some, refl, sym, ap, subst, inl}
 use Rattle.cx_model.specs.Names.{names_role}
-use Rattle.cx_node.specs.Hosting.{GivesBack, HostAnswered, Ran, hosting, known_first, store_gives}
+use Rattle.cx_seat.specs.Closing.{GivesBack}
+use Rattle.cx_node.specs.Hosting.{HostAnswered, Ran, hosting, known_first, store_gives}
 use Rattle.cx_node.specs.Acts.{failed, scene_of}
-use Rattle.cx_node.specs.Opening.{disks_in}
+use Rattle.cx_seat.specs.Opening.{disks_in}
 use Rattle.cx_node.specs.Serving.{outside_read, recorded_header}
-use Rattle.cx_node.specs.Stores.{files_of}
-use Rattle.cx_node.specs.declared.opening.OpenStop.{OpenStop}
-use Rattle.cx_node.specs.declared.opening.OpenStop.TheVariants as open_stop
+use Rattle.cx_seat.specs.Stores.{files_of}
+use Rattle.cx_seat.specs.declared.opening.OpenStop.{OpenStop}
+use Rattle.cx_seat.specs.declared.opening.OpenStop.TheVariants as open_stop
 use Rattle.cx_node.proofs.ClosedStores.{opened_stays, opened_still, opened_unhosted}
-use Rattle.cx_node.proofs.Lent.{files_same, ok_is_err}
+use Rattle.cx_seat.proofs.Lent.{files_same, ok_is_err}
 use Rattle.cx_node.proofs.FreshRoles.{recorded_run}
 use Rattle.cx_node.proofs.HostedRuns.{host_binding, host_early, host_ran, host_unopened, records_header}
-use Rattle.cx_node.proofs.OpenedRoles.{all_named, distinct_opened, ready_opened}
+use Rattle.cx_seat.proofs.OpenedRoles.{all_named, distinct_opened, ready_opened}
 use Rattle.cx_node.proofs.PlainRuns.{plain_run}
 use Rattle.cx_node.proofs.StoredRecords.{rises_still}
-use Rattle.cx_node.proofs.Unused.{NoneIsUsed, all_good, none_holding, none_used}
+use Rattle.cx_seat.proofs.Unused.{NoneIsUsed, all_good, none_holding, none_used}
 use Rattle.cx_node.proofs.serving.host.Goals as goal
 
 same_stop : (a b : OpenStop) → ◌≡◌ {A = Result (Unit {0}) OpenStop} (Err a) (Err b) → a ≡ b

@@ -4,8 +4,8 @@ use Rattle.std.proofs.lemmas.Result.{err_from_is_err_and}
 use Rattle.cx_base.specs.declared.cluster.Cluster.{Cluster}
 use Rattle.cx_node.specs.Node.{course_at}
 use Rattle.cx_node.specs.Acts.{Acts, failed, scene_of}
-use Rattle.cx_node.specs.Changing.{changing}
-use Rattle.cx_node.specs.Guest.{hosted_in, hosted_of}
+use Rattle.cx_seat.specs.Changing.{changing}
+use Rattle.cx_seat.specs.Guest.{hosted_in, hosted_of}
 use Rattle.cx_course.specs.Course.{does_at}
 use Rattle.cx_course.specs.Run.{first_do}
 use Rattle.cx_node.proofs.Actions.{acts_nothing, blames_then, no_blame}

@@ -4,7 +4,7 @@ use Rattle.cx_base.specs.declared.cluster.Cluster.{Cluster}
 use Rattle.cx_node.specs.Node.{course_at}
 use Rattle.cx_node.specs.Acts.{scene_of}
 use Rattle.cx_node.specs.declared.node.Stop.TheVariants as stop
-use Rattle.cx_node.specs.Changing.{changing}
+use Rattle.cx_seat.specs.Changing.{changing}
 use Rattle.cx_course.specs.Tending.{any_turn}
 use Rattle.cx_node.specs.Tends.{TendsOnce, tended}
 use Rattle.cx_node.proofs.Actions.{blames_then}

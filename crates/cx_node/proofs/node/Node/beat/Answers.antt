@@ -4,8 +4,8 @@ use Rattle.std.proofs.lemmas.Result.{err_from_is_err_and}
 use Rattle.cx_base.specs.declared.cluster.Cluster.{Cluster}
 use Rattle.cx_node.specs.Node.{course_at}
 use Rattle.cx_node.specs.Acts.{Acts, scene_of}
-use Rattle.cx_node.specs.Changing.{changing}
-use Rattle.cx_node.specs.Guest.{hosted_in}
+use Rattle.cx_seat.specs.Changing.{changing}
+use Rattle.cx_seat.specs.Guest.{hosted_in}
 use Rattle.cx_course.specs.Run.{is_client}
 use Rattle.cx_course.specs.Tending.{clients_tended, first_leader, leader_tended, others_tick, those_tick, without_care}
 use Rattle.cx_node.specs.Tends.{tended}

@@ -5,10 +5,10 @@ use Rattle.cx_base.specs.declared.role.Kind.TheVariants as kind
 use Rattle.cx_leader.specs.Tending.{can_collect}
 use Rattle.cx_model.specs.Leader.{LeaderDurable, LeaderVolatile}
 use Rattle.cx_model.specs.Rules.{Running}
-use Rattle.cx_node.specs.Guest.{hosted_in}
+use Rattle.cx_seat.specs.Guest.{hosted_in}
 use Rattle.cx_node.specs.Node.{NodeState}
 use Rattle.cx_course.specs.Run.{hosted_place}
-use Rattle.cx_node.specs.Tends.{is_leader_so}
+use Rattle.cx_seat.specs.Seat.{is_leader_so}
 use Rattle.cx_node.proofs.Places.{place_within}
 use Rattle.cx_node.proofs.Tended.{first_none, first_some}
 use Rattle.cx_node.proofs.node.Node.can_collect.Goals as goal

@@ -1,7 +1,7 @@
 use Rattle.std.proofs.Common.{Ok, refl, sym, ◌∙◌}
 use Rattle.cx_node.specs.Node.{course_at}
 use Rattle.cx_node.specs.Acts.{scene_of}
-use Rattle.cx_node.specs.Changing.{changing}
+use Rattle.cx_seat.specs.Changing.{changing}
 use Rattle.cx_course.specs.Course.{stays}
 use Rattle.cx_course.specs.Tending.{beat, turn_ended}
 use Rattle.cx_node.specs.Tends.{tended}

@@ -2,7 +2,7 @@ use Rattle.std.proofs.Common.{sym, ◌∙◌}
 use Rattle.cx_base.specs.declared.role.Kind.TheVariants as kind
 use Rattle.cx_node.specs.Node.{course_at}
 use Rattle.cx_node.specs.Acts.{scene_of}
-use Rattle.cx_node.specs.Changing.{changing}
+use Rattle.cx_seat.specs.Changing.{changing}
 use Rattle.cx_course.specs.Tending.{is_of_kind, kind_ticks, those_tick}
 use Rattle.cx_node.proofs.Tended.{kind_is}
 use Rattle.cx_node.proofs.TendedActs.{act_as, flush_due, flush_none}

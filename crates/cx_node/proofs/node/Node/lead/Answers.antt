@@ -7,8 +7,8 @@ use Rattle.cx_base.specs.declared.role.Kind.TheVariants as kind
 use Rattle.cx_msg.specs.declared.input.Input.TheVariants as input
 use Rattle.cx_course.specs.declared.doing.Doing.TheVariants.{Give}
 use Rattle.cx_node.specs.Acts.{Acts, scene_of}
-use Rattle.cx_node.specs.Changing.{changing}
-use Rattle.cx_node.specs.Guest.{hosted_in}
+use Rattle.cx_seat.specs.Changing.{changing}
+use Rattle.cx_seat.specs.Guest.{hosted_in}
 use Rattle.cx_node.specs.Node.{NodeState, course_at}
 use Rattle.cx_course.specs.Course.{does_at}
 use Rattle.cx_course.specs.Run.{grid_of, idle_at, hosted_place}

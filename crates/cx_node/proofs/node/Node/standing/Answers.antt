@@ -3,7 +3,7 @@ use Rattle.std.proofs.lemmas.Option.{slice_get_read}
 use Rattle.std.specs.Option.{option_map}
 use Rattle.cx_base.specs.Role.{role}
 use Rattle.cx_base.specs.declared.role.Kind.TheVariants as kind
-use Rattle.cx_node.specs.Guest.{hosted_in}
+use Rattle.cx_seat.specs.Guest.{hosted_in}
 use Rattle.cx_node.specs.Node.{NodeState}
 use Rattle.cx_course.specs.Run.{hosted_place}
 use Rattle.cx_course.specs.Tending.{standing_of}

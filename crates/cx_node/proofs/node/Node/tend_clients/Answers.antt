@@ -2,14 +2,14 @@ use Rattle.std.proofs.Common.{◌≡◌, Ok, length, List, min, refl, sym, ap, �
 use Rattle.std.specs.Prelude.{filter, sum_by}
 use Rattle.cx_base.specs.declared.role.Kind.TheVariants as kind
 use Rattle.cx_node.specs.Acts.{scene_of}
-use Rattle.cx_node.specs.Changing.{changing}
-use Rattle.cx_node.specs.Guest.{hosted_of}
+use Rattle.cx_seat.specs.Changing.{changing}
+use Rattle.cx_seat.specs.Guest.{hosted_of}
 use Rattle.cx_node.specs.Node.{NodeState, course_at}
 use Rattle.cx_course.specs.Course.{stays}
 use Rattle.cx_course.specs.Run.{is_client}
 use Rattle.cx_course.specs.Tending.{clients_tended, completed, is_of_kind, kind_ticks, next_pass, those_tick, within}
 use Rattle.cx_node.specs.Tends.{tended}
-use Rattle.cx_node.specs.declared.guest.Guest.{Guest}
+use Rattle.cx_seat.specs.declared.guest.Guest.{Guest}
 use Rattle.cx_node.proofs.Actions.{acts_nothing}
 use Rattle.cx_node.proofs.Tended.{all_there, clients_ask, clients_over, clients_there, clients_wait, counts_as, kind_is, on_ok}
 use Rattle.cx_node.proofs.TendedActs.{act_as, moved_as}

@@ -1,10 +1,10 @@
 use Rattle.std.proofs.Common.{◌≡◌, [], Ok, refl, sym, ap, ◌∙◌, subst, Option}
 use Rattle.cx_base.specs.declared.cluster.Cluster.{Cluster}
 use Rattle.cx_base.specs.declared.event.Order.{Order}
-use Rattle.cx_node.specs.Changing.{changing}
+use Rattle.cx_seat.specs.Changing.{changing}
 use Rattle.cx_course.specs.Course.{stays}
 use Rattle.cx_node.specs.Acts.{Acts, scene_of}
-use Rattle.cx_node.specs.Guest.{hosted_in}
+use Rattle.cx_seat.specs.Guest.{hosted_in}
 use Rattle.cx_node.specs.Node.{NodeState, course_at}
 use Rattle.cx_course.specs.Tending.{first_leader, gets, leader_asked, leader_cared, leader_tended, with_care}
 use Rattle.cx_node.specs.Tends.{tended}

@@ -5,7 +5,7 @@ use Rattle.std.specs.Prelude.{OnOk}
 use Rattle.cx_base.specs.declared.cluster.Cluster.{Cluster}
 use Rattle.cx_node.specs.Node.{course_at}
 use Rattle.cx_node.specs.Acts.{Acts, scene_of}
-use Rattle.cx_node.specs.Changing.{changing}
+use Rattle.cx_seat.specs.Changing.{changing}
 use Rattle.cx_course.specs.Tending.{flushed, tend_comes, turn_ended, without_care}
 use Rattle.cx_node.specs.Tends.{tended}
 use Rattle.cx_node.proofs.TendedActs.{turn_end, turn_flush, turn_prepare, turn_take}

@@ -1,7 +1,7 @@
 use Rattle.std.proofs.Common.{◌≡◌, drop, Ok}
 use Rattle.cx_node.specs.Acts.{Blames, failed, scene_of}
-use Rattle.cx_node.specs.Changing.{changing}
-use Rattle.cx_node.specs.Guest.{AreReady}
+use Rattle.cx_seat.specs.Changing.{changing}
+use Rattle.cx_seat.specs.Guest.{AreReady}
 use Rattle.cx_node.specs.Tends.{is_meant}
 use Rattle.cx_node.proofs.TendedActs.{Asked}
 use Rattle.cx_node.proofs.node.Node.tick_in_turn.Given as goal

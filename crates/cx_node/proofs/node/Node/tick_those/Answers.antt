@@ -6,8 +6,8 @@ use Rattle.cx_base.specs.declared.cluster.Cluster.{Cluster}
 use Rattle.cx_grid.proofs.Crossing.{numbers_more}
 use Rattle.cx_node.specs.Node.{course_at}
 use Rattle.cx_node.specs.Acts.{Acts, failed, scene_of}
-use Rattle.cx_node.specs.Changing.{changing}
-use Rattle.cx_node.specs.Guest.{AreReady, hosted_in, hosted_of}
+use Rattle.cx_seat.specs.Changing.{changing}
+use Rattle.cx_seat.specs.Guest.{AreReady, hosted_in, hosted_of}
 use Rattle.cx_course.specs.Tending.{ticks_if}
 use Rattle.cx_node.specs.Tends.{is_meant}
 use Rattle.cx_node.proofs.Actions.{blames_then, no_blame}

@@ -1,4 +1,4 @@
-use Rattle.cx_node.specs.Changing.{changing}
+use Rattle.cx_seat.specs.Changing.{changing}
 use Rattle.cx_node.specs.Acts.{scene_of}
 use Rattle.cx_node.proofs.Turned.{once_untended}
 use Rattle.cx_node.proofs.node.Node.turn.Goals as goal

@@ -1,0 +1,369 @@
+-- What a cut event keeps, and the store of its run.
+use Rattle.std.proofs.Common.{◌≡◌, ◌∙◌, ℕ, Bool, true, false, List, [], ◌∷◌, ◌++◌, Option, None, Some, Result, is_some}
+use Rattle.std.proofs.Common.{ap, sym, refl, subst, inl, inr, append-nil}
+use Rattle.std.specs.Prelude.{◌-◌, drop, length, map, slice_get}
+use Rattle.std.specs.List.{list_all}
+use Rattle.std.specs.Option.{option_map}
+use Rattle.std.proofs.lemmas.List.Folds.{list_all-append}
+use Rattle.std.proofs.lemmas.Bool.{cases_Bool}
+use Rattle.cx_base.specs.declared.cluster.Cluster.{Cluster}
+use Rattle.cx_base.specs.declared.event.Cut.{Cut}
+use Rattle.cx_base.specs.declared.event.Cut.TheVariants.{Whole, Torn, Kept}
+use Rattle.cx_base.specs.declared.event.Event.{Event}
+use Rattle.cx_base.specs.declared.event.Event.TheVariants as event
+use Rattle.cx_base.specs.declared.event.Order.TheVariants as order
+use Rattle.cx_base.specs.declared.role.Kind.{Kind}
+use Rattle.cx_base.specs.declared.role.Kind.TheVariants as kind
+use Rattle.cx_base.specs.declared.role.RoleId.{RoleId}
+use Rattle.cx_base.specs.Role.{role, same_role}
+use Rattle.cx_model.specs.Acceptor.{acceptor_rules}
+use Rattle.cx_model.specs.Batcher.{batcher_rules}
+use Rattle.cx_model.specs.Leader.{leader_rules}
+use Rattle.cx_model.specs.Lists.{list_own, same_role-true}
+use Rattle.cx_model.specs.Matchmaker.{matchmaker_rules}
+use Rattle.cx_model.specs.Member.{Member}
+use Rattle.cx_model.specs.Outcome.{Outcome}
+use Rattle.cx_model.specs.Proxy.{proxy_rules}
+use Rattle.cx_model.specs.Reader.{reader_rules}
+use Rattle.cx_model.specs.Replacer.{replacer_rules}
+use Rattle.cx_model.specs.Replica.{ReplicaDurable, held, notes_of, pieces, replica_renewed, replica_rules}
+use Rattle.cx_model.specs.Rules.{Rules, folded}
+use Rattle.cx_model.specs.Turn.{snap_turn, turn, turn_with}
+use Rattle.cx_model.specs.Unbatcher.{unbatcher_rules}
+use Rattle.cx_model.specs.World.{World, Roles, act_of, change, come, durable_part, kept_by, list_after, list_after_kept, run}
+use Rattle.cx_model.specs.World.{step, turn_at, turn_found}
+use Rattle.cx_inv_open.specs.Reopened.{stored_as}
+use Rattle.cx_inv_run.specs.Kinds.{IsKeeper, IsWriter}
+use Rattle.cx_inv_run.proofs.KindLaws.{kinds_are_so}
+use Rattle.cx_inv_run.proofs.Members.{Member-second}
+use Rattle.cx_inv_run.proofs.Steps.{run_append}
+use Rattle.cx_msg.specs.Letter.{Letter}
+use Rattle.cx_msg.specs.declared.input.Act.{Act}
+use Rattle.cx_msg.specs.declared.input.Act.TheVariants.{Give, Snap}
+use Rattle.cx_msg.specs.declared.input.Input.{Input}
+use Rattle.cx_msg.specs.declared.input.Input.TheVariants as input
+use Rattle.cx_msg.specs.declared.input.KeptRecord.{KeptRecord}
+use Rattle.cx_msg.specs.declared.input.Written.{Written}
+use Rattle.cx_msg.specs.declared.input.Written.TheVariants as written
+use Rattle.cx_msg.specs.declared.kept.Record.{Record}
+use Rattle.cx_msg.specs.declared.kept.Record.TheVariants as kept_record
+use Rattle.cx_msg.specs.Records.{fits, record_shape}
+use Rattle.cx_journal.specs.Payload.{all_kept_by, is_kept_by, may_keep}
+use Rattle.cx_disk.specs.declared.disk.Disk.{Ghosts as DiskGhosts}
+use Rattle.cx_journal.specs.Files.{Files, IsFilesImageOf, files_records, one_told}
+use Rattle.cx_journal.specs.Store.{IsStoreChange, store_told}
+use Rattle.cx_journal.specs.StoreLaw.{both_records, one_records, one_tells}
+use Rattle.cx_journal.specs.declared.store.RecordStore.{RecordStore}
+use Rattle.cx_journal.specs.declared.store.RecordStore.TheVariants.{One, Two}
+use Rattle.cx_journal.proofs.Stores.{two_tell}
+use Rattle.cx_keeper.specs.Keeper.{Append, KeeperChange, Renewal, list_after as change_after}
+use Rattle.cx_keeper.specs.declared.keeper.KeepFault.{KeepFault}
+use Rattle.cx_journal.proofs.Gates.{all_kept-push}
+use Rattle.cx_journal.proofs.Payloads.{both_so}
+use Rattle.cx_promises.proofs.Lawful.{lawful}
+use Rattle.cx_course.specs.Changing.{change_for}
+use Rattle.cx_seat.specs.Stops.{IsOfRun, MayChange, with_cut}
+use Rattle.cx_seat.specs.Stores.{has_second, is_two}
+
+-- cut events keep nothing, or the change
+pub record CutKeeps (me : RoleId) (what : Written) (torn kept : List KeptRecord) : Type 0 where
+  pub lost : torn ≡ []
+  pub kept_too : kept ≡ kept_by me (Some what)
+
+-- what a row keeps, as a change
+abbrev kept_as : RoleId → Option Record → List KeptRecord
+kept_as to o = kept_by to (option_map written.Record o)
+
+cut_row : {V : Type 0} (to me : RoleId) (what : Written) (k : Option Record) (o : Outcome V) → o.kept ≡ k
+    → kept_by to ((turn_with Whole k o).kept) ≡ kept_by me (Some what)
+    → CutKeeps me what (kept_by to ((turn_with Torn k o).kept)) (kept_by to ((turn_with Kept k o).kept))
+cut_row to me what None o is h =
+    let nothing : [] ≡ kept_by me (Some what) = sym (ap (kept_as to) is) ∙ h in
+    cc
+cut_row to me what (Some own) o is h = record { lost = refl; kept_too = sym (ap (kept_as to) is) ∙ h }
+
+-- what an act leaves that is cut, where the whole one changes the store so
+abbrev Cuts : {D V : Type 0} → Rules D V → Cluster → RoleId → RoleId → Written → D → (Cut → Act) → Type 0
+Cuts {D} {V} rules c to me what d act =
+    (running : Option V) → kept_by to ((turn rules c to d (act Whole) running).kept) ≡ kept_by me (Some what)
+    → CutKeeps me what (kept_by to ((turn rules c to d (act Torn) running).kept))
+    (kept_by to ((turn rules c to d (act Kept) running).kept))
+
+cut_given : {D V : Type 0} (rules : Rules D V) (c : Cluster) (to me : RoleId) (what : Written) (d : D) (i : Input)
+    → Cuts rules c to me what d (Give i)
+cut_given rules c to me what d i None h = cc
+cut_given rules c to me what d i (Some v) h =
+    cut_row to me what ((rules.row c to d v i).kept) (rules.row c to d v i) refl h
+
+cut_snapped : {D V : Type 0} (rules : Rules D V) (c : Cluster) (to me : RoleId) (what : Written) (d : D)
+    → Cuts rules c to me what d Snap
+cut_snapped {D} {V} rules c to me what d None h = cc
+cut_snapped {D} {V} rules c to me what d (Some v) h = go (rules.snap c to d v) h
+  where
+    go : (o : Option ℕ) → kept_by to ((snap_turn Whole v o).kept) ≡ kept_by me (Some what)
+        → CutKeeps me what (kept_by to ((snap_turn Torn v o).kept)) (kept_by to ((snap_turn Kept v o).kept))
+    go None h = cc
+    go (Some first) h = record { lost = refl; kept_too = h }
+
+cut_found : {D V : Type 0} (rules : Rules D V) (c : Cluster) (to me : RoleId) (what : Written)
+    (kept : List KeptRecord) (act : Cut → Act) → Cuts rules c to me what (durable_part rules to kept) act
+    → (roles : List (Option V)) (o : Option (Option V))
+    → (turn_found rules c to kept (act Whole) roles o).kept ≡ kept_by me (Some what)
+    → CutKeeps me what ((turn_found rules c to kept (act Torn) roles o).kept)
+    ((turn_found rules c to kept (act Kept) roles o).kept)
+cut_found rules c to me what kept act cuts roles None h = cc
+cut_found rules c to me what kept act cuts roles (Some running) h = cuts running h
+
+cut_at : {D V : Type 0} (rules : Rules D V) (c : Cluster) (to me : RoleId) (what : Written) (kept : List KeptRecord)
+    (i : Input) (roles : List (Option V))
+    → (turn_at rules c to kept (Give i Whole) roles).kept ≡ kept_by me (Some what)
+    → CutKeeps me what ((turn_at rules c to kept (Give i Torn) roles).kept)
+    ((turn_at rules c to kept (Give i Kept) roles).kept)
+cut_at rules c to me what kept i roles h =
+    cut_found rules c to me what kept (Give i) (cut_given rules c to me what (durable_part rules to kept) i) roles
+    (slice_get roles to.index) h
+
+cut_act : (c : Cluster) (roles : Roles) (kept : List KeptRecord) (i : Input) (to me : RoleId) (what : Written)
+    (k : Kind) → (act_of c roles kept (Give i Whole) to k).kept ≡ kept_by me (Some what)
+    → CutKeeps me what ((act_of c roles kept (Give i Torn) to k).kept) ((act_of c roles kept (Give i Kept) to k).kept)
+cut_act c roles kept i to me what kind.Client h = cc
+cut_act c roles kept i to me what kind.Batcher h = cut_at batcher_rules c to me what kept i roles.batchers h
+cut_act c roles kept i to me what kind.Leader h = cut_at leader_rules c to me what kept i roles.leaders h
+cut_act c roles kept i to me what kind.Proxy h = cut_at proxy_rules c to me what kept i roles.proxies h
+cut_act c roles kept i to me what kind.Acceptor h = cut_at acceptor_rules c to me what kept i roles.acceptors h
+cut_act c roles kept i to me what kind.Matchmaker h = cut_at matchmaker_rules c to me what kept i roles.matchmakers h
+cut_act c roles kept i to me what kind.Replica h = cut_at replica_rules c to me what kept i roles.replicas h
+cut_act c roles kept i to me what kind.Unbatcher h = cut_at unbatcher_rules c to me what kept i roles.unbatchers h
+cut_act c roles kept i to me what kind.Reader h = cut_at reader_rules c to me what kept i roles.readers h
+cut_act c roles kept i to me what kind.Replacer h = cut_at replacer_rules c to me what kept i roles.replacers h
+
+cut_come : (w : World) (me : RoleId) (what : Written) (o : Option Letter)
+    → (come w Whole o).kept ≡ kept_by me (Some what)
+    → CutKeeps me what ((come w Torn o).kept) ((come w Kept o).kept)
+cut_come w me what None h = cc
+cut_come w me what (Some d) h = cut_act w.cluster w.roles w.kept (input.Take d) d.to me what d.to.kind h
+
+pub cut_change : (w : World) (e : Event) (me : RoleId) (what : Written) → MayChange e
+    → (change w (with_cut Whole e)).kept ≡ kept_by me (Some what)
+    → CutKeeps me what ((change w (with_cut Torn e)).kept) ((change w (with_cut Kept e)).kept)
+cut_change w (event.Deliver n cut) me what may h = cut_come w me what (slice_get w.sent n) h
+cut_change w (event.Order l order cut) me what may h =
+    cut_act w.cluster w.roles w.kept (input.Order order) (role kind.Leader l) me what kind.Leader h
+cut_change w (event.Replace x set cut) me what may h =
+    cut_act w.cluster w.roles w.kept (input.Order (order.Replace set)) (role kind.Replacer x) me what kind.Replacer h
+cut_change w (event.Snap p cut) me what may h =
+    let to = role kind.Replica p in
+    cut_found replica_rules w.cluster to me what w.kept Snap
+    (cut_snapped replica_rules w.cluster to me what (durable_part replica_rules to w.kept)) w.roles.replicas
+    (slice_get w.roles.replicas p) h
+cut_change w (event.Write command batcher) me what may h = absurd may
+cut_change w (event.Read client seq floor reader replica key) me what may h = absurd may
+cut_change w (event.Session client seq floor replica key) me what may h = absurd may
+cut_change w (event.Tick who) me what may h = absurd may
+cut_change w (event.Crash who) me what may h = absurd may
+cut_change w (event.Restart who) me what may h = absurd may
+
+-- the list in a role's store, after a change of its own
+
+client_keeps : {A : Type 0} (r : Record) → IsKeeper kind.Client r → A
+client_keeps (kept_record.Promise i) k = cc
+client_keeps other k = cc
+
+stored_record : (me : RoleId) (r : Record) (ks : List KeptRecord) (k : Kind) → IsKeeper k r
+    → stored_as me (ks ++ kept_by me (Some (written.Record r))) k ≡ stored_as me ks k ++ r ∷ []
+stored_record me r ks kind.Client is = client_keeps r is
+stored_record me r ks kind.Batcher is = list_own batcher_rules me ks (Some (written.Record r))
+stored_record me r ks kind.Leader is = list_own leader_rules me ks (Some (written.Record r))
+stored_record me r ks kind.Proxy is = list_own proxy_rules me ks (Some (written.Record r))
+stored_record me r ks kind.Acceptor is = list_own acceptor_rules me ks (Some (written.Record r))
+stored_record me r ks kind.Matchmaker is = list_own matchmaker_rules me ks (Some (written.Record r))
+stored_record me r ks kind.Replica is = list_own replica_rules me ks (Some (written.Record r))
+stored_record me r ks kind.Unbatcher is = list_own unbatcher_rules me ks (Some (written.Record r))
+stored_record me r ks kind.Reader is = list_own reader_rules me ks (Some (written.Record r))
+stored_record me r ks kind.Replacer is = list_own replacer_rules me ks (Some (written.Record r))
+
+stored_next : (me : RoleId) (what : Written) (ks : List KeptRecord) (k : Kind) → IsWriter k what
+    → stored_as me (ks ++ kept_by me (Some what)) k
+    ≡ change_after (stored_as me ks k) (change_for (stored_as me ks k) what)
+stored_next me (written.Record r) ks k is = stored_record me r ks k is
+stored_next me (written.Snap first) ks k is =
+    subst (λ (own : Kind). stored_as me (ks ++ kept_by me (Some (written.Snap first))) own
+    ≡ change_after (stored_as me ks own) (change_for (stored_as me ks own) (written.Snap first))) (sym is)
+    (list_own replica_rules me ks (Some (written.Snap first)))
+
+kept_next : (c : Cluster) (es : List Event) (e : Event) → (run c (es ++ e ∷ [])).kept ≡ (run c es).kept
+    ++ (change (run c es) e).kept
+unfolding step
+kept_next c es e = ap (λ (w : World). w.kept) (run_append c es (e ∷ []))
+
+-- the tags of the records that a kind of role keeps are those that its journal may have
+own_tag : (k : Kind) (r : Record) → IsKeeper k r → may_keep (Some k) (record_shape r).tag ≡ true
+own_tag k (kept_record.Promise i) is = subst (λ (own : Kind). may_keep (Some own) 1 ≡ true) (sym is) refl
+own_tag k (kept_record.Vote i s cw v) is = subst (λ (own : Kind). may_keep (Some own) 2 ≡ true) (sym is) refl
+own_tag k (kept_record.Water i cw) is = subst (λ (own : Kind). may_keep (Some own) 3 ≡ true) (sym is) refl
+own_tag k (kept_record.Match i g) is = subst (λ (own : Kind). may_keep (Some own) 4 ≡ true) (sym is) refl
+own_tag k (kept_record.Garbage i g) is = subst (λ (own : Kind). may_keep (Some own) 5 ≡ true) (sym is) refl
+own_tag k (kept_record.Round i g) is = subst (λ (own : Kind). may_keep (Some own) 6 ≡ true) (sym is) refl
+own_tag k (kept_record.Log values) is = subst (λ (own : Kind). may_keep (Some own) 7 ≡ true) (sym is) refl
+own_tag k (kept_record.Ballot b) is = subst (λ (own : Kind). may_keep (Some own) 12 ≡ true) (sym is) refl
+own_tag k (kept_record.Stop b) is = subst (λ (own : Kind). may_keep (Some own) 13 ≡ true) (sym is) refl
+own_tag k (kept_record.Next b s) is = subst (λ (own : Kind). may_keep (Some own) 14 ≡ true) (sym is) refl
+own_tag k (kept_record.Boot s w es) is = subst (λ (own : Kind). may_keep (Some own) 15 ≡ true) (sym is) refl
+own_tag k (kept_record.Turn n) is = subst (λ (own : Kind). may_keep (Some own) 16 ≡ true) (sym is) refl
+own_tag k other is = cc
+
+-- whether a journal of this kind may have the tags of these records
+abbrev are_tagged : Kind → List Record → Bool
+are_tagged k rs = list_all (λ (r : Record). may_keep (Some k) (record_shape r).tag) rs
+
+tagged_both : (k : Kind) (rs ss : List Record) → are_tagged k rs ≡ true → are_tagged k ss ≡ true → are_tagged k (rs ++ ss) ≡ true
+tagged_both k rs ss p q =
+    list_all-append (λ (r : Record). may_keep (Some k) (record_shape r).tag) rs ss ∙ rw (p, q) refl
+
+tagged_each : {X : Type 0} (k : Kind) (make : X → Record) (xs : List X) → ((x : X) → may_keep (Some k) (record_shape (make x)).tag ≡ true)
+    → are_tagged k (map make xs) ≡ true
+tagged_each k make [] is = refl
+tagged_each k make (x ∷ xs) is = rw (is x, tagged_each k make xs is) refl
+
+-- a renewed list has tags of a replica's
+renewed_tagged : (d : ReplicaDurable) (first : ℕ) → are_tagged kind.Replica (replica_renewed d first) ≡ true
+renewed_tagged d first =
+    let base = kept_record.Base first (held d) (length d.machine.map) (length d.machine.table.floors) ∷ [] in
+    let pairs = map (λ ps. kept_record.Pairs ps) (pieces 255 d.machine.map) in
+    let notes = map (notes_of d.machine.table) d.machine.table.floors in
+    let tail = map (λ vs. kept_record.Tail vs) (pieces 32 (drop (first - d.first) d.log)) in
+    tagged_both kind.Replica (base ++ pairs ++ notes) tail
+    (tagged_both kind.Replica (base ++ pairs) notes
+    (tagged_both kind.Replica base pairs refl (tagged_each kind.Replica (λ ps. kept_record.Pairs ps) (pieces 255 d.machine.map) (λ ps. refl)))
+    (tagged_each kind.Replica (notes_of d.machine.table) d.machine.table.floors (λ f. refl)))
+    (tagged_each kind.Replica (λ vs. kept_record.Tail vs) (pieces 32 (drop (first - d.first) d.log)) (λ vs. refl))
+
+-- a role's changes are of its own kind, so its kind's journal may have the tags of its list
+module _ {D V : Type 0} (rules : Rules D V) (me : RoleId)
+    (renews : (d : D) (first : ℕ) → me.kind ≡ kind.Replica → are_tagged me.kind (rules.renewed d first) ≡ true) where
+  tagged_after : (list : List Record) (w : Written) → IsWriter me.kind w → are_tagged me.kind list ≡ true
+      → are_tagged me.kind (list_after rules list w) ≡ true
+  tagged_after list (written.Record r) is h = tagged_both me.kind list (r ∷ []) h (rw (own_tag me.kind r is) refl)
+  tagged_after list (written.Snap first) is h = renews (folded rules list) first is
+
+  tagged_from : (list : List Record) (ks : List KeptRecord) → ((k : KeptRecord) → Member k ks → IsWriter k.role.kind k.what)
+      → are_tagged me.kind list ≡ true → are_tagged me.kind (list_after_kept rules me list ks) ≡ true
+  tagged_from list [] are h = h
+  tagged_from list (k ∷ ks) are h = elim (cases_Bool (same_role me k.role)) [
+    | inl own ↦
+        let is : IsWriter me.kind k.what = subst (λ (who : RoleId). IsWriter who.kind k.what) (sym (same_role-true me k.role own)) (are k (inl refl)) in
+        rw own (tagged_from (list_after rules list k.what) ks (λ other m. are other (inr m)) (tagged_after list k.what is h))
+    | inr other ↦ rw other (tagged_from list ks (λ x m. are x (inr m)) h)
+  ]
+
+as_replica : (me : RoleId) (d : ReplicaDurable) (first : ℕ) → me.kind ≡ kind.Replica → are_tagged me.kind (replica_renewed d first) ≡ true
+as_replica me d first is = subst (λ (k : Kind). are_tagged k (replica_renewed d first) ≡ true) (sym is) (renewed_tagged d first)
+
+stored_tagged : (me : RoleId) (ks : List KeptRecord) → ((k : KeptRecord) → Member k ks → IsWriter k.role.kind k.what) → (k : Kind)
+    → are_tagged me.kind (stored_as me ks k) ≡ true
+stored_tagged me ks are kind.Client = refl
+stored_tagged me ks are kind.Batcher = tagged_from batcher_rules me (λ d first is. refl) [] ks are refl
+stored_tagged me ks are kind.Leader = tagged_from leader_rules me (λ d first is. refl) [] ks are refl
+stored_tagged me ks are kind.Proxy = tagged_from proxy_rules me (λ d first is. refl) [] ks are refl
+stored_tagged me ks are kind.Acceptor = tagged_from acceptor_rules me (λ d first is. refl) [] ks are refl
+stored_tagged me ks are kind.Matchmaker = tagged_from matchmaker_rules me (λ d first is. refl) [] ks are refl
+stored_tagged me ks are kind.Replica = tagged_from replica_rules me (as_replica me) [] ks are refl
+stored_tagged me ks are kind.Unbatcher = tagged_from unbatcher_rules me (λ d first is. refl) [] ks are refl
+stored_tagged me ks are kind.Reader = tagged_from reader_rules me (λ d first is. refl) [] ks are refl
+stored_tagged me ks are kind.Replacer = tagged_from replacer_rules me (λ d first is. refl) [] ks are refl
+
+-- so it may have the list, where the fields of its records are in their ranges
+own_kept : (k : Kind) (rs : List Record) → are_tagged k rs ≡ true → all_kept_by None rs ≡ true → all_kept_by (Some k) rs ≡ true
+own_kept k [] tagged fit = refl
+own_kept k (r ∷ rs) tagged fit =
+    let tags = both_so (may_keep (Some k) (record_shape r).tag) (are_tagged k rs) tagged in
+    let parts = both_so (is_kept_by None r) (all_kept_by None rs) fit in
+    let one = both_so (fits r) true parts.0 in
+    rw (one.0, tags.0, own_kept k rs tags.1 parts.1) refl
+
+-- the files have the list of a run after which the event changed it so
+of_run : (c : Cluster) (es : List Event) (e : Event) (cut : Cut) (me : RoleId) (files : Files) (records : List Record)
+    → stored_as me ((run c es).kept ++ (change (run c es) (with_cut cut e)).kept) me.kind ≡ records
+    → all_kept_by None records ≡ true → IsFilesImageOf records files → IsOfRun c es e cut me files
+of_run c es e cut me files records is fit stored =
+    let all = es ++ with_cut cut e ∷ [] in
+    let here : stored_as me ((run c all).kept) me.kind ≡ records =
+    ap (λ (ks : List KeptRecord). stored_as me ks me.kind) (kept_next c es (with_cut cut e)) ∙ is in
+    let own = own_kept me.kind (stored_as me (run c all).kept me.kind)
+    (stored_tagged me (run c all).kept (kinds_are_so.keepers c all) me.kind)
+    (subst (λ (rs : List Record). all_kept_by None rs ≡ true) (sym here) fit) in
+    record {
+      stored = subst (λ (rs : List Record). IsFilesImageOf rs files) (sym here) stored (Some me.kind) own;
+      lawful = lawful c all;
+    }
+
+module _ (c : Cluster) (es : List Event) (e : Event) (me : RoleId) (what : Written) (files : Files)
+    (next : (change (run c es) (with_cut Whole e)).kept ≡ kept_by me (Some what)) where
+  abbrev list : List Record
+  list = stored_as me (run c es).kept me.kind
+
+  -- the change is one of the role's kind, since the event is one of a run
+  pub own_writer : IsWriter me.kind what
+  own_writer =
+      let k : KeptRecord = record { role = me; what = what } in
+      kinds_are_so.keepers c (es ++ with_cut Whole e ∷ []) k
+      (subst (λ (ks : List KeptRecord). Member k ks) (sym (kept_next c es (with_cut Whole e)))
+      (Member-second k (run c es).kept (change (run c es) (with_cut Whole e)).kept
+      (subst (λ (ks : List KeptRecord). Member k ks) (sym next) (inl refl))))
+
+  changed : (cut : Cut) → (change (run c es) (with_cut cut e)).kept ≡ kept_by me (Some what)
+      → all_kept_by None (change_after list (change_for list what)) ≡ true
+      → IsFilesImageOf (change_after list (change_for list what)) files → IsOfRun c es e cut me files
+  changed cut kept fit stored =
+      of_run c es e cut me files _ (ap (λ (ks : List KeptRecord). stored_as me ((run c es).kept ++ ks) me.kind) kept
+      ∙ stored_next me what (run c es).kept me.kind own_writer) fit stored
+
+  pub lost_of_run : MayChange e → all_kept_by None list ≡ true → IsFilesImageOf list files → IsOfRun c es e Torn me files
+  lost_of_run may fit stored =
+      let keeps = cut_change (run c es) e me what may next in
+      of_run c es e Torn me files _
+      (ap (λ (ks : List KeptRecord). stored_as me ((run c es).kept ++ ks) me.kind) keeps.lost
+      ∙ ap (λ (ks : List KeptRecord). stored_as me ks me.kind) (append-nil (run c es).kept)) fit stored
+
+  pub kept_of_run : MayChange e → all_kept_by None (change_after list (change_for list what)) ≡ true
+      → IsFilesImageOf (change_after list (change_for list what)) files → IsOfRun c es e Kept me files
+  kept_of_run may = changed Kept (cut_change (run c es) e me what may next).kept_too
+
+  pub whole_of_run : all_kept_by None (change_after list (change_for list what)) ≡ true
+      → IsFilesImageOf (change_after list (change_for list what)) files → IsOfRun c es e Whole me files
+  whole_of_run = changed Whole next
+
+-- only a list over two disks is put anew
+pub renews_two : (list : List Record) (what : Written) (k : Kind) (two : Bool) → IsWriter k what → two ≡ has_second k
+    → (records : List Record) → change_for list what ≡ Renewal records → two ≡ true
+renews_two list (written.Record r) k two is sides records e = cc
+renews_two list (written.Snap first) k two is sides records e = sides ∙ ap has_second is
+
+-- where the list's records are in their ranges, they are after a change
+module _ {D : Type 0} (by : DiskGhosts D) where
+  abbrev seen_files : RecordStore D → Option Files
+  seen_files s = store_told by.seen s
+
+  pub store_fits : (old : RecordStore D) (ask : KeeperChange) (answer : Result (Unit {0}) KeepFault) (new : RecordStore D)
+      → IsStoreChange by old ask answer new → is_some (seen_files old) ≡ true
+      → ((records : List Record) → ask ≡ Renewal records → is_two old ≡ true)
+      → (all_kept_by None (files_records (seen_files old)) ≡ true)
+      × (all_kept_by None (change_after (files_records (seen_files old)) ask) ≡ true)
+  store_fits (One old) (Append r) answer (One new) is known two =
+      let fit : all_kept_by None (files_records (one_told (by.seen old.disk))) ≡ true =
+      ap (λ rs. all_kept_by None rs) (one_records (by.seen old.disk))
+      ∙ is.old_fit (sym (one_tells (by.seen old.disk)) ∙ known) in
+      let one : is_kept_by None r ≡ true = rw is.new_fits refl in
+      (fit, all_kept-push None (files_records (one_told (by.seen old.disk))) r fit one)
+  store_fits (One old) (Renewal records) answer (One new) is known two = absurd (differ (two records refl))
+    where
+      differ : ◌≡◌ {A = Bool} false true → ⊥
+      differ e = cc
+  store_fits (Two old) ask answer (Two new) is known two =
+      let both = two_tell by.seen old known in
+      let same = both_records (by.seen old.first) (by.seen old.second) in (
+        ap (λ rs. all_kept_by None rs) same ∙ is.fit both,
+        ap (λ rs. all_kept_by None (change_after rs ask)) same ∙ is.fit_after both,
+      )
+  store_fits (One old) ask answer (Two new) is known two = absurd is
+  store_fits (Two old) ask answer (One new) is known two = absurd is

@@ -1,0 +1,100 @@
+-- What a step or a snap of a role that ended early is for its seat.
+use Rattle.std.proofs.Common.{◌≡◌, ◌⊎◌, Bool, true, List, [], ◌∷◌, Option, Some, Err, refl, sym, ap, subst, inl, inr}
+use Rattle.std.proofs.Common.{if◌then◌else◌}
+use Rattle.std.specs.Prelude.{slice_get}
+use Rattle.std.specs.Option.{option_map}
+use Rattle.cx_base.specs.declared.role.RoleId.{RoleId}
+use Rattle.cx_base.specs.Role.{same_role}
+use Rattle.cx_keeper.specs.Keeper.{Append, KeeperChange, Renewal}
+use Rattle.cx_keeper.specs.declared.keeper.KeepFault.{KeepFault}
+use Rattle.cx_keeper.specs.declared.keeper.KeepFault.TheVariants.{Failed, NoMemory}
+use Rattle.cx_model.specs.Lists.{same_role-itself}
+use Rattle.cx_model.specs.Outcome.{Outcome}
+use Rattle.cx_model.specs.Replica.{ReplicaDurable, ReplicaVolatile, replica_renewed, replica_rules}
+use Rattle.cx_model.specs.Rules.{Rules, Running}
+use Rattle.cx_msg.specs.Letter.{Letter}
+use Rattle.cx_msg.specs.declared.kept.Record.{Record}
+use Rattle.cx_role.specs.Role.{Appending, IsStep, Refuses as RefusesAppend}
+use Rattle.cx_role.specs.Snap.{IsSnap, Renewing}
+use Rattle.cx_seat.specs.declared.guest.Guest.TheVariants as guest
+use Rattle.cx_course.specs.Changing.{changed_by, changes_of}
+use Rattle.cx_seat.specs.Changing.{Changing, Refuses, changing}
+use Rattle.cx_seat.specs.Guest.{HasChangeFailed, MakesRow, Performs}
+use Rattle.cx_course.specs.Hosted.{ReplicaAt, snap_of, snapped}
+
+first_change : (me : RoleId) (c : KeeperChange) → slice_get (changes_of me (changed_by me (Some c))) 0 ≡ Some c
+first_change me c = own (same_role-itself me)
+  where
+    own : same_role me me ≡ true → slice_get (if same_role me me then c ∷ [] else []) 0 ≡ Some c
+    own is = rw is refl
+
+module _ {K : Type 0} (append_gives : Appending K) (renew_gives : Renewing K) (tells : K → Bool) (old new : K)
+    (sent : List Letter) where
+  abbrev gives : Changing K
+  gives = changing append_gives renew_gives
+
+  fails_first : (me : RoleId) (c : KeeperChange) (o : Option KeeperChange) → o ≡ Some c → gives old c (Err Failed) new
+      → HasChangeFailed gives (slice_get (changes_of me (changed_by me o)) 0) old new
+  fails_first me c o is failed =
+      subst (λ x. HasChangeFailed gives (slice_get (changes_of me (changed_by me x)) 0) old new) (sym is)
+      (subst (λ x. HasChangeFailed gives x old new) (sym (first_change me c)) failed)
+
+  module _ {D V : Type 0} (rules : Rules D V) (before after : Running D V) (row : Outcome V) where
+    refused : RefusesAppend append_gives old new → Refuses gives old new
+    refused (inl same) = inl same
+    refused (inr p) = inr (Append p.0, p.1)
+
+    pub step_ends : (e : KeepFault) → IsStep append_gives tells rules before row (Err e) after old new sent
+        → MakesRow gives rules before row (Err e) after old new sent
+    step_ends NoMemory step = record {
+      state = tt;
+      kept = tt;
+      sends = tt;
+      rests = λ is. refused (step.no_memory refl).kept;
+      failed = λ is. cc;
+      name = λ live. ap (λ (s : Running D V). s.me) (step.no_memory refl).state;
+    }
+    step_ends Failed step =
+        let p = (step.failed refl).append in
+        record {
+          state = tt;
+          kept = tt;
+          sends = tt;
+          rests = λ is. cc;
+          failed = λ is. fails_first before.me (Append p.0) (option_map Append row.kept) (ap (option_map Append) p.1) p.2;
+          name = λ live. (step.keeps refl).me;
+        }
+
+  module _ (before after : Running ReplicaDurable ReplicaVolatile) where
+    unrenewed : (new ≡ old) ⊎ ((records : List Record) × renew_gives old records (Err NoMemory) new)
+        → Refuses gives old new
+    unrenewed (inl same) = inl same
+    unrenewed (inr p) = inr (Renewal p.0, p.1)
+
+    pub snap_ends : (e : KeepFault)
+        → IsSnap renew_gives tells replica_rules before (snap_of before) (Err e) after old new sent
+        → Performs gives (snapped (ReplicaAt before)) (Err e) (guest.Replica before old) (guest.Replica after new) sent []
+    snap_ends NoMemory snap = record {
+      role = tt;
+      kept = tt;
+      sends = tt;
+      text = tt;
+      live = tt;
+      rests = λ is. unrenewed (snap.no_memory refl).list;
+      failed = λ is. cc;
+    }
+    snap_ends Failed snap =
+        let p = (snap.failed refl).renewal in
+        let asked : ReplicaDurable → KeeperChange = λ d. Renewal (replica_renewed d p.0) in
+        record {
+          role = tt;
+          kept = tt;
+          sends = tt;
+          text = tt;
+          live = tt;
+          rests = λ is. cc;
+          failed = λ is.
+              fails_first before.me (asked before.durable)
+              (option_map (λ b. Renewal (replica_renewed before.durable b)) (snap_of before))
+              (ap (option_map (λ b. Renewal (replica_renewed before.durable b))) p.1) p.2;
+        }

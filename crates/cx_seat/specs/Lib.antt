@@ -1,0 +1,10 @@
+pub mod Changing
+pub mod Guest
+pub mod Seat
+pub mod Stores
+pub mod Wake
+pub mod Opening
+pub mod Durable
+pub mod Closing
+pub mod Noting
+pub mod Stops
