@@ -10,10 +10,10 @@ work=$(mktemp -d)
 trap 'rm -rf "$work"' EXIT
 
 mkdir -p "$work/crates/wire_bench/src"
-for crate in cx_base cx_wire cx_field cx_msg; do
+for crate in cx_base cx_wire cx_field cx_letter cx_msg; do
     cp -r "$here/crates/$crate" "$work/crates/$crate"
 done
-grep -E '^(cx_base|cx_wire|cx_field|cx_msg):' "$here/crates.txt" > "$work/crates.txt"
+grep -E '^(cx_base|cx_wire|cx_field|cx_letter|cx_msg):' "$here/crates.txt" > "$work/crates.txt"
 echo 'wire_bench: cx_base cx_msg' >> "$work/crates.txt"
 
 cat > "$work/crates/wire_bench/src/main.rt" <<'RATTLE'

@@ -5,7 +5,7 @@ use Rattle.cx_role.proofs.Common.{outcome_of, MayKeep}
 use Rattle.cx_role.proofs.Common.msg
 use Rattle.cx_role.proofs.Named.{body_named}
 use Rattle.std.proofs.lemmas.Bool.{ltb-false}
-use Rattle.cx_msg.specs.LetterParts.{PartsFit}
+use Rattle.cx_letter.specs.LetterParts.{PartsFit}
 use Rattle.cx_model.specs.Acceptor.{AcceptorDurable, acceptor_rules, is_of_round, phase2a_row, vote_at}
 
 module _ (s : Running AcceptorDurable (Unit {0})) (i : Round) (n cw : ℕ) (v : Value) where

@@ -7,7 +7,7 @@ use Rattle.cx_role.proofs.Ranges.{max_fits, real_or_none}
 use Rattle.cx_wire.specs.Format.{u16, u32, u64}
 use Rattle.cx_field.specs.Fields.{mark, round, round0, slot, value}
 use Rattle.cx_field.specs.Ranges.{slots_rise, vote_in_range}
-use Rattle.cx_msg.specs.Records.{fits, kept_record}
+use Rattle.cx_letter.specs.Records.{fits, kept_record}
 use Rattle.cx_field.proofs.Rising.{rises-filter}
 use Rattle.cx_model.specs.Acceptor.{AcceptorDurable, acceptor_after, acceptor_fits, votes_from_slot, vote_at, is_of_round}
 use Rattle.cx_acceptor.specs.Sound.{IsSound}

@@ -4,8 +4,8 @@ ghost use Rattle.cx_model.specs.Acceptor.{AcceptorDurable, acceptor_rules};
 
 use cx_base::{Cluster, NoMemory, Order, RoleId, Round, Why};
 use cx_field::Vote;
-use cx_keeper::Keeper;
-use cx_msg::{Datagram, Msg, Record};
+use cx_keep::Keeper;
+use cx_letter::{Datagram, Msg, Record};
 use cx_role::{Outbox, Role, StepFault, WakeFault, is_for};
 use std::alloc::Global;
 use std::marker::Model;

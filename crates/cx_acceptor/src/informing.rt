@@ -8,8 +8,8 @@ ghost use Rattle.cx_field.specs.Fields as field;
 use crate::Acceptor;
 use cx_base::{NoMemory, RoleId, Round, Why};
 use cx_field::Asking;
-use cx_keeper::Keeper;
-use cx_msg::{Record, informed, pre_read_ack};
+use cx_keep::Keeper;
+use cx_letter::{Record, informed, pre_read_ack};
 use cx_role::{Outbox, StepFault, keep};
 
 impl Acceptor {

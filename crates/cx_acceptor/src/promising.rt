@@ -8,8 +8,8 @@ ghost use Rattle.cx_field.specs.Fields as field;
 use crate::Acceptor;
 use cx_base::{Few, NoMemory, RoleId, Round, Why, copy_all};
 use cx_field::Votes;
-use cx_keeper::Keeper;
-use cx_msg::{Record, nack, phase1b};
+use cx_keep::Keeper;
+use cx_letter::{Record, nack, phase1b};
 use cx_role::{Outbox, StepFault, keep};
 
 impl Acceptor {

@@ -5,13 +5,13 @@ ghost use Rattle.cx_role.specs.Prelude.{[], true, OnOk, OnErr, IsTrue, Kind, ope
 ghost use Rattle.cx_role.specs.Prelude.kept;
 ghost use Rattle.cx_model.specs.Acceptor.{acceptor_rules, acceptor_after, acceptor_fits};
 ghost use Rattle.cx_field.specs.Fields as field;
-ghost use Rattle.cx_msg.specs.Records.{fits as record_fits};
+ghost use Rattle.cx_letter.specs.Records.{fits as record_fits};
 
 use crate::Acceptor;
 use crate::votes::{has_vote_in_round, is_in_window, keep_from, place};
 use cx_base::{Cluster, Duplicate, NoMemory, RoleId, Round};
 use cx_field::Vote;
-use cx_msg::Record;
+use cx_letter::Record;
 use cx_role::{names_round, names_value};
 use std::alloc::Global;
 

@@ -9,8 +9,8 @@ use crate::Acceptor;
 use crate::votes::{has_vote_in_round, keep_from, place};
 use cx_base::{Duplicate, RoleId, Round, Value, Why};
 use cx_field::Vote;
-use cx_keeper::Keeper;
-use cx_msg::{Record, phase2b};
+use cx_keep::Keeper;
+use cx_letter::{Record, phase2b};
 use cx_role::{Outbox, StepFault, keep};
 
 impl Acceptor {

@@ -8,8 +8,8 @@ ghost use Rattle.cx_field.specs.Fields as field;
 ghost use Rattle.cx_model.specs.Batcher.{BatcherVolatile, batcher_rules, batch_to, submit_row, leads_row};
 
 use cx_base::{Cluster, Command, Duplicate, Few, NoMemory, Order, RoleId, Round, Why};
-use cx_keeper::Keeper;
-use cx_msg::{Datagram, Msg, Record};
+use cx_keep::Keeper;
+use cx_letter::{Datagram, Msg, Record};
 use cx_role::{Outbox, Role, StepFault, WakeFault, is_for};
 use std::alloc::Global;
 use std::marker::Model;
@@ -158,7 +158,7 @@ fn batch_to(me: RoleId, round: Round, waiting: Vec<Command>) -> Datagram
     requires fit { IsTrue (list_all (λ (k : Command). field.command.fits k) waiting.items) }
     ensures { result ≡ batch_to me round waiting.items }
 {
-    cx_msg::batch(me.index, round.id, Few::from_vec(waiting))
+    cx_letter::batch(me.index, round.id, Few::from_vec(waiting))
 }
 
 // One more at the end, or the list as it was.

@@ -7,8 +7,8 @@ ghost use Rattle.cx_field.specs.Fields as field;
 ghost use Rattle.cx_model.specs.Unbatcher.{unbatcher_rules, answer_to};
 
 use cx_base::{Answered, Cluster, NoMemory, Order, RoleId, Why};
-use cx_keeper::Keeper;
-use cx_msg::{Datagram, Msg, Record};
+use cx_keep::Keeper;
+use cx_letter::{Datagram, Msg, Record};
 use cx_role::{Outbox, Role, StepFault, WakeFault, is_for};
 use std::alloc::Global;
 use std::marker::Model;
@@ -74,7 +74,7 @@ impl Role for Unbatcher {
         })
     }
 
-    #[tactic(auto, using(cx_field::proofs::ListLaws::each_answer_fits), unfolding(cx_msg::specs::Messages::results))]
+    #[tactic(auto, using(cx_field::proofs::ListLaws::each_answer_fits), unfolding(cx_letter::specs::Messages::results))]
     fn take<K: Keeper>(
         &mut self,
         _keeper: &mut K,
@@ -130,5 +130,5 @@ fn answer_to(me: RoleId, answer: &Answered) -> Datagram
     requires fits { IsTrue (field.answered.fits answer.now) }
     ensures { result ≡ answer_to me answer.now }
 {
-    cx_msg::answer(me.index, answer.client, answer.seq, answer.at, answer.reply)
+    cx_letter::answer(me.index, answer.client, answer.seq, answer.at, answer.reply)
 }

@@ -8,10 +8,10 @@ use Rattle.cx_base.specs.Same.{same_value}
 use Rattle.cx_base.proofs.SameLaws.{same_value-true}
 use Rattle.cx_base.specs.declared.command.Value.{Value}
 use Rattle.cx_base.specs.declared.round.Round.{Round}
-use Rattle.cx_msg.specs.declared.kept.Record.TheVariants as kept
-use Rattle.cx_msg.specs.declared.input.KeptRecord.{KeptRecord}
-use Rattle.cx_msg.specs.declared.input.Written.{Written}
-use Rattle.cx_msg.specs.declared.input.Written.TheVariants as written
+use Rattle.cx_letter.specs.declared.kept.Record.TheVariants as kept
+use Rattle.cx_letter.specs.declared.input.KeptRecord.{KeptRecord}
+use Rattle.cx_letter.specs.declared.input.Written.{Written}
+use Rattle.cx_letter.specs.declared.input.Written.TheVariants as written
 use Rattle.cx_choice.proofs.Casts.{same_among}
 use Rattle.cx_choice.proofs.Whole.{chosen_by_whole}
 use Rattle.cx_choice.specs.Enough.{is_value_among, is_chosen_among, is_enough, is_whole_vote_in, is_whole_vote}

@@ -16,10 +16,10 @@ use Rattle.cx_base.specs.declared.role.Kind.TheVariants.{Acceptor}
 use Rattle.cx_base.specs.declared.round.Round.{Round}
 use Rattle.cx_grid.specs.Quorum.{column_of}
 use Rattle.cx_model.specs.Chosen.{has_vote, is_chosen_in, is_vote}
-use Rattle.cx_msg.specs.declared.kept.Record.TheVariants as kept
-use Rattle.cx_msg.specs.declared.input.KeptRecord.{KeptRecord}
-use Rattle.cx_msg.specs.declared.input.Written.{Written}
-use Rattle.cx_msg.specs.declared.input.Written.TheVariants as written
+use Rattle.cx_letter.specs.declared.kept.Record.TheVariants as kept
+use Rattle.cx_letter.specs.declared.input.KeptRecord.{KeptRecord}
+use Rattle.cx_letter.specs.declared.input.Written.{Written}
+use Rattle.cx_letter.specs.declared.input.Written.TheVariants as written
 use Rattle.cx_choice.specs.Enough.{is_chosen_among, is_enough}
 use Rattle.cx_choice.specs.OfRound.{IsByRound, of_round}
 use Rattle.cx_choice.specs.Sorted.{AreCast, IsCast, casts_in, written_round}

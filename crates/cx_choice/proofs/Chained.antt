@@ -4,7 +4,7 @@ use Rattle.std.proofs.lemmas.Bool.{cases_Bool}
 use Rattle.std.proofs.lemmas.Bool.Decides.{nat_tests}
 use Rattle.std.proofs.lemmas.Grind.{get_or_default_zero}
 use Rattle.std.proofs.lemmas.List.{map-append}
-use Rattle.cx_msg.specs.declared.input.KeptRecord.{KeptRecord}
+use Rattle.cx_letter.specs.declared.input.KeptRecord.{KeptRecord}
 use Rattle.cx_choice.proofs.Numbered.{next_kept}
 use Rattle.cx_choice.specs.Chains.{HaveVotes, Puts, first_vote, vote_from}
 use Rattle.cx_choice.specs.Sorted.{is_vote_in, votes_of}

@@ -7,10 +7,10 @@ use Rattle.std.specs.List.{position, position_or_len}
 use Rattle.cx_base.specs.Grid.{Shape}
 use Rattle.cx_base.specs.declared.command.Value.{Value}
 use Rattle.cx_model.specs.Chosen.{chosen_at, chosen_vote, first_chosen}
-use Rattle.cx_msg.specs.declared.kept.Record.TheVariants as kept
-use Rattle.cx_msg.specs.declared.input.KeptRecord.{KeptRecord}
-use Rattle.cx_msg.specs.declared.input.Written.{Written}
-use Rattle.cx_msg.specs.declared.input.Written.TheVariants as written
+use Rattle.cx_letter.specs.declared.kept.Record.TheVariants as kept
+use Rattle.cx_letter.specs.declared.input.KeptRecord.{KeptRecord}
+use Rattle.cx_letter.specs.declared.input.Written.{Written}
+use Rattle.cx_letter.specs.declared.input.Written.TheVariants as written
 use Rattle.cx_choice.proofs.Apart.{chosen_by_votes, same_selects}
 use Rattle.cx_choice.specs.Enough.{selects}
 use Rattle.cx_choice.specs.Prefix.{IsChosenVote, IsVoteAt, chooses, is_vote_written, vote_value_at, written_value}

@@ -6,10 +6,10 @@ use Rattle.std.specs.List.Sorted.{IsPermutation}
 use Rattle.cx_base.specs.Grid.{Shape}
 use Rattle.cx_base.specs.Round.{no_round}
 use Rattle.cx_base.specs.declared.round.Round.{Round}
-use Rattle.cx_msg.specs.declared.kept.Record.TheVariants as kept
-use Rattle.cx_msg.specs.declared.input.KeptRecord.{KeptRecord}
-use Rattle.cx_msg.specs.declared.input.Written.{Written}
-use Rattle.cx_msg.specs.declared.input.Written.TheVariants as written
+use Rattle.cx_letter.specs.declared.kept.Record.TheVariants as kept
+use Rattle.cx_letter.specs.declared.input.KeptRecord.{KeptRecord}
+use Rattle.cx_letter.specs.declared.input.Written.{Written}
+use Rattle.cx_letter.specs.declared.input.Written.TheVariants as written
 use Rattle.cx_choice.specs.OfRound.{IsByRound}
 use Rattle.cx_choice.specs.declared.of_round.OfRound.{OfRound}
 

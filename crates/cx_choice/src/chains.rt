@@ -6,7 +6,7 @@ ghost use Rattle.cx_choice.specs.Sorted.{slot_voted, votes_of};
 
 use cx_base::NoMemory;
 use cx_history::Kept;
-use cx_msg::{KeptRecord, Record, Written};
+use cx_letter::{KeptRecord, Record, Written};
 use std::alloc::Global;
 
 /// Of each slot the number of the first record with a vote in it, and of each record the number of the next one with a vote in

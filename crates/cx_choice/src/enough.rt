@@ -14,7 +14,7 @@ ghost use Rattle.cx_choice.specs.Sorted.{IsCast, casts_in};
 use crate::of_round::{OfRound, in_round};
 use cx_base::{Grid, Kind, RoleId, Round, Value, same_value};
 use cx_grid::meet;
-use cx_msg::{KeptRecord, Record, Written};
+use cx_letter::{KeptRecord, Record, Written};
 
 fn is_vote(of: Round, at: u64, wanted: &Value, what: &Written) -> bool
     ensures { result ≡ is_vote of at wanted.now what.now }

@@ -6,7 +6,7 @@ ghost use Rattle.cx_choice.specs.Prefix.{IsVoteAt, is_vote_written, vote_value_a
 
 use cx_base::{NoMemory, Value};
 use cx_history::Kept;
-use cx_msg::{Record, Written};
+use cx_letter::{Record, Written};
 use std::marker::Model;
 
 /// The values chosen in slot 0, 1 and so on, up to the first slot without one. What is held of each is the number of a vote's

@@ -7,7 +7,7 @@ ghost use Rattle.cx_choice.specs.Sorted.{AreCast, AreRounds, IsCast, begun_by, c
 use crate::of_round::{OfRound, sort};
 use cx_base::{Grid, NoMemory, Round};
 use cx_history::Kept;
-use cx_msg::{KeptRecord, Record, Written};
+use cx_letter::{KeptRecord, Record, Written};
 use std::alloc::Global;
 
 // Puts the round of a change and its grid after others, if it is a record of a round's begin.

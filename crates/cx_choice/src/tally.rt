@@ -11,7 +11,7 @@ use crate::enough::is_enough;
 use crate::of_round::OfRound;
 use crate::rounds::by_round;
 use cx_base::{Grid, NoMemory, Round, Value, same_value};
-use cx_msg::{KeptRecord, Record, Written};
+use cx_letter::{KeptRecord, Record, Written};
 use std::alloc::Global;
 
 fn is_value_among(values: &[&Value], wanted: &Value) -> bool

@@ -20,9 +20,9 @@ use Rattle.cx_model.specs.Member.{Member}
 use Rattle.cx_model.specs.Names.{names}
 use Rattle.cx_model.specs.Outcome.{by_test}
 use Rattle.cx_model.specs.Request.{request}
-use Rattle.cx_msg.specs.Letter.{Letter}
-use Rattle.cx_msg.specs.declared.message.Msg.{Msg}
-use Rattle.cx_msg.specs.declared.message.Msg.TheVariants as msg
+use Rattle.cx_letter.specs.Letter.{Letter}
+use Rattle.cx_letter.specs.declared.message.Msg.{Msg}
+use Rattle.cx_letter.specs.declared.message.Msg.TheVariants as msg
 use Rattle.cx_script.specs.Names.{names_event}
 use Rattle.cx_script.specs.Requests.{IsScript, asks, number_of, rise_above}
 use Rattle.cx_client.specs.Client.{ClientMoved, ClientState, IsClient, Moves, answer_number, client_completes, client_hears, client_opened, client_start, client_takes, client_ticks, client_told, client_waits, after_completion, hearing, is_finished, left, client_stays}

@@ -12,9 +12,9 @@ use Rattle.cx_client.specs.Window.{floor_for, has_number, is_outstanding, newly,
 use Rattle.cx_field.specs.Fields.{mark}
 use Rattle.cx_model.specs.Heard.{mark_told}
 use Rattle.cx_model.specs.Names.{names}
-use Rattle.cx_msg.specs.Letter.{Letter}
-use Rattle.cx_msg.specs.declared.message.Msg.{Msg}
-use Rattle.cx_msg.specs.declared.message.Msg.TheVariants as msg
+use Rattle.cx_letter.specs.Letter.{Letter}
+use Rattle.cx_letter.specs.declared.message.Msg.{Msg}
+use Rattle.cx_letter.specs.declared.message.Msg.TheVariants as msg
 use Rattle.cx_script.specs.Requests.{IsScript, asks}
 
 -- A client, its requests, how many of them are completed, how many of the others may be outstanding at a time, and the greatest number

@@ -9,9 +9,9 @@ use Rattle.cx_model.specs.Heard.{mark_told}
 use Rattle.cx_model.specs.Member.{Member}
 use Rattle.cx_model.specs.Names.{names}
 use Rattle.cx_model.specs.Request.{request}
-use Rattle.cx_msg.specs.Letter.{Letter}
-use Rattle.cx_msg.specs.declared.message.Msg.{Msg}
-use Rattle.cx_msg.specs.declared.message.Msg.TheVariants as msg
+use Rattle.cx_letter.specs.Letter.{Letter}
+use Rattle.cx_letter.specs.declared.message.Msg.{Msg}
+use Rattle.cx_letter.specs.declared.message.Msg.TheVariants as msg
 use Rattle.cx_script.specs.Requests.{number_of}
 
 -- all datagrams are from this client, with their names in the cluster

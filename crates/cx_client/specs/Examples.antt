@@ -9,9 +9,9 @@ use Rattle.cx_base.specs.declared.command.Reply.TheVariants.{Absent}
 use Rattle.cx_base.specs.declared.role.Kind.TheVariants.{Client, Replica, Unbatcher}
 use Rattle.cx_base.specs.Role.{role}
 use Rattle.cx_model.specs.Examples.{one_of_each}
-use Rattle.cx_msg.specs.Letter.{Letter, letter}
-use Rattle.cx_msg.specs.declared.message.Msg.{Msg}
-use Rattle.cx_msg.specs.declared.message.Msg.TheVariants as msg
+use Rattle.cx_letter.specs.Letter.{Letter, letter}
+use Rattle.cx_letter.specs.declared.message.Msg.{Msg}
+use Rattle.cx_letter.specs.declared.message.Msg.TheVariants as msg
 use Rattle.cx_client.specs.Client.{ClientState, client_hears, client_opened, client_start, client_takes, client_ticks}
 
 -- the request of a number

@@ -12,7 +12,7 @@ ghost use Rattle.cx_script.specs.Requests.{IsScript, number_of};
 use crate::sending::send_outstanding;
 use crate::window::{first_of, number_of, outstanding, request_place};
 use cx_base::{Cluster, Event, Kind, NoMemory, RoleId, Why};
-use cx_msg::{Datagram, Msg};
+use cx_letter::{Datagram, Msg};
 use cx_role::{Outbox, is_for};
 use std::marker::Model;
 

@@ -12,7 +12,7 @@ ghost use Rattle.cx_client.specs.Window.{floor_for, outstanding};
 ghost use Rattle.cx_field.specs.Fields as field;
 ghost use Rattle.cx_model.specs.Heard.{mark_told};
 ghost use Rattle.cx_model.specs.Member.{Member};
-ghost use Rattle.cx_msg.specs.Letter.{Letter};
+ghost use Rattle.cx_letter.specs.Letter.{Letter};
 ghost use Rattle.cx_script.specs.Requests.{IsScript, number_of};
 
 /// A law: a client with a script of its own stays one, at datagrams that tell of no more values than a list has.

@@ -9,13 +9,13 @@ ghost use Rattle.cx_base.specs.declared.role.Kind.TheVariants as kind;
 ghost use Rattle.cx_client.specs.Window.{floor_for, outstanding, request_letters, event_with_floor};
 ghost use Rattle.cx_field.specs.Fields as field;
 ghost use Rattle.cx_model.specs.Request.{request};
-ghost use Rattle.cx_msg.specs.declared.message.Msg.TheVariants as msg;
-ghost use Rattle.cx_msg.specs.Letter.{letter};
+ghost use Rattle.cx_letter.specs.declared.message.Msg.TheVariants as msg;
+ghost use Rattle.cx_letter.specs.Letter.{letter};
 ghost use Rattle.cx_script.specs.Requests.{number_of, rise_above};
 
 use crate::window::{first_of, number_of, outstanding};
 use cx_base::{Command, Event, Op};
-use cx_msg::{Datagram, read_req, sess_read, submit};
+use cx_letter::{Datagram, read_req, sess_read, submit};
 use cx_role::Outbox;
 
 // A command for a batcher; its numbers are taken by value, so that their range is known.

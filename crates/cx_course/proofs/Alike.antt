@@ -17,8 +17,8 @@ use Rattle.cx_model.specs.Replica.{replica_rules}
 use Rattle.cx_model.specs.Rules.{Rules, Running, folded}
 use Rattle.cx_model.specs.Unbatcher.{unbatcher_rules}
 use Rattle.cx_model.specs.World.{World, durable_part, kept_by}
-use Rattle.cx_msg.specs.Letter.{Letter}
-use Rattle.cx_msg.specs.declared.input.Written.{Written}
+use Rattle.cx_letter.specs.Letter.{Letter}
+use Rattle.cx_letter.specs.declared.input.Written.{Written}
 use Rattle.cx_course.specs.Hosted.{Hosted, ClientAt, BatcherAt, LeaderAt, ProxyAt, AcceptorAt, MatchmakerAt, ReplicaAt, UnbatcherAt, ReaderAt, ReplacerAt, name_of}
 use Rattle.cx_course.proofs.Asker.{IsAsker, IsTraced, SparesClient, still_asks}
 

@@ -15,7 +15,7 @@ use Rattle.cx_model.specs.Member.{Member}
 use Rattle.cx_model.specs.Names.{names_role}
 use Rattle.cx_model.specs.Request.{token_of, was_sent}
 use Rattle.cx_model.specs.World.{World, start}
-use Rattle.cx_msg.specs.Letter.{Letter}
+use Rattle.cx_letter.specs.Letter.{Letter}
 use Rattle.cx_record.specs.Readable.{IsRecordable}
 use Rattle.cx_script.specs.Requests.{number_of, rise_above}
 use Rattle.cx_course.specs.Alike.{IsFreshClient}

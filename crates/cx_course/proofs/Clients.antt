@@ -21,8 +21,8 @@ use Rattle.cx_model.specs.Member.{Member}
 use Rattle.cx_model.specs.Names.{names_role}
 use Rattle.cx_model.specs.Promises.{DeliversOneOf}
 use Rattle.cx_model.specs.World.{World, run_from, step}
-use Rattle.cx_msg.specs.Letter.{Letter}
-use Rattle.cx_msg.specs.declared.input.Input.TheVariants as input
+use Rattle.cx_letter.specs.Letter.{Letter}
+use Rattle.cx_letter.specs.declared.input.Input.TheVariants as input
 use Rattle.cx_record.specs.Readable.{IsRecordable}
 use Rattle.cx_script.specs.Requests.{asks, number_of}
 use Rattle.cx_course.specs.declared.doing.Doing.{Doing}

@@ -21,10 +21,10 @@ use Rattle.cx_model.specs.Lists.{number_itself, role_from_parts, same_role-itsel
 use Rattle.cx_model.specs.Member.{Member}
 use Rattle.cx_model.specs.Names.{names_role}
 use Rattle.cx_model.specs.World.{World, act_at, come, run_from}
-use Rattle.cx_msg.specs.Letter.{Letter}
-use Rattle.cx_msg.specs.declared.input.Act.TheVariants as act
-use Rattle.cx_msg.specs.declared.input.Input.{Input}
-use Rattle.cx_msg.specs.declared.input.Input.TheVariants as input
+use Rattle.cx_letter.specs.Letter.{Letter}
+use Rattle.cx_letter.specs.declared.input.Act.TheVariants as act
+use Rattle.cx_letter.specs.declared.input.Input.{Input}
+use Rattle.cx_letter.specs.declared.input.Input.TheVariants as input
 use Rattle.cx_record.specs.Readable.{HasGrid, IsRecordable, tells_all}
 use Rattle.cx_script.specs.Names.{names_order}
 use Rattle.cx_script.specs.Names as script

@@ -16,9 +16,9 @@ use Rattle.cx_model.specs.Lists.{by_role, differ_role, get_set_other, get_set_sa
 use Rattle.cx_model.specs.Member.{Member}
 use Rattle.cx_model.specs.Promises.{DeliversOneOf}
 use Rattle.cx_model.specs.World.{World, change, kept_by, run, run_from, start}
-use Rattle.cx_msg.specs.Letter.{Letter}
-use Rattle.cx_msg.specs.declared.input.Written.{Written}
-use Rattle.cx_msg.specs.declared.kept.Record.{Record}
+use Rattle.cx_letter.specs.Letter.{Letter}
+use Rattle.cx_letter.specs.declared.input.Written.{Written}
+use Rattle.cx_letter.specs.declared.kept.Record.{Record}
 use Rattle.cx_promises.proofs.Lawful.{lawful}
 use Rattle.cx_record.specs.Numbers.{most_lines}
 use Rattle.cx_record.specs.Readable.{IsRecordable}

@@ -18,7 +18,7 @@ use Rattle.cx_model.specs.Member.{Member}
 use Rattle.cx_model.specs.Names.{names_role}
 use Rattle.cx_model.specs.Request.{token_of}
 use Rattle.cx_model.specs.World.{World, Change, change, come, world_after}
-use Rattle.cx_msg.specs.Letter.{Letter}
+use Rattle.cx_letter.specs.Letter.{Letter}
 use Rattle.cx_course.proofs.Asker.{IsTraced, SparesClient}
 
 -- ---- what is delivered had been sent

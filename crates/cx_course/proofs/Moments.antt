@@ -8,9 +8,9 @@ use Rattle.std.proofs.lemmas.Option.{none-some, same_Some}
 use Rattle.cx_base.specs.declared.cluster.Cluster.{Cluster}
 use Rattle.cx_base.specs.declared.event.Event.{Event}
 use Rattle.cx_inv_open.specs.Reopened.{stored_as}
-use Rattle.cx_keeper.specs.Keeper.{KeeperChange}
+use Rattle.cx_keep.specs.Keeper.{KeeperChange}
 use Rattle.cx_model.specs.World.{run}
-use Rattle.cx_msg.specs.declared.input.Written.{Written}
+use Rattle.cx_letter.specs.declared.input.Written.{Written}
 use Rattle.cx_record.specs.Lines.{events_text}
 use Rattle.cx_record.specs.Numbers.{Recorded, most_lines}
 use Rattle.cx_course.specs.declared.doing.Doing.{Doing}

@@ -3,7 +3,7 @@ use Rattle.std.proofs.Common.{◌≡◌, ℕ, List, [], ◌∷◌, ◌++◌, map
 use Rattle.std.specs.List.{flat_map}
 use Rattle.std.proofs.lemmas.Grind.{flat_map-append}
 use Rattle.cx_base.specs.declared.event.Event.{Event}
-use Rattle.cx_msg.specs.Letter.{Letter}
+use Rattle.cx_letter.specs.Letter.{Letter}
 use Rattle.cx_course.specs.Action.{Action, Answered, Kept, Noted, Printed, Sent, answered_by, answered_in, kept_as, kept_in, noted_by, noted_in, sent_by, sent_in, step_actions}
 use Rattle.cx_course.specs.Changing.{StoreChange}
 

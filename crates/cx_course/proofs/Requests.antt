@@ -18,7 +18,7 @@ use Rattle.cx_model.specs.Member.{Member}
 use Rattle.cx_model.specs.Names.{names_role}
 use Rattle.cx_model.specs.Request.{request, token_of}
 use Rattle.cx_model.specs.World.{World, Change, ask, change, world_after, run_from, step}
-use Rattle.cx_msg.specs.Letter.{Letter}
+use Rattle.cx_letter.specs.Letter.{Letter}
 use Rattle.cx_course.proofs.Asker.{IsAsker, IsTold, IsTraced, SparesClient}
 use Rattle.cx_course.proofs.Hearing.{heard_still, traced_behind}
 use Rattle.cx_course.proofs.Scripts.{Mine, Out, dropped, its_token, not_stale}

@@ -14,7 +14,7 @@ use Rattle.cx_inv_run.specs.States.{State, BatcherIn, LeaderIn, ProxyIn, Replica
 use Rattle.cx_inv_run.proofs.Senders.{acceptor_kinds, batcher_kinds, matchmaker_kinds, proxy_kinds, reader_kinds, replica_kinds, unbatcher_kinds}
 use Rattle.cx_inv_run.proofs.LeaderSenders.{leader_kinds, replacer_kinds}
 use Rattle.cx_inv_run.proofs.Steps.{Place, batchers, leaders, proxies, acceptors, matchmakers, replicas, unbatchers, readers, replacers}
-use Rattle.cx_keeper.specs.Keeper.{Append, Renewal}
+use Rattle.cx_keep.specs.Keeper.{Append, Renewal}
 use Rattle.cx_model.specs.Acceptor.{acceptor_rules}
 use Rattle.cx_model.specs.Batcher.{batcher_rules}
 use Rattle.cx_model.specs.Leader.{leader_rules}
@@ -30,14 +30,14 @@ use Rattle.cx_model.specs.Replica.{ReplicaDurable, ReplicaVolatile, replica_rene
 use Rattle.cx_model.specs.Rules.{Rules, Running, folded, folded_from, outcome_of, running_after, with_kept}
 use Rattle.cx_model.specs.Unbatcher.{unbatcher_rules}
 use Rattle.cx_model.specs.World.{World, Roles, act_at, act_of, change, changed, durable_part, kept_by, list_of, run_from, step, turn_at}
-use Rattle.cx_msg.specs.Letter.{Letter}
-use Rattle.cx_msg.specs.declared.input.Act.{Act}
-use Rattle.cx_msg.specs.declared.input.Act.TheVariants as act
-use Rattle.cx_msg.specs.declared.input.Input.{Input}
-use Rattle.cx_msg.specs.declared.input.KeptRecord.{KeptRecord}
-use Rattle.cx_msg.specs.declared.input.Written.{Written}
-use Rattle.cx_msg.specs.declared.input.Written.TheVariants as written
-use Rattle.cx_msg.specs.declared.kept.Record.{Record}
+use Rattle.cx_letter.specs.Letter.{Letter}
+use Rattle.cx_letter.specs.declared.input.Act.{Act}
+use Rattle.cx_letter.specs.declared.input.Act.TheVariants as act
+use Rattle.cx_letter.specs.declared.input.Input.{Input}
+use Rattle.cx_letter.specs.declared.input.KeptRecord.{KeptRecord}
+use Rattle.cx_letter.specs.declared.input.Written.{Written}
+use Rattle.cx_letter.specs.declared.input.Written.TheVariants as written
+use Rattle.cx_letter.specs.declared.kept.Record.{Record}
 use Rattle.cx_role.specs.Snap.{snapped_by}
 use Rattle.cx_course.specs.Changing.{change_for, changed_by}
 use Rattle.cx_course.specs.Hosted.{Hosted, ClientAt, BatcherAt, LeaderAt, ProxyAt, AcceptorAt, MatchmakerAt, ReplicaAt, UnbatcherAt, ReaderAt, ReplacerAt, Step, by_row, by_snap, given, name_of, snap_of}

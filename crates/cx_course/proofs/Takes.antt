@@ -27,11 +27,11 @@ use Rattle.cx_model.specs.Names.{names, names_body, names_role}
 use Rattle.cx_model.specs.Request.{token_of}
 use Rattle.cx_model.specs.World.{World, Change, act_of, change, world_after, nothing, step}
 use Rattle.cx_field.specs.declared.parts.Token.{Token}
-use Rattle.cx_msg.specs.Letter.{Letter}
-use Rattle.cx_msg.specs.declared.input.Act.TheVariants.{Give}
-use Rattle.cx_msg.specs.declared.input.Input.TheVariants as input
-use Rattle.cx_msg.specs.declared.message.Msg.{Msg}
-use Rattle.cx_msg.specs.declared.message.Msg.TheVariants as msg
+use Rattle.cx_letter.specs.Letter.{Letter}
+use Rattle.cx_letter.specs.declared.input.Act.TheVariants.{Give}
+use Rattle.cx_letter.specs.declared.input.Input.TheVariants as input
+use Rattle.cx_letter.specs.declared.message.Msg.{Msg}
+use Rattle.cx_letter.specs.declared.message.Msg.TheVariants as msg
 use Rattle.cx_script.specs.Requests.{number_of}
 use Rattle.cx_course.proofs.Asker.{IsAsker, IsTold, IsTraced, SparesClient, unheard}
 use Rattle.cx_course.proofs.Hearing.{IsThere, heard_then, is_there, spares, told_other, traced_behind}

@@ -21,12 +21,12 @@ use Rattle.cx_model.specs.Request.{token_of}
 use Rattle.cx_model.specs.Rules.{Rules, Running}
 use Rattle.cx_model.specs.Turn.{Turn, snap_turn, turn, turn_with}
 use Rattle.cx_model.specs.World.{World, Roles, Change, Turns, act_at, act_of, change, changed, durable_part, kept_by, world_after, step, turn_at, turn_done}
-use Rattle.cx_msg.specs.Letter.{Letter}
-use Rattle.cx_msg.specs.declared.input.Act.{Act}
-use Rattle.cx_msg.specs.declared.input.KeptRecord.{KeptRecord}
-use Rattle.cx_msg.specs.declared.input.Written.{Written}
-use Rattle.cx_msg.specs.declared.input.Written.TheVariants as written
-use Rattle.cx_msg.specs.declared.kept.Record.{Record}
+use Rattle.cx_letter.specs.Letter.{Letter}
+use Rattle.cx_letter.specs.declared.input.Act.{Act}
+use Rattle.cx_letter.specs.declared.input.KeptRecord.{KeptRecord}
+use Rattle.cx_letter.specs.declared.input.Written.{Written}
+use Rattle.cx_letter.specs.declared.input.Written.TheVariants as written
+use Rattle.cx_letter.specs.declared.kept.Record.{Record}
 use Rattle.cx_course.proofs.Alike.{IsRole, Moves, Spares}
 use Rattle.cx_course.proofs.Asker.{IsTraced}
 use Rattle.cx_course.proofs.Hearing.{IsThere, is_there, spares, traced_behind}

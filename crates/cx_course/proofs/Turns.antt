@@ -19,8 +19,9 @@ use Rattle.cx_model.specs.Lists.{same_role-true}
 use Rattle.cx_model.specs.Outcome.{either_way}
 use Rattle.cx_model.specs.Rules.{Running}
 use Rattle.cx_model.specs.World.{World, run}
-use Rattle.cx_msg.specs.Letter.{Letter, spelling}
-use Rattle.cx_msg.specs.declared.input.Input.TheVariants as input
+use Rattle.cx_letter.specs.Letter.{Letter}
+use Rattle.cx_msg.specs.Datagrams.{spelling}
+use Rattle.cx_letter.specs.declared.input.Input.TheVariants as input
 use Rattle.cx_record.specs.Numbers.{Numbered, last_from, last_sent, numbered, or_else}
 use Rattle.cx_course.specs.declared.doing.Doing.{Doing}
 use Rattle.cx_course.specs.declared.doing.Doing.TheVariants.{Begin, Give, Snap}

@@ -9,9 +9,9 @@ use Rattle.cx_inv_open.specs.Reopened.{stored_as}
 use Rattle.cx_model.specs.Member.{Member}
 use Rattle.cx_model.specs.Promises.{DeliversOneOf}
 use Rattle.cx_model.specs.World.{change, kept_by, run, start}
-use Rattle.cx_msg.specs.Letter.{Letter}
-use Rattle.cx_msg.specs.declared.input.Written.{Written}
-use Rattle.cx_msg.specs.declared.kept.Record.{Record}
+use Rattle.cx_letter.specs.Letter.{Letter}
+use Rattle.cx_letter.specs.declared.input.Written.{Written}
+use Rattle.cx_letter.specs.declared.kept.Record.{Record}
 use Rattle.cx_promises.specs.Lawful.{IsLawful}
 use Rattle.cx_record.specs.Readable.{AreRead}
 

@@ -4,10 +4,10 @@ use Rattle.std.specs.Option.{option_map}
 use Rattle.cx_base.specs.declared.role.Kind.{Kind}
 use Rattle.cx_base.specs.declared.role.Kind.TheVariants as kind
 use Rattle.cx_base.specs.declared.role.RoleId.{RoleId}
-use Rattle.cx_msg.specs.Letter.{Letter}
-use Rattle.cx_msg.specs.declared.input.Input.{Input}
-use Rattle.cx_msg.specs.declared.input.Input.TheVariants as input
-use Rattle.cx_keeper.specs.Keeper.{Append, Renewal}
+use Rattle.cx_letter.specs.Letter.{Letter}
+use Rattle.cx_letter.specs.declared.input.Input.{Input}
+use Rattle.cx_letter.specs.declared.input.Input.TheVariants as input
+use Rattle.cx_keep.specs.Keeper.{Append, Renewal}
 use Rattle.cx_client.specs.Client.{ClientState, ClientMoved, client_start, client_takes, client_ticks}
 use Rattle.cx_model.specs.Acceptor.{AcceptorDurable, acceptor_rules}
 use Rattle.cx_model.specs.Batcher.{BatcherVolatile, batcher_rules}

@@ -13,9 +13,9 @@ use Rattle.cx_base.specs.Lists.{numbers}
 use Rattle.cx_base.specs.Role.{role, same_role}
 use Rattle.cx_client.specs.Client.{is_finished}
 use Rattle.cx_msg.specs.Decoding.{decoded}
-use Rattle.cx_msg.specs.Letter.{Letter}
+use Rattle.cx_letter.specs.Letter.{Letter}
 use Rattle.cx_msg.specs.declared.fault.WireFault.{WireFault}
-use Rattle.cx_msg.specs.declared.input.Input.TheVariants as input
+use Rattle.cx_letter.specs.declared.input.Input.TheVariants as input
 use Rattle.cx_course.specs.declared.doing.Doing.{Doing}
 use Rattle.cx_course.specs.declared.doing.Doing.TheVariants.{Begin, Give, Snap}
 use Rattle.cx_course.specs.Course.{Course, Moved, does_at, is_a, stays, then_do, took}

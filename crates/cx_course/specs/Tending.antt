@@ -14,7 +14,7 @@ use Rattle.cx_leader.specs.Tending.{can_collect, has_heard, has_open, is_new_lea
 use Rattle.cx_model.specs.Leader.{LeaderDurable, LeaderVolatile, is_idle}
 use Rattle.cx_model.specs.Replica.{held}
 use Rattle.cx_model.specs.Rules.{Running}
-use Rattle.cx_msg.specs.declared.input.Input.TheVariants as input
+use Rattle.cx_letter.specs.declared.input.Input.TheVariants as input
 use Rattle.cx_course.specs.declared.doing.Doing.TheVariants.{Begin, Give}
 use Rattle.cx_course.specs.declared.standing.Standing.{Standing}
 use Rattle.cx_course.specs.Hosted.{Hosted, ClientAt, LeaderAt, ReplicaAt, name_of}

@@ -1,6 +1,6 @@
 //! What a hosted role is asked to do.
 
-use cx_msg::Input;
+use cx_letter::Input;
 
 /// What a hosted role is asked to do.
 #[derive(Drop)]

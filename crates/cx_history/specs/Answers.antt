@@ -1,8 +1,8 @@
 -- Datagrams that answer a client.
 use Rattle.std.specs.Prelude.{ℕ, Bool, true, false, List, filter, length}
-use Rattle.cx_msg.specs.Letter.{Letter}
-use Rattle.cx_msg.specs.declared.message.Msg.{Msg}
-use Rattle.cx_msg.specs.declared.message.Msg.TheVariants.{Answer, ReadAnswer}
+use Rattle.cx_letter.specs.Letter.{Letter}
+use Rattle.cx_letter.specs.declared.message.Msg.{Msg}
+use Rattle.cx_letter.specs.declared.message.Msg.TheVariants.{Answer, ReadAnswer}
 
 abbrev pub is_answer : Msg → Bool
 is_answer (Answer seq at reply) = true

@@ -1,6 +1,6 @@
 -- The datagrams that were sent, as they are held.
 use Rattle.std.specs.Prelude.{◌≡◌, ℕ, List, map, All}
-use Rattle.cx_msg.specs.Letter.{Letter}
+use Rattle.cx_letter.specs.Letter.{Letter}
 use Rattle.cx_msg.specs.Spelled.{IsShort, letter_of}
 use Rattle.cx_history.specs.Answers.{answers_in, read_answers_in}
 

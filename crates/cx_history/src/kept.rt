@@ -2,12 +2,13 @@
 
 ghost use Rattle.std.specs.Prelude.{◌≡◌, ◌≤◌, ◌<◌, ◌^◌, ◌++◌, ◌∷◌, [], All, IfOk, OnOk, OnErr, IsTrue, Ok, Some, length, slice_get};
 ghost use Rattle.byteorder.specs.Endian.{big_bytes};
-ghost use Rattle.cx_msg.specs.Records.{record_of_bytes};
+ghost use Rattle.cx_msg.specs.RecordBytes.{record_of_bytes};
 ghost use Rattle.cx_history.specs.Kept.{IsChangePiece, AreKeptPieces, HasU64Slot, change_fits, change_in, changes_in, holds_slot, kept_with_roles, piece_of, record_in, slot_in};
 
 use byteorder::{BigEndian, ByteOrder};
 use cx_base::{NoMemory, RoleId};
-use cx_msg::{KeptRecord, Record, WireFault, Written, record_from, record_into};
+use cx_letter::{KeptRecord, Record, Written};
+use cx_msg::{WireFault, record_from, record_into};
 use cx_pieces::Pieces;
 use cx_wire::put_u64;
 use std::alloc::Global;
@@ -27,7 +28,7 @@ pub struct Kept {
 
 impl Model for Kept {
     ghost use Rattle.std.specs.Prelude.{List};
-    ghost use Rattle.cx_msg.specs.declared.input.KeptRecord.{KeptRecord};
+    ghost use Rattle.cx_letter.specs.declared.input.KeptRecord.{KeptRecord};
     ghost use Rattle.cx_history.specs.Kept.{AreKeptPieces, changes_in, kept_with_roles};
 
     ghost Value = { List KeptRecord };

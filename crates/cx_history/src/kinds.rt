@@ -3,7 +3,7 @@
 ghost use Rattle.std.specs.Prelude.{◌≡◌};
 ghost use Rattle.cx_history.specs.Answers.{is_answer, is_read_answer};
 
-use cx_msg::{Datagram, Msg};
+use cx_letter::{Datagram, Msg};
 
 /// Whether a datagram answers a command.
 pub fn is_answer(datagram: &Datagram) -> bool

@@ -9,7 +9,7 @@ use crate::kinds::{is_answer, is_read_answer};
 use crate::short::{put_datagram, read_datagram, shared};
 use bytes::Bytes;
 use cx_base::NoMemory;
-use cx_msg::Datagram;
+use cx_letter::Datagram;
 use cx_pieces::Pieces;
 use std::alloc::Global;
 use std::marker::Model;
@@ -28,7 +28,7 @@ pub struct Sent {
 
 impl Model for Sent {
     ghost use Rattle.std.specs.Prelude.{List};
-    ghost use Rattle.cx_msg.specs.Letter.{Letter};
+    ghost use Rattle.cx_letter.specs.Letter.{Letter};
     ghost use Rattle.cx_history.specs.Short.{AreSentPieces, letters_of};
 
     ghost Value = { List Letter };

@@ -1,13 +1,14 @@
 //! Datagrams as pieces of bytes.
 
 ghost use Rattle.std.specs.Prelude.{◌≡◌, ◌<◌, ◌++◌, ◌∷◌, [], All, Some, IfOk, OnOk, OnErr, IsTrue, length, slice_get};
-ghost use Rattle.cx_msg.specs.Letter.{fits};
+ghost use Rattle.cx_letter.specs.Letter.{fits};
 ghost use Rattle.cx_msg.specs.Spelled.{IsShort, letter_of};
 ghost use Rattle.cx_history.specs.Short.{letters_of};
 
 use bytes::Bytes;
 use cx_base::NoMemory;
-use cx_msg::{Datagram, Spelled, short_into};
+use cx_letter::Datagram;
+use cx_msg::{Spelled, short_into};
 use cx_pieces::Pieces;
 use std::alloc::Global;
 

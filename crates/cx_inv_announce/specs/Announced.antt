@@ -11,8 +11,8 @@ use Rattle.cx_base.specs.Grid.{Shape, is_in}
 use Rattle.cx_base.specs.Lists.{below}
 use Rattle.cx_base.specs.Role.{role}
 use Rattle.cx_grid.specs.Quorum.{column_of}
-use Rattle.cx_msg.specs.Letter.{Letter, letter}
-use Rattle.cx_msg.specs.declared.message.Msg.TheVariants as msg
+use Rattle.cx_letter.specs.Letter.{Letter, letter}
+use Rattle.cx_letter.specs.declared.message.Msg.TheVariants as msg
 use Rattle.cx_model.specs.Member.{Member}
 use Rattle.cx_model.specs.Promises.{Asks, KeepsAsking, DeliversOneOf}
 use Rattle.cx_model.specs.World.{World, change, step, run}

@@ -9,8 +9,8 @@ use Rattle.cx_base.specs.declared.role.RoleId.{RoleId}
 use Rattle.cx_base.specs.declared.round.Round.{Round}
 use Rattle.cx_base.specs.declared.why.Why.TheVariants as why
 use Rattle.cx_base.specs.Round.{change_after}
-use Rattle.cx_msg.specs.Letter.{letter}
-use Rattle.cx_msg.specs.declared.message.Msg.TheVariants as msg
+use Rattle.cx_letter.specs.Letter.{letter}
+use Rattle.cx_letter.specs.declared.message.Msg.TheVariants as msg
 use Rattle.cx_model.specs.Facts.{IsProposed}
 use Rattle.cx_model.specs.History.{finish_at}
 use Rattle.cx_model.specs.Leader.{leader_rules, round_of}

@@ -15,14 +15,14 @@ use Rattle.cx_base.specs.Grid.{is_in}
 use Rattle.cx_base.specs.Role.{role, same_role}
 use Rattle.cx_base.specs.Round.{is_before, same_round, no_round}
 use Rattle.cx_field.specs.declared.parts.Entry.{Entry}
-use Rattle.cx_msg.specs.Letter.{Letter}
-use Rattle.cx_msg.specs.declared.input.Input.{Input}
-use Rattle.cx_msg.specs.declared.input.Input.TheVariants as input
-use Rattle.cx_msg.specs.declared.input.KeptRecord.{KeptRecord}
-use Rattle.cx_msg.specs.declared.kept.Record.{Record}
-use Rattle.cx_msg.specs.declared.kept.Record.TheVariants as kept
-use Rattle.cx_msg.specs.declared.message.Msg.{Msg}
-use Rattle.cx_msg.specs.declared.message.Msg.TheVariants as msg
+use Rattle.cx_letter.specs.Letter.{Letter}
+use Rattle.cx_letter.specs.declared.input.Input.{Input}
+use Rattle.cx_letter.specs.declared.input.Input.TheVariants as input
+use Rattle.cx_letter.specs.declared.input.KeptRecord.{KeptRecord}
+use Rattle.cx_letter.specs.declared.kept.Record.{Record}
+use Rattle.cx_letter.specs.declared.kept.Record.TheVariants as kept
+use Rattle.cx_letter.specs.declared.message.Msg.{Msg}
+use Rattle.cx_letter.specs.declared.message.Msg.TheVariants as msg
 use Rattle.cx_model.specs.Acceptor.{AcceptorDurable, acceptor_rules, acceptor_takes, acceptor_row, vote_at, is_of_round}
 use Rattle.cx_model.specs.Leader.{leader_rules}
 use Rattle.cx_model.specs.Matchmaker.{MatchmakerDurable, matchmaker_rules, matchmaker_takes, matchmaker_row, entry, entries_before, has_round, is_stopped, is_booted, set_of, in_set, at_work, match_a_row, garbage_a_row, match_read_row, stop_a_row, next_a_row, boot_in}

@@ -15,9 +15,9 @@ use Rattle.cx_base.specs.Role.{role}
 use Rattle.cx_base.specs.Round.{no_round}
 use Rattle.cx_field.specs.declared.parts.NackReason.{NackReason}
 use Rattle.cx_field.specs.declared.parts.Vote.{Vote}
-use Rattle.cx_msg.specs.Letter.{Letter, letter}
-use Rattle.cx_msg.specs.declared.message.Msg.{Msg}
-use Rattle.cx_msg.specs.declared.message.Msg.TheVariants as msg
+use Rattle.cx_letter.specs.Letter.{Letter, letter}
+use Rattle.cx_letter.specs.declared.message.Msg.{Msg}
+use Rattle.cx_letter.specs.declared.message.Msg.TheVariants as msg
 use Rattle.cx_model.specs.Collection.{is_retired}
 use Rattle.cx_model.specs.Facts.{HasRound, IsFinished, has_recorded, round_in}
 use Rattle.cx_model.specs.Leader.{LeaderVolatile, count_reaching}

@@ -12,16 +12,16 @@ use Rattle.cx_base.specs.Fold.{commands_of}
 use Rattle.cx_base.specs.Role.{same_role}
 use Rattle.cx_base.specs.Round.{is_before, same_round}
 use Rattle.cx_field.specs.declared.parts.Vote.{Vote}
-use Rattle.cx_msg.specs.Letter.{Letter, letter}
-use Rattle.cx_msg.specs.declared.input.Input.{Input}
-use Rattle.cx_msg.specs.declared.input.Input.TheVariants.{Take, Tick, Order}
-use Rattle.cx_msg.specs.declared.input.KeptRecord.{KeptRecord}
-use Rattle.cx_msg.specs.declared.input.Written.{Written}
-use Rattle.cx_msg.specs.declared.input.Written.TheVariants as written
-use Rattle.cx_msg.specs.declared.kept.Record.{Record}
-use Rattle.cx_msg.specs.declared.kept.Record.TheVariants as kept
-use Rattle.cx_msg.specs.declared.message.Msg.{Msg}
-use Rattle.cx_msg.specs.declared.message.Msg.TheVariants as msg
+use Rattle.cx_letter.specs.Letter.{Letter, letter}
+use Rattle.cx_letter.specs.declared.input.Input.{Input}
+use Rattle.cx_letter.specs.declared.input.Input.TheVariants.{Take, Tick, Order}
+use Rattle.cx_letter.specs.declared.input.KeptRecord.{KeptRecord}
+use Rattle.cx_letter.specs.declared.input.Written.{Written}
+use Rattle.cx_letter.specs.declared.input.Written.TheVariants as written
+use Rattle.cx_letter.specs.declared.kept.Record.{Record}
+use Rattle.cx_letter.specs.declared.kept.Record.TheVariants as kept
+use Rattle.cx_letter.specs.declared.message.Msg.{Msg}
+use Rattle.cx_letter.specs.declared.message.Msg.TheVariants as msg
 use Rattle.cx_model.specs.Acceptor.{AcceptorDurable, acceptor_rules, acceptor_row, acceptor_takes, with_vote, votes_from_slot, vote_at, is_of_round}
 use Rattle.cx_model.specs.Batcher.{BatcherVolatile, batcher_row, batcher_takes, send_batch}
 use Rattle.cx_model.specs.Member.{Member}

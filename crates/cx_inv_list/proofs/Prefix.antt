@@ -9,10 +9,10 @@ use Rattle.cx_base.specs.declared.round.Round.{Round}
 use Rattle.cx_base.specs.Log.{before_following}
 use Rattle.cx_base.specs.Role.{role}
 use Rattle.cx_grid.specs.Quorum.{member_at}
-use Rattle.cx_msg.specs.declared.input.KeptRecord.{KeptRecord}
-use Rattle.cx_msg.specs.declared.input.Written.{Written}
-use Rattle.cx_msg.specs.declared.input.Written.TheVariants as written
-use Rattle.cx_msg.specs.declared.kept.Record.TheVariants as kept
+use Rattle.cx_letter.specs.declared.input.KeptRecord.{KeptRecord}
+use Rattle.cx_letter.specs.declared.input.Written.{Written}
+use Rattle.cx_letter.specs.declared.input.Written.TheVariants as written
+use Rattle.cx_letter.specs.declared.kept.Record.TheVariants as kept
 use Rattle.cx_model.specs.Chosen.{is_chosen, chosen_vote, first_chosen, chosen_at, prefix_from, chosen_prefix}
 use Rattle.cx_model.specs.Member.{Member, Begins}
 use Rattle.cx_model.specs.Outcome.{either_way, by_test}

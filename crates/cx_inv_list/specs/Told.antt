@@ -9,14 +9,14 @@ use Rattle.cx_base.specs.declared.role.RoleId.{RoleId}
 use Rattle.cx_base.specs.Fold.{commands_of, fold, text_at}
 use Rattle.cx_field.specs.declared.parts.Token.{Token}
 use Rattle.cx_field.specs.declared.parts.Vote.{Vote}
-use Rattle.cx_msg.specs.Letter.{Letter}
-use Rattle.cx_msg.specs.declared.input.KeptRecord.{KeptRecord}
-use Rattle.cx_msg.specs.declared.input.Written.{Written}
-use Rattle.cx_msg.specs.declared.input.Written.TheVariants as written
-use Rattle.cx_msg.specs.declared.kept.Record.{Record}
-use Rattle.cx_msg.specs.declared.kept.Record.TheVariants as kept
-use Rattle.cx_msg.specs.declared.message.Msg.{Msg}
-use Rattle.cx_msg.specs.declared.message.Msg.TheVariants as msg
+use Rattle.cx_letter.specs.Letter.{Letter}
+use Rattle.cx_letter.specs.declared.input.KeptRecord.{KeptRecord}
+use Rattle.cx_letter.specs.declared.input.Written.{Written}
+use Rattle.cx_letter.specs.declared.input.Written.TheVariants as written
+use Rattle.cx_letter.specs.declared.kept.Record.{Record}
+use Rattle.cx_letter.specs.declared.kept.Record.TheVariants as kept
+use Rattle.cx_letter.specs.declared.message.Msg.{Msg}
+use Rattle.cx_letter.specs.declared.message.Msg.TheVariants as msg
 use Rattle.cx_model.specs.declared.states.Deferred.{Deferred}
 use Rattle.cx_model.specs.declared.states.Pending.{Pending}
 use Rattle.cx_model.specs.declared.states.Promised.{Promised}

@@ -7,9 +7,9 @@ use Rattle.cx_base.specs.declared.role.RoleId.{RoleId}
 use Rattle.cx_base.specs.declared.round.Round.{Round}
 use Rattle.cx_base.specs.Round.{is_before}
 use Rattle.cx_field.specs.declared.parts.Vote.{Vote}
-use Rattle.cx_msg.specs.Letter.{Letter}
-use Rattle.cx_msg.specs.declared.input.KeptRecord.{KeptRecord}
-use Rattle.cx_msg.specs.declared.kept.Record.TheVariants as kept
+use Rattle.cx_letter.specs.Letter.{Letter}
+use Rattle.cx_letter.specs.declared.input.KeptRecord.{KeptRecord}
+use Rattle.cx_letter.specs.declared.kept.Record.TheVariants as kept
 use Rattle.cx_model.specs.Acceptor.{acceptor_rules, acceptor_after, with_vote, votes_from_slot}
 use Rattle.cx_model.specs.Facts.{HasVoted, IsProposed}
 use Rattle.cx_model.specs.Member.{Member}

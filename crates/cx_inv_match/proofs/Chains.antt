@@ -12,8 +12,8 @@ use Rattle.cx_base.specs.Role.{role}
 use Rattle.cx_base.specs.Round.{is_before}
 use Rattle.cx_base.specs.Sets.{is_above, is_rising}
 use Rattle.cx_field.specs.declared.parts.Entry.{Entry}
-use Rattle.cx_msg.specs.Letter.{Letter}
-use Rattle.cx_msg.specs.declared.input.KeptRecord.{KeptRecord}
+use Rattle.cx_letter.specs.Letter.{Letter}
+use Rattle.cx_letter.specs.declared.input.KeptRecord.{KeptRecord}
 use Rattle.cx_model.specs.Lists.{same_number}
 use Rattle.cx_model.specs.Matched.{first_set}
 use Rattle.cx_model.specs.Matchmaker.{entry}

@@ -7,9 +7,9 @@ use Rattle.cx_base.specs.declared.round.Round.{Round}
 use Rattle.cx_base.specs.Grid.{Shape}
 use Rattle.cx_base.specs.Round.{is_before}
 use Rattle.cx_field.specs.declared.parts.Entry.{Entry}
-use Rattle.cx_msg.specs.Letter.{Letter}
-use Rattle.cx_msg.specs.declared.input.KeptRecord.{KeptRecord}
-use Rattle.cx_msg.specs.declared.kept.Record.TheVariants as kept
+use Rattle.cx_letter.specs.Letter.{Letter}
+use Rattle.cx_letter.specs.declared.input.KeptRecord.{KeptRecord}
+use Rattle.cx_letter.specs.declared.kept.Record.TheVariants as kept
 use Rattle.cx_model.specs.Facts.{IsRetiring}
 use Rattle.cx_model.specs.Matchmaker.{matchmaker_rules, matchmaker_after, entry, entries_since}
 use Rattle.cx_model.specs.Promises.{IsConfig}

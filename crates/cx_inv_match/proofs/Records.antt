@@ -5,9 +5,9 @@ use Rattle.cx_base.specs.declared.round.Round.{Round}
 use Rattle.cx_base.specs.Grid.{Shape}
 use Rattle.cx_base.specs.Round.{is_before}
 use Rattle.cx_field.specs.declared.parts.Entry.{Entry}
-use Rattle.cx_msg.specs.Letter.{Letter}
-use Rattle.cx_msg.specs.declared.input.KeptRecord.{KeptRecord}
-use Rattle.cx_msg.specs.declared.kept.Record.{Record}
+use Rattle.cx_letter.specs.Letter.{Letter}
+use Rattle.cx_letter.specs.declared.input.KeptRecord.{KeptRecord}
+use Rattle.cx_letter.specs.declared.kept.Record.{Record}
 use Rattle.cx_inv_run.specs.States.{entry_by}
 use Rattle.cx_inv_match.specs.Words.{HasMatch, HasGarbage, HasBoot, HasLog, HasNext, HasBallot, HasStopped, IsUsed}
 use Rattle.cx_inv_match.proofs.Grow.{Grows}

@@ -7,8 +7,8 @@ use Rattle.cx_base.specs.declared.round.Round.{Round}
 use Rattle.cx_base.specs.Grid.{Shape}
 use Rattle.cx_base.specs.Round.{is_before}
 use Rattle.cx_field.specs.declared.parts.Entry.{Entry}
-use Rattle.cx_msg.specs.Letter.{Letter}
-use Rattle.cx_msg.specs.declared.input.KeptRecord.{KeptRecord}
+use Rattle.cx_letter.specs.Letter.{Letter}
+use Rattle.cx_letter.specs.declared.input.KeptRecord.{KeptRecord}
 use Rattle.cx_model.specs.Member.{Member}
 use Rattle.cx_inv_match.specs.Words.{HasMatch, HasBoot, HasNext, IsUsed, IsNextSet, IsBoot, IsMember, SetFacts}
 use Rattle.cx_inv_match.proofs.Grow.{Grows, grown_next, grown_boot, grown_member}

@@ -10,9 +10,9 @@ use Rattle.cx_base.specs.Grid.{Shape}
 use Rattle.cx_base.specs.Role.{role}
 use Rattle.cx_base.specs.Round.{is_before, no_round}
 use Rattle.cx_field.specs.declared.parts.Entry.{Entry}
-use Rattle.cx_msg.specs.Letter.{Letter}
-use Rattle.cx_msg.specs.declared.input.KeptRecord.{KeptRecord}
-use Rattle.cx_msg.specs.declared.kept.Record.TheVariants as kept
+use Rattle.cx_letter.specs.Letter.{Letter}
+use Rattle.cx_letter.specs.declared.input.KeptRecord.{KeptRecord}
+use Rattle.cx_letter.specs.declared.kept.Record.TheVariants as kept
 use Rattle.cx_model.specs.Matchmaker.{MatchmakerDurable, matchmaker_rules, matchmaker_after, entry}
 use Rattle.cx_model.specs.Member.{Member}
 use Rattle.cx_model.specs.Promises.{HasKept}

@@ -23,10 +23,10 @@ use Rattle.cx_base.specs.Lists.{rises}
 use Rattle.cx_base.specs.Noted.{are_rising, comes_before, floor_of, is_done, noted_for, still_noted, with_floor, with_note, with_told}
 use Rattle.cx_base.specs.Role.{role, same_role}
 use Rattle.cx_base.proofs.Used.{none_placed, same_client, turned_test}
-use Rattle.cx_msg.specs.declared.input.KeptRecord.{KeptRecord}
-use Rattle.cx_msg.specs.declared.input.Written.{Written}
-use Rattle.cx_msg.specs.declared.input.Written.TheVariants as written
-use Rattle.cx_msg.specs.declared.kept.Record.TheVariants as kept
+use Rattle.cx_letter.specs.declared.input.KeptRecord.{KeptRecord}
+use Rattle.cx_letter.specs.declared.input.Written.{Written}
+use Rattle.cx_letter.specs.declared.input.Written.TheVariants as written
+use Rattle.cx_letter.specs.declared.kept.Record.TheVariants as kept
 use Rattle.cx_model.specs.Names.{names_command, names_value}
 use Rattle.cx_model.specs.Ordered.{machine_ordered, answer_ordered, told_ordered}
 use Rattle.cx_model.specs.Renewed.{IsOrdered, IsRenewable, is_near, fits_told}

@@ -16,13 +16,13 @@ use Rattle.cx_base.specs.Round.{is_before, lead_after, same_round}
 use Rattle.cx_base.specs.Sets.{is_above}
 use Rattle.cx_field.specs.declared.parts.Entry.{Entry}
 use Rattle.cx_grid.specs.Quorum.{with_mark}
-use Rattle.cx_msg.specs.Letter.{Letter}
-use Rattle.cx_msg.specs.declared.input.Input.{Input}
-use Rattle.cx_msg.specs.declared.input.Input.TheVariants as input
-use Rattle.cx_msg.specs.declared.input.KeptRecord.{KeptRecord}
-use Rattle.cx_msg.specs.declared.kept.Record.TheVariants as kept
-use Rattle.cx_msg.specs.declared.message.Msg.{Msg}
-use Rattle.cx_msg.specs.declared.message.Msg.TheVariants as msg
+use Rattle.cx_letter.specs.Letter.{Letter}
+use Rattle.cx_letter.specs.declared.input.Input.{Input}
+use Rattle.cx_letter.specs.declared.input.Input.TheVariants as input
+use Rattle.cx_letter.specs.declared.input.KeptRecord.{KeptRecord}
+use Rattle.cx_letter.specs.declared.kept.Record.TheVariants as kept
+use Rattle.cx_letter.specs.declared.message.Msg.{Msg}
+use Rattle.cx_letter.specs.declared.message.Msg.TheVariants as msg
 use Rattle.cx_model.specs.declared.states.Replacing.{Replacing}
 use Rattle.cx_model.specs.declared.states.Replacing.TheVariants.{Idle, Stopping, Deciding, Booting}
 use Rattle.cx_model.specs.Lists.{number_itself}

@@ -10,7 +10,7 @@ use Rattle.cx_base.specs.declared.role.RoleId.{RoleId}
 use Rattle.cx_base.specs.declared.why.Why.TheVariants as why
 use Rattle.cx_base.specs.Role.{role, same_role}
 use Rattle.cx_field.specs.declared.parts.Token.{Token}
-use Rattle.cx_msg.specs.Letter.{Letter}
+use Rattle.cx_letter.specs.Letter.{Letter}
 use Rattle.cx_model.specs.Heard.{mark_told, heard_at, heard_by}
 use Rattle.cx_model.specs.Lists.{number_itself}
 use Rattle.cx_model.specs.Member.{Member}

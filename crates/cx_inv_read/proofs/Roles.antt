@@ -8,12 +8,12 @@ use Rattle.cx_base.specs.Grid.{Shape}
 use Rattle.cx_base.specs.Role.{role, same_role}
 use Rattle.cx_field.specs.declared.parts.Asking.{Asking}
 use Rattle.cx_field.specs.declared.parts.Token.{Token}
-use Rattle.cx_msg.specs.Letter.{Letter, letter}
-use Rattle.cx_msg.specs.declared.input.Input.{Input}
-use Rattle.cx_msg.specs.declared.input.Input.TheVariants as input
-use Rattle.cx_msg.specs.declared.input.KeptRecord.{KeptRecord}
-use Rattle.cx_msg.specs.declared.message.Msg.{Msg}
-use Rattle.cx_msg.specs.declared.message.Msg.TheVariants as msg
+use Rattle.cx_letter.specs.Letter.{Letter, letter}
+use Rattle.cx_letter.specs.declared.input.Input.{Input}
+use Rattle.cx_letter.specs.declared.input.Input.TheVariants as input
+use Rattle.cx_letter.specs.declared.input.KeptRecord.{KeptRecord}
+use Rattle.cx_letter.specs.declared.message.Msg.{Msg}
+use Rattle.cx_letter.specs.declared.message.Msg.TheVariants as msg
 use Rattle.cx_model.specs.Acceptor.{acceptor_rules, acceptor_row}
 use Rattle.cx_model.specs.Matchmaker.{entry, is_booted, is_stopped, matchmaker_rules, matchmaker_row}
 use Rattle.cx_model.specs.Member.{Member}

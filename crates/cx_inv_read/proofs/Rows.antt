@@ -15,16 +15,16 @@ use Rattle.cx_base.specs.Grid.{is_in}
 use Rattle.cx_base.specs.Lists.{below}
 use Rattle.cx_base.specs.Role.{role, same_role}
 use Rattle.cx_model.specs.Names.{names}
-use Rattle.cx_msg.specs.declared.input.Input.{Input}
-use Rattle.cx_msg.specs.declared.input.Input.TheVariants as input
+use Rattle.cx_letter.specs.declared.input.Input.{Input}
+use Rattle.cx_letter.specs.declared.input.Input.TheVariants as input
 use Rattle.cx_base.specs.Log.{ready_values}
 use Rattle.cx_base.specs.Sets.{is_above}
 use Rattle.cx_base.specs.Round.{is_before, same_round}
 use Rattle.cx_field.specs.declared.parts.Asking.{Asking}
 use Rattle.cx_field.specs.declared.parts.Entry.{Entry}
-use Rattle.cx_msg.specs.Letter.{Letter, letter}
-use Rattle.cx_msg.specs.declared.message.Msg.{Msg}
-use Rattle.cx_msg.specs.declared.message.Msg.TheVariants as msg
+use Rattle.cx_letter.specs.Letter.{Letter, letter}
+use Rattle.cx_letter.specs.declared.message.Msg.{Msg}
+use Rattle.cx_letter.specs.declared.message.Msg.TheVariants as msg
 use Rattle.cx_model.specs.declared.states.Deferred.{Deferred}
 use Rattle.cx_model.specs.Acceptor.{AcceptorDurable, is_of_round, vote_at, acceptor_takes}
 use Rattle.cx_model.specs.Matched.{is_counted, greatest_watermark, live_entries, is_member_of, members_of, rows_whole}

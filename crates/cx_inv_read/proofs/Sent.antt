@@ -9,11 +9,11 @@ use Rattle.cx_base.specs.declared.role.RoleId.{RoleId}
 use Rattle.cx_base.specs.declared.round.Round.{Round}
 use Rattle.cx_base.specs.Role.{role, same_role}
 use Rattle.cx_field.specs.declared.parts.Asking.{Asking}
-use Rattle.cx_msg.specs.Letter.{Letter, letter}
-use Rattle.cx_msg.specs.declared.input.Input.{Input}
-use Rattle.cx_msg.specs.declared.input.Input.TheVariants as input
-use Rattle.cx_msg.specs.declared.input.KeptRecord.{KeptRecord}
-use Rattle.cx_msg.specs.declared.message.Msg.TheVariants as msg
+use Rattle.cx_letter.specs.Letter.{Letter, letter}
+use Rattle.cx_letter.specs.declared.input.Input.{Input}
+use Rattle.cx_letter.specs.declared.input.Input.TheVariants as input
+use Rattle.cx_letter.specs.declared.input.KeptRecord.{KeptRecord}
+use Rattle.cx_letter.specs.declared.message.Msg.TheVariants as msg
 use Rattle.cx_model.specs.Acceptor.{acceptor_rules, acceptor_row}
 use Rattle.cx_model.specs.Facts.{HasVoted}
 use Rattle.cx_model.specs.Leader.{leader_rules}

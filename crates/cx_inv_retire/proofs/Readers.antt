@@ -16,13 +16,13 @@ use Rattle.cx_base.specs.Sets.{is_above}
 use Rattle.cx_field.specs.declared.parts.Asking.{Asking}
 use Rattle.cx_field.specs.declared.parts.Entry.{Entry}
 use Rattle.cx_field.specs.declared.parts.Token.{Token}
-use Rattle.cx_msg.specs.Letter.{Letter, letter}
-use Rattle.cx_msg.specs.declared.input.Input.{Input}
-use Rattle.cx_msg.specs.declared.input.Input.TheVariants as input
-use Rattle.cx_msg.specs.declared.input.KeptRecord.{KeptRecord}
-use Rattle.cx_msg.specs.declared.kept.Record.TheVariants as kept
-use Rattle.cx_msg.specs.declared.message.Msg.{Msg}
-use Rattle.cx_msg.specs.declared.message.Msg.TheVariants as msg
+use Rattle.cx_letter.specs.Letter.{Letter, letter}
+use Rattle.cx_letter.specs.declared.input.Input.{Input}
+use Rattle.cx_letter.specs.declared.input.Input.TheVariants as input
+use Rattle.cx_letter.specs.declared.input.KeptRecord.{KeptRecord}
+use Rattle.cx_letter.specs.declared.kept.Record.TheVariants as kept
+use Rattle.cx_letter.specs.declared.message.Msg.{Msg}
+use Rattle.cx_letter.specs.declared.message.Msg.TheVariants as msg
 use Rattle.cx_model.specs.declared.states.MatchAnswer.{MatchAnswer}
 use Rattle.cx_model.specs.Matched.{enough, is_counted, greatest_watermark, live_entries, is_member_of, members_of, rows_whole}
 use Rattle.cx_model.specs.Member.{Member}

@@ -9,10 +9,10 @@ use Rattle.cx_base.specs.declared.role.RoleId.{RoleId}
 use Rattle.cx_base.specs.declared.round.Round.{Round}
 use Rattle.cx_base.specs.Role.{role}
 use Rattle.cx_field.specs.declared.parts.Entry.{Entry}
-use Rattle.cx_msg.specs.Letter.{Letter}
-use Rattle.cx_msg.specs.declared.input.KeptRecord.{KeptRecord}
-use Rattle.cx_msg.specs.declared.kept.Record.TheVariants as kept
-use Rattle.cx_msg.specs.declared.message.Msg.TheVariants as msg
+use Rattle.cx_letter.specs.Letter.{Letter}
+use Rattle.cx_letter.specs.declared.input.KeptRecord.{KeptRecord}
+use Rattle.cx_letter.specs.declared.kept.Record.TheVariants as kept
+use Rattle.cx_letter.specs.declared.message.Msg.TheVariants as msg
 use Rattle.cx_model.specs.declared.states.Replacing.TheVariants.{Booting}
 use Rattle.cx_model.specs.Member.{Member}
 use Rattle.cx_model.specs.Promises.{HasKept, OfEveryRun, Decides, OneNextSet, SetsAreDecided}

@@ -1,10 +1,10 @@
 -- The records of a pair.
 use Rattle.std.proofs.Common.{◌≡◌, inl, inr, ℕ, ◌+◌, Bool, true, false, List, [], ◌∷◌, ◌++◌, length, Option, Some, None, Result, Ok, Err, refl, sym, ◌∙◌, ap, subst, arith}
 use Rattle.cx_base.specs.declared.role.Kind.{Kind}
-use Rattle.cx_msg.specs.declared.kept.Record.{Record}
+use Rattle.cx_letter.specs.declared.kept.Record.{Record}
 use Rattle.cx_journal.specs.Blank.{IsBlank, IsSame}
 use Rattle.std.specs.Prelude.{IfOk}
-use Rattle.cx_keeper.specs.declared.keeper.OpenFault.{OpenFault}
+use Rattle.cx_keep.specs.declared.keeper.OpenFault.{OpenFault}
 use Rattle.cx_journal.specs.Found.{IsFound, IsFoundFrom}
 use Rattle.cx_journal.proofs.Gates.{gates-count}
 use Rattle.cx_journal.specs.Generation.{generation, second_is_live}

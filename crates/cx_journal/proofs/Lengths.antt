@@ -1,7 +1,8 @@
 -- An append of a record over two disks.
 use Rattle.std.proofs.Common.{◌≡◌, ◌⊎◌, inl, inr, ⊎_elim, ℕ, ◌+◌, Bool, true, false, List, [], ◌∷◌, ◌++◌, length, Option, None, refl, sym, ◌∙◌, ap, subst, arith, length-append}
-use Rattle.cx_msg.specs.declared.kept.Record.{Record}
-use Rattle.cx_msg.specs.Records.{fits, spelling}
+use Rattle.cx_letter.specs.declared.kept.Record.{Record}
+use Rattle.cx_letter.specs.Records.{fits}
+use Rattle.cx_msg.specs.RecordBytes.{spelling}
 use Rattle.cx_disk.specs.Disk.{LeavesOnly}
 use Rattle.cx_journal.specs.Generation.{generation}
 use Rattle.cx_journal.specs.Pair.{front_of, IsTwin, IsLive}

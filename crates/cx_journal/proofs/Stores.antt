@@ -2,8 +2,8 @@
 use Rattle.std.proofs.Common.{◌≡◌, ◌⊎◌, inl, ℕ, true, List, Option, Result, Ok, refl, sym, ◌∙◌}
 use Rattle.std.specs.Prelude.{is_some}
 use Rattle.cx_disk.specs.declared.disk.Disk.{Ghosts as DiskGhosts}
-use Rattle.cx_keeper.specs.Keeper.{KeeperChange, Append, Renewal, list_after}
-use Rattle.cx_keeper.specs.declared.keeper.KeepFault.{KeepFault}
+use Rattle.cx_keep.specs.Keeper.{KeeperChange, Append, Renewal, list_after}
+use Rattle.cx_keep.specs.declared.keeper.KeepFault.{KeepFault}
 use Rattle.cx_journal.specs.Files.{Files, OneFile, TwoFiles, files_records, IsFilesImageOf}
 use Rattle.cx_journal.specs.Store.{store_told, store_whole, StoreMayLeave, StoreLeftSince, IsStoreChange}
 use Rattle.cx_journal.specs.StoreLaw.{one_tells, one_records, both_tells, both_records}

@@ -1,10 +1,10 @@
 -- What two disks at rest tell.
 use Rattle.std.proofs.Common.{◌≡◌, ◌<◌, ℕ, Bool, true, false, not, List, [], ◌∷◌, Option, Some, None, Ok, refl, ◌∙◌, ap}
 use Rattle.std.specs.Prelude.{if◌then◌else◌}
-use Rattle.cx_msg.specs.Records.{fits}
-use Rattle.cx_keeper.specs.Keeper.{all_fit}
+use Rattle.cx_letter.specs.Records.{fits}
+use Rattle.cx_keep.specs.Keeper.{all_fit}
 use Rattle.cx_journal.proofs.Payloads.{both_so}
-use Rattle.cx_msg.specs.declared.kept.Record.{Record}
+use Rattle.cx_letter.specs.declared.kept.Record.{Record}
 use Rattle.cx_journal.specs.Payload.{all_kept_by}
 use Rattle.cx_journal.specs.State.{records_or_none}
 use Rattle.cx_journal.specs.Twin.{seen_pair_records, pair_records, pair_image, TwoRest}

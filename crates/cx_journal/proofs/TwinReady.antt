@@ -3,11 +3,11 @@ use Rattle.std.proofs.Common.{◌≡◌, ◌<◌, ◌≤◌, ◌⊎◌, inl, inr
 use Rattle.std.specs.Prelude.{IfOk, IfErr, is_some, slice_index, if◌then◌else◌}
 use Rattle.std.proofs.lemmas.Option.{same_Some}
 use Rattle.cx_base.specs.declared.role.Kind.{Kind}
-use Rattle.cx_msg.specs.declared.kept.Record.{Record}
-use Rattle.cx_msg.specs.Records.{spelling}
+use Rattle.cx_letter.specs.declared.kept.Record.{Record}
+use Rattle.cx_msg.specs.RecordBytes.{spelling}
 use Rattle.cx_disk.specs.Disk.{LeavesOnly}
-use Rattle.cx_keeper.specs.declared.keeper.OpenFault.{OpenFault}
-use Rattle.cx_keeper.specs.declared.keeper.OpenFault.TheVariants as fault
+use Rattle.cx_keep.specs.declared.keeper.OpenFault.{OpenFault}
+use Rattle.cx_keep.specs.declared.keeper.OpenFault.TheVariants as fault
 use Rattle.cx_journal.specs.Blank.{IsLeftOr, IsSame}
 use Rattle.cx_journal.specs.Found.{IsOutside}
 use Rattle.cx_journal.specs.Generation.{IsGeneration, generation, second_is_live}

@@ -1,7 +1,7 @@
 -- What a role's store holds: one file, or two of which one is live.
 use Rattle.std.specs.Prelude.{◌≡◌, ℕ, Bool, true, List, [], Option, Some, None, Result, Ok, Err, option_map}
 use Rattle.cx_base.specs.declared.role.Kind.{Kind}
-use Rattle.cx_msg.specs.declared.kept.Record.{Record}
+use Rattle.cx_letter.specs.declared.kept.Record.{Record}
 use Rattle.cx_journal.specs.Generation.{generation, second_is_live}
 use Rattle.cx_journal.specs.Image.{Image, image}
 use Rattle.cx_journal.specs.Pair.{front_of, live_of}

@@ -2,15 +2,15 @@
 use Rattle.std.specs.Prelude.{◌≡◌, ℕ, ◌+◌, true, List, length, drop, Option, Result, Ok, Err}
 use Rattle.std.specs.List.{slice_get}
 use Rattle.cx_base.specs.declared.role.Kind.{Kind}
-use Rattle.cx_msg.specs.declared.kept.Record.{Record}
+use Rattle.cx_letter.specs.declared.kept.Record.{Record}
 use Rattle.cx_journal.specs.Payload.{payloads, all_kept_by}
 use Rattle.cx_journal.specs.Journal.{frames, gates_from, StandsFor}
 use Rattle.cx_journal.specs.Image.{Image, image, image_from, with_first, IsBreak}
 use Rattle.cx_journal.specs.declared.image.Found.{Found}
 use Rattle.cx_journal.specs.declared.split.ImageFault.{ImageFault}
 use Rattle.cx_journal.specs.declared.split.ImageFault.TheVariants as stop
-use Rattle.cx_keeper.specs.declared.keeper.OpenFault.{OpenFault}
-use Rattle.cx_keeper.specs.declared.keeper.OpenFault.TheVariants as fault
+use Rattle.cx_keep.specs.declared.keeper.OpenFault.{OpenFault}
+use Rattle.cx_keep.specs.declared.keeper.OpenFault.TheVariants as fault
 
 -- the records are in the bytes, each gate at its place
 pub record IsFound (k : Option Kind) (bytes : List ℕ) (found : Found) : Type 0 where

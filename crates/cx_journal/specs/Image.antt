@@ -3,7 +3,7 @@ use Rattle.std.specs.Prelude.{◌≡◌, ℕ, zero, suc, ◌+◌, ◌==◌, ◌|
 use Rattle.std.specs.List.{slice_get}
 use Rattle.byteorder.specs.Endian.{big_number}
 use Rattle.cx_base.specs.declared.role.Kind.{Kind}
-use Rattle.cx_msg.specs.declared.kept.Record.{Record}
+use Rattle.cx_letter.specs.declared.kept.Record.{Record}
 use Rattle.cx_journal.specs.Payload.{payload_read, part_break}
 
 -- the records, or the place of the first break

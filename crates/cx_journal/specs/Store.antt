@@ -3,9 +3,9 @@ use Rattle.std.specs.Prelude.{◌≡◌, ℕ, Bool, true, is_some, List, Option,
 use Rattle.cx_base.specs.Faults.{one_more}
 use Rattle.cx_disk.specs.Disk.{LeavesOnly}
 use Rattle.cx_disk.specs.declared.disk.Disk.{Ghosts as DiskGhosts}
-use Rattle.cx_keeper.specs.Keeper.{KeeperChange, Append, Renewal}
-use Rattle.cx_keeper.specs.declared.keeper.KeepFault.{KeepFault}
-use Rattle.cx_keeper.specs.declared.keeper.KeepFault.TheVariants.{Failed}
+use Rattle.cx_keep.specs.Keeper.{KeeperChange, Append, Renewal}
+use Rattle.cx_keep.specs.declared.keeper.KeepFault.{KeepFault}
+use Rattle.cx_keep.specs.declared.keeper.KeepFault.TheVariants.{Failed}
 use Rattle.cx_journal.specs.Appends.{IsJournalAppend}
 use Rattle.cx_journal.specs.Files.{Files, OneFile, TwoFiles, both_told, one_told}
 use Rattle.cx_journal.specs.State.{JournalState, told_records, IsImageOf}

@@ -2,10 +2,10 @@
 use Rattle.std.specs.Prelude.{◌≡◌, ℕ, Bool, ◌&&◌, is_some, List, Option, Some, None, Result}
 use Rattle.std.proofs.Common.{refl, sym, ◌∙◌, ap, inl}
 use Rattle.cx_base.specs.Faults.{one_more_rises, one_more_later}
-use Rattle.cx_msg.specs.declared.kept.Record.{Record}
+use Rattle.cx_letter.specs.declared.kept.Record.{Record}
 use Rattle.cx_disk.specs.declared.disk.Disk.{Ghosts as DiskGhosts}
-use Rattle.cx_keeper.specs.Keeper.{KeeperChange, Append, Renewal, IsKeeperChange}
-use Rattle.cx_keeper.specs.declared.keeper.KeepFault.{KeepFault}
+use Rattle.cx_keep.specs.Keeper.{KeeperChange, Append, Renewal, IsKeeperChange}
+use Rattle.cx_keep.specs.declared.keeper.KeepFault.{KeepFault}
 use Rattle.cx_journal.specs.Files.{both_told, files_records, one_told}
 use Rattle.cx_journal.specs.State.{JournalState, told_records}
 use Rattle.cx_journal.specs.Store.{store_told, store_faults, IsRefused, IsStoreChange}

@@ -1,7 +1,7 @@
 -- The records of two disks, one of which is live.
 use Rattle.std.specs.Prelude.{◌≡◌, ◌<◌, ◌≤◌, ◌⊎◌, ℕ, ◌++◌, not, Bool, true, is_some, if◌then◌else◌, List, [], length, Option, Some, None, Result, Ok, Err}
 use Rattle.cx_base.specs.declared.role.Kind.{Kind}
-use Rattle.cx_msg.specs.declared.kept.Record.{Record}
+use Rattle.cx_letter.specs.declared.kept.Record.{Record}
 use Rattle.cx_journal.specs.Blank.{IsSame}
 use Rattle.cx_journal.specs.Generation.{IsGeneration, generation, second_is_live}
 use Rattle.cx_journal.specs.Image.{Image, image, image_from}
@@ -13,8 +13,8 @@ use Rattle.cx_journal.specs.declared.anew.Renewed.{Renewed}
 use Rattle.cx_journal.specs.declared.image.Found.{Found}
 use Rattle.cx_journal.specs.declared.opening.Live.{Live}
 use Rattle.cx_journal.specs.Found.{IsFaultIn}
-use Rattle.cx_keeper.specs.declared.keeper.OpenFault.{OpenFault}
-use Rattle.cx_keeper.specs.declared.keeper.OpenFault.TheVariants as fault
+use Rattle.cx_keep.specs.declared.keeper.OpenFault.{OpenFault}
+use Rattle.cx_keep.specs.declared.keeper.OpenFault.TheVariants as fault
 
 -- the image of a live file: after its generation, or from its first byte on
 abbrev pub image_in : Option Kind → Option ℕ → List ℕ → Image

@@ -1,10 +1,10 @@
 -- What a change of a twin gives.
 use Rattle.std.specs.Prelude.{◌≡◌, ◌⊎◌, ◌+◌, ◌≤◌, ◌&&◌, ℕ, Bool, true, false, is_some, List, length, Option, None, Result, Ok, Err}
 use Rattle.cx_base.specs.Faults.{Rises}
-use Rattle.cx_msg.specs.declared.kept.Record.{Record}
-use Rattle.cx_keeper.specs.Keeper.{KeeperChange, Append, Renewal, IsKeeperChange, list_after}
-use Rattle.cx_keeper.specs.declared.keeper.KeepFault.{KeepFault}
-use Rattle.cx_keeper.specs.declared.keeper.KeepFault.TheVariants.{Failed, NoMemory}
+use Rattle.cx_letter.specs.declared.kept.Record.{Record}
+use Rattle.cx_keep.specs.Keeper.{KeeperChange, Append, Renewal, IsKeeperChange, list_after}
+use Rattle.cx_keep.specs.declared.keeper.KeepFault.{KeepFault}
+use Rattle.cx_keep.specs.declared.keeper.KeepFault.TheVariants.{Failed, NoMemory}
 use Rattle.cx_journal.specs.Appends.{count_append}
 use Rattle.cx_journal.specs.Payload.{all_kept_by}
 use Rattle.cx_journal.specs.Twin.{TwinState, BothTell, seen_pair_records, LeavesSame, LeavesTwo, IsPairImageOf}

@@ -1,14 +1,15 @@
 //! A record put after the closed gate: its bytes first, then the gate, each with a sync of its own.
 ghost use Rattle.std.specs.Prelude.{◌≡◌, ◌+◌, ◌<◌, ◌≤◌, ◌++◌, [], ◌∷◌, max, is_some, List, ℕ, Some, length, IfOk, IfErr, OnOk, IsErrOf};
 ghost use Rattle.cx_base.specs.Faults.{Rises};
-ghost use Rattle.cx_msg.specs.Records.{spelling};
+ghost use Rattle.cx_msg.specs.RecordBytes.{spelling};
 ghost use Rattle.cx_disk.specs.Disk.{written, Torn, Only, LeavesOnly, HasCause};
 ghost use Rattle.cx_journal.specs.Journal.{append_body, IsAtRest, IsBeforeOrAfter};
 
 use cx_base::NoMemory;
 use cx_disk::{Disk, Failed};
-use cx_keeper::KeepFault;
-use cx_msg::{Record, record_into};
+use cx_keep::KeepFault;
+use cx_letter::Record;
+use cx_msg::record_into;
 use cx_wire::put_u32;
 use std::alloc::Global;
 

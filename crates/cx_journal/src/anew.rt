@@ -1,9 +1,9 @@
 //! A list put anew on the disk that is not live.
 ghost use Rattle.std.specs.Prelude.{◌≡◌, ◌⊎◌, ◌+◌, ◌<◌, ◌≤◌, is_some, not, Bool, List, ℕ, Some, length, IfOk, IsErrOf, IsTrue};
 ghost use Rattle.cx_base.specs.Faults.{Rises};
-ghost use Rattle.cx_msg.specs.declared.kept.Record.{Record};
+ghost use Rattle.cx_letter.specs.declared.kept.Record.{Record};
 ghost use Rattle.cx_disk.specs.Disk.{LeavesOnly};
-ghost use Rattle.cx_keeper.specs.Keeper.{all_fit};
+ghost use Rattle.cx_keep.specs.Keeper.{all_fit};
 ghost use Rattle.cx_journal.specs.Generation.{IsGeneration, generation, next_generation};
 ghost use Rattle.cx_journal.specs.Journal.{frames, gates_from};
 ghost use Rattle.cx_journal.specs.Pair.{IsTwin, IsLive};
@@ -13,8 +13,8 @@ ghost use Rattle.cx_journal.specs.Twin.{IsEitherPair, IsRenewed};
 use crate::renewing::put_anew;
 use crate::whole::whole_of;
 use cx_disk::Disk;
-use cx_keeper::KeepFault;
-use cx_msg::Record;
+use cx_keep::KeepFault;
+use cx_letter::Record;
 use std::alloc::Global;
 
 /// What a renewal gave the disk: its generation, and the places of the gates with that of the closed one as the last.

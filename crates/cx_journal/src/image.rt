@@ -1,16 +1,16 @@
 //! The records in the bytes of a journal.
 ghost use Rattle.std.specs.Prelude.{◌≡◌, ◌+◌, ◌<◌, ◌≤◌, ◌^◌, [], ◌∷◌, ◌++◌, length, true, Ok, Err, IfOk, OnOk, IfErr, MatchResult};
-ghost use Rattle.cx_keeper.specs.declared.keeper.OpenFault.TheVariants as fault;
+ghost use Rattle.cx_keep.specs.declared.keeper.OpenFault.TheVariants as fault;
 ghost use Rattle.cx_journal.specs.Found.{IsRead, IsReadFrom, IsStopAt, IsFound, IsFoundFrom, IsFaultOf, IsFaultIn};
 ghost use Rattle.cx_journal.specs.Image.{image, image_from};
-ghost use Rattle.cx_msg.specs.Records.{spelling};
+ghost use Rattle.cx_msg.specs.RecordBytes.{spelling};
 ghost use Rattle.cx_journal.specs.Payload.{payload_read, is_kept_by};
 
 use crate::payload::{PayloadFault, payload_from};
 use crate::split::{ImageFault, first_record};
 use cx_base::{Kind, NoMemory};
-use cx_keeper::OpenFault;
-use cx_msg::Record;
+use cx_keep::OpenFault;
+use cx_letter::Record;
 use std::alloc::Global;
 
 /// The records, the places of their gates with that of the closed gate as the last, and that place.

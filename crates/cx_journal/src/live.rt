@@ -2,7 +2,7 @@
 ghost use Rattle.std.specs.Prelude.{◌≡◌, ◌+◌, ◌<◌, ◌≤◌, ◌^◌, [], ◌∷◌, is_some, true, List, ℕ, Option, Some, Ok, Err, length, IfOk, IfErr};
 ghost use Rattle.cx_base.specs.Faults.{Rises};
 ghost use Rattle.cx_base.specs.declared.role.Kind.{Kind};
-ghost use Rattle.cx_keeper.specs.declared.keeper.OpenFault.TheVariants as fault;
+ghost use Rattle.cx_keep.specs.declared.keeper.OpenFault.TheVariants as fault;
 ghost use Rattle.cx_disk.specs.Disk.{LeavesOnly};
 ghost use Rattle.cx_journal.specs.Blank.{IsBlank, IsSame};
 ghost use Rattle.cx_journal.specs.Found.{IsFaultIn};
@@ -20,7 +20,7 @@ use crate::recovery::{fill, zeros};
 use crate::renewing::clear;
 use cx_base::Kind;
 use cx_disk::Disk;
-use cx_keeper::OpenFault;
+use cx_keep::OpenFault;
 use std::alloc::Global;
 
 /// The records in the bytes of a live disk, which begin after its generation, if it has one.

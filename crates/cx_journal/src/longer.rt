@@ -1,8 +1,9 @@
 //! A record appended over two disks, whichever of them is live.
 ghost use Rattle.std.specs.Prelude.{◌≡◌, ◌+◌, ◌<◌, ◌≤◌, ◌++◌, [], ◌∷◌, is_some, true, Bool, if◌then◌else◌, List, ℕ, Option, Some, length, IfOk, OnOk, IfErr, IsErrOf};
 ghost use Rattle.cx_base.specs.Faults.{Rises};
-ghost use Rattle.cx_msg.specs.declared.kept.Record.{Record};
-ghost use Rattle.cx_msg.specs.Records.{fits, spelling};
+ghost use Rattle.cx_letter.specs.declared.kept.Record.{Record};
+ghost use Rattle.cx_letter.specs.Records.{fits};
+ghost use Rattle.cx_msg.specs.RecordBytes.{spelling};
 ghost use Rattle.cx_disk.specs.Disk.{LeavesOnly};
 ghost use Rattle.cx_journal.specs.Generation.{generation};
 ghost use Rattle.cx_journal.specs.Journal.{frames};
@@ -14,8 +15,8 @@ ghost use Rattle.cx_journal.specs.TwinChanges.{OneRises};
 use crate::adding::body_of;
 use crate::appending::append_to;
 use cx_disk::Disk;
-use cx_keeper::KeepFault;
-use cx_msg::Record;
+use cx_keep::KeepFault;
+use cx_letter::Record;
 use std::alloc::Global;
 
 // Puts a record after the closed gate of the live disk, and answers the place of the next gate.

@@ -1,8 +1,8 @@
 //! Two disks, opened and read.
 ghost use Rattle.std.specs.Prelude.{◌≡◌, ◌+◌, ◌<◌, ◌≤◌, if◌then◌else◌, length, is_some, true, false, List, ℕ, Some, Ok, Err, IfOk, IfErr};
-ghost use Rattle.cx_keeper.specs.declared.keeper.OpenFault.TheVariants as fault;
+ghost use Rattle.cx_keep.specs.declared.keeper.OpenFault.TheVariants as fault;
 ghost use Rattle.cx_disk.specs.Disk.{LeavesOnly};
-ghost use Rattle.cx_msg.specs.declared.kept.Record.{Record};
+ghost use Rattle.cx_letter.specs.declared.kept.Record.{Record};
 ghost use Rattle.cx_journal.specs.Blank.{IsLeftOr, IsSame};
 ghost use Rattle.cx_journal.specs.Files.{TwoFiles, front_in};
 ghost use Rattle.cx_journal.specs.Found.{IsOutside};
@@ -18,7 +18,7 @@ use crate::live::{read_first, read_live};
 use crate::opening::{Live, PairFault, find_live};
 use cx_base::Kind;
 use cx_disk::Disk;
-use cx_keeper::OpenFault;
+use cx_keep::OpenFault;
 use std::alloc::Global;
 
 /// Syncs both disks, finds the live one and reads its records, for a role of the kind or of any kind. A first one that is live and has

@@ -13,7 +13,7 @@ use crate::adding::write_synced;
 use crate::image::{first_gate, found_in};
 use cx_base::{Kind, NoMemory};
 use cx_disk::{Disk, Failed};
-use cx_keeper::OpenFault;
+use cx_keep::OpenFault;
 use std::alloc::Global;
 
 pub(crate) fn zeros(alloc: Global, len: usize) -> Result<Vec<u8>, NoMemory>

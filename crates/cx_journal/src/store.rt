@@ -1,7 +1,7 @@
 //! The store of a role: a journal on one disk, or a twin over two.
 
 ghost use Rattle.std.specs.Prelude.{◌≡◌, ◌==◌, true, not, is_some, length};
-ghost use Rattle.cx_keeper.specs.Keeper.{Append, Renewal};
+ghost use Rattle.cx_keep.specs.Keeper.{Append, Renewal};
 ghost use Rattle.cx_journal.specs.Files.{files_records};
 ghost use Rattle.cx_journal.specs.State.{has_some};
 ghost use Rattle.cx_journal.specs.Store.{IsStoreChange, store_faults, store_gates, store_told, store_whole};
@@ -9,8 +9,8 @@ ghost use Rattle.cx_journal.specs.StoreLaw.{store_change_is};
 
 use crate::{Journal, Twin};
 use cx_disk::Disk;
-use cx_keeper::{KeepFault, Keeper, OpenFault, Renew};
-use cx_msg::Record;
+use cx_keep::{KeepFault, Keeper, OpenFault, Renew};
+use cx_letter::Record;
 
 /// Where a role's records are kept. A list over two disks can be put anew; one on a single disk can't.
 #[derive(Drop)]

@@ -1,9 +1,9 @@
 //! A journal over two disks, whose list can be put anew.
 ghost use Rattle.std.specs.Prelude.{◌≡◌, ◌⊎◌, ◌+◌, ◌<◌, ◌≤◌, ◌++◌, ◌==◌, [], ◌∷◌, true, not, is_some, IsTrue, List, ℕ, Some, None, Ok, length, slice_index, take, IfOk, OnOk, IfErr, IsErrOf, MatchResult};
 ghost use Rattle.cx_base.specs.declared.role.Kind.TheVariants as kind;
-ghost use Rattle.cx_keeper.specs.Keeper.{all_fit};
-ghost use Rattle.cx_keeper.specs.declared.keeper.OpenFault.TheVariants as fault;
-ghost use Rattle.cx_msg.specs.Records.{fits};
+ghost use Rattle.cx_keep.specs.Keeper.{all_fit};
+ghost use Rattle.cx_keep.specs.declared.keeper.OpenFault.TheVariants as fault;
+ghost use Rattle.cx_letter.specs.Records.{fits};
 ghost use Rattle.cx_journal.specs.Appends.{count_append, count_open};
 ghost use Rattle.cx_journal.specs.Files.{TwoFiles, front_in};
 ghost use Rattle.cx_journal.specs.Found.{IsOutside};
@@ -19,8 +19,8 @@ use crate::pair::read_both;
 use crate::two::renew_two;
 use cx_base::{Faults, Kind};
 use cx_disk::Disk;
-use cx_keeper::{KeepFault, OpenFault};
-use cx_msg::Record;
+use cx_keep::{KeepFault, OpenFault};
+use cx_letter::Record;
 use std::alloc::Global;
 use std::marker::Model;
 

@@ -1,12 +1,12 @@
 //! A twin as a keeper whose list can be put anew. What it keeps is known where the bytes of both disks are.
-ghost use Rattle.cx_keeper.specs.Keeper.{Append, Renewal};
+ghost use Rattle.cx_keep.specs.Keeper.{Append, Renewal};
 ghost use Rattle.cx_journal.specs.Twin.{seen_pair_records};
 ghost use Rattle.cx_journal.specs.TwinChanges.{both_tell, IsTwinChange};
 
 use crate::Twin;
 use cx_disk::Disk;
-use cx_keeper::{KeepFault, Keeper, OpenFault, Renew};
-use cx_msg::Record;
+use cx_keep::{KeepFault, Keeper, OpenFault, Renew};
+use cx_letter::Record;
 
 impl<D: Disk> Keeper for Twin<D> {
     ghost tells = { λ t. both_tell D.seen t.first t.second };

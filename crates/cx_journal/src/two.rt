@@ -1,7 +1,7 @@
 //! A list put anew over two disks, whichever of them is live.
 ghost use Rattle.std.specs.Prelude.{◌≡◌, ◌⊎◌, ◌+◌, ◌<◌, ◌≤◌, ◌++◌, length, if◌then◌else◌, not, is_some, true, List, ℕ, Some, IfOk, IsErrOf, IsTrue};
-ghost use Rattle.cx_msg.specs.declared.kept.Record.{Record};
-ghost use Rattle.cx_keeper.specs.Keeper.{all_fit};
+ghost use Rattle.cx_letter.specs.declared.kept.Record.{Record};
+ghost use Rattle.cx_keep.specs.Keeper.{all_fit};
 ghost use Rattle.cx_journal.specs.Generation.{IsGeneration};
 ghost use Rattle.cx_journal.specs.Journal.{frames, gates_from};
 ghost use Rattle.cx_journal.specs.Payload.{payloads};
@@ -10,8 +10,8 @@ ghost use Rattle.cx_journal.specs.TwinChanges.{OneRises};
 
 use crate::anew::{Renewed, renew_other};
 use cx_disk::Disk;
-use cx_keeper::KeepFault;
-use cx_msg::Record;
+use cx_keep::KeepFault;
+use cx_letter::Record;
 use std::alloc::Global;
 
 /// Puts these records in the place of all, on the disk that is not live.

@@ -1,12 +1,14 @@
 //! The bytes of a whole list of records, which a renewal writes at once.
 ghost use Rattle.std.specs.Prelude.{◌≡◌, ◌+◌, ◌++◌, [], ◌∷◌, length, IfOk, OnOk, IsTrue};
-ghost use Rattle.cx_keeper.specs.Keeper.{all_fit};
-ghost use Rattle.cx_msg.specs.Records.{fits, spelling};
+ghost use Rattle.cx_keep.specs.Keeper.{all_fit};
+ghost use Rattle.cx_letter.specs.Records.{fits};
+ghost use Rattle.cx_msg.specs.RecordBytes.{spelling};
 ghost use Rattle.cx_journal.specs.Journal.{frame, frames, gates_from};
 ghost use Rattle.cx_journal.specs.Payload.{payloads};
 
 use cx_base::NoMemory;
-use cx_msg::{Record, record_into};
+use cx_letter::Record;
+use cx_msg::record_into;
 use cx_wire::put_u32;
 use std::alloc::Global;
 

@@ -3,8 +3,9 @@ use Rattle.std.proofs.Common.{◌≡◌, ◌≤◌, ◌+◌, ◌-◌, ◌∙◌,
 use Rattle.std.specs.List.{slice_get}
 use Rattle.std.proofs.lemmas.List.{drop-append-le, take-append-le, length-append, length-drop, map-append}
 use Rattle.std.proofs.Math.Seq.{drop-append_seam, take-length}
-use Rattle.cx_msg.specs.Records.{fits, record_of_bytes, spelling}
-use Rattle.cx_msg.specs.declared.kept.Record.{Record}
+use Rattle.cx_letter.specs.Records.{fits}
+use Rattle.cx_msg.specs.RecordBytes.{record_of_bytes, spelling}
+use Rattle.cx_letter.specs.declared.kept.Record.{Record}
 use Rattle.cx_msg.proofs.RecordLaws.{recorded-again}
 use Rattle.cx_keeper.specs.Pieces.{ArePieces, IsPiece, IsPut, bytes_at, record_at, record_or, records_at}
 use Rattle.cx_keeper.specs.declared.records.Piece.{Piece}

@@ -3,9 +3,9 @@ use Rattle.std.proofs.Common.{◌≡◌, ◌≤◌, ◌+◌, ℕ, zero, suc, tru
 use Rattle.std.specs.Prelude.{IfOk}
 use Rattle.std.specs.List.{slice_get}
 use Rattle.std.proofs.lemmas.Bool.{and_parts}
-use Rattle.cx_msg.specs.Records.{fits}
-use Rattle.cx_msg.specs.declared.kept.Record.{Record}
-use Rattle.cx_keeper.specs.Keeper.{all_fit}
+use Rattle.cx_letter.specs.Records.{fits}
+use Rattle.cx_letter.specs.declared.kept.Record.{Record}
+use Rattle.cx_keep.specs.Keeper.{all_fit}
 
 -- one at most is left
 one_left : {A : Type 0} (xs : List A) (n : ℕ) → length xs ≤ n + 1 → option_to_list (slice_get xs n) ≡ drop n xs

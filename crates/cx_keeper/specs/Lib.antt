@@ -1,3 +1,2 @@
-pub mod Keeper
 pub mod MemKeeper
 pub mod Pieces

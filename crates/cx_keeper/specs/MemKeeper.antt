@@ -2,12 +2,12 @@
 use Rattle.std.specs.Prelude.{◌≡◌, ℕ, Bool, true, List, [], ◌∷◌, ◌++◌, Result, Ok, Err}
 use Rattle.std.proofs.Common.{refl, inl, inr, arith, ap}
 use Rattle.cx_base.specs.Faults.{one_more, one_more_rises, one_more_later}
-use Rattle.cx_msg.specs.declared.kept.Record.{Record}
+use Rattle.cx_letter.specs.declared.kept.Record.{Record}
 use Rattle.cx_base.specs.declared.event.Cut.{Cut}
 use Rattle.cx_base.specs.declared.event.Cut.TheVariants.{Whole, Torn, Kept}
-use Rattle.cx_keeper.specs.declared.keeper.KeepFault.{KeepFault}
-use Rattle.cx_keeper.specs.declared.keeper.KeepFault.TheVariants.{Failed, NoMemory}
-use Rattle.cx_keeper.specs.Keeper.{KeeperChange, Append, Renewal, IsAppend, IsKeeperChange, list_after}
+use Rattle.cx_keep.specs.declared.keeper.KeepFault.{KeepFault}
+use Rattle.cx_keep.specs.declared.keeper.KeepFault.TheVariants.{Failed, NoMemory}
+use Rattle.cx_keep.specs.Keeper.{KeeperChange, Append, Renewal, IsAppend, IsKeeperChange, list_after}
 
 -- the records, how changes go from here on, and how many have failed
 pub record MemKeeperState : Type 0 where

@@ -1,9 +1,9 @@
 -- Records as pieces of one list of bytes.
 use Rattle.std.specs.Prelude.{◌≡◌, ◌≤◌, ◌+◌, ℕ, List, [], ◌∷◌, ◌++◌, Result, Ok, Err, length, take, drop, map}
-use Rattle.cx_msg.specs.Records.{record_of_bytes, spelling}
+use Rattle.cx_msg.specs.RecordBytes.{record_of_bytes, spelling}
 use Rattle.cx_msg.specs.declared.fault.WireFault.{WireFault}
-use Rattle.cx_msg.specs.declared.kept.Record.{Record}
-use Rattle.cx_msg.specs.declared.kept.Record.TheVariants as kept
+use Rattle.cx_letter.specs.declared.kept.Record.{Record}
+use Rattle.cx_letter.specs.declared.kept.Record.TheVariants as kept
 use Rattle.cx_keeper.specs.declared.records.Piece.{Piece}
 
 -- what bytes that spell no record are read as; there are none here

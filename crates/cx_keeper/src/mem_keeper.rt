@@ -1,12 +1,13 @@
 //! A keeper in memory.
 
 ghost use Rattle.std.specs.Prelude.{◌≡◌, ◌≤◌, ◌+◌, [], IfOk, IsTrue, length, drop, option_to_list};
-ghost use Rattle.cx_keeper.specs.Keeper.{all_fit};
+ghost use Rattle.cx_keep.specs.Keeper.{all_fit};
 ghost use Rattle.cx_keeper.specs.MemKeeper.{tells_of, kept_of, faults_of, mem_append_gives, mem_append_is, mem_renew_gives, mem_renew_is};
 
-use crate::{KeepFault, Keeper, OpenFault, Records, Renew};
+use crate::Records;
 use cx_base::{Cut, Faults, NoMemory};
-use cx_msg::Record;
+use cx_keep::{KeepFault, Keeper, OpenFault, Renew};
+use cx_letter::Record;
 use std::alloc::Global;
 use std::marker::Model;
 
@@ -21,7 +22,7 @@ pub struct MemKeeper {
 
 impl Model for MemKeeper {
     ghost use Rattle.std.specs.Prelude.{IsTrue};
-    ghost use Rattle.cx_keeper.specs.Keeper.{all_fit};
+    ghost use Rattle.cx_keep.specs.Keeper.{all_fit};
     ghost use Rattle.cx_keeper.specs.MemKeeper.{MemKeeperState};
 
     ghost Value = { MemKeeperState };

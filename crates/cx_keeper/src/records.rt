@@ -1,12 +1,13 @@
 //! Records as the bytes that spell them.
 
 ghost use Rattle.std.specs.Prelude.{◌≡◌, ◌++◌, ◌∷◌, [], IfOk, IsTrue, OnOk, OnErr, length, slice_get};
-ghost use Rattle.cx_msg.specs.Records.{fits};
-ghost use Rattle.cx_keeper.specs.Keeper.{all_fit};
+ghost use Rattle.cx_letter.specs.Records.{fits};
+ghost use Rattle.cx_keep.specs.Keeper.{all_fit};
 ghost use Rattle.cx_keeper.specs.Pieces.{ArePieces, IsPiece, IsPut, record_at, records_at};
 
 use cx_base::NoMemory;
-use cx_msg::{Record, WireFault, record_from, record_into};
+use cx_letter::Record;
+use cx_msg::{WireFault, record_from, record_into};
 use std::alloc::Global;
 use std::marker::Model;
 
@@ -28,7 +29,7 @@ pub struct Records {
 
 impl Model for Records {
     ghost use Rattle.std.specs.Prelude.{List};
-    ghost use Rattle.cx_msg.specs.declared.kept.Record.{Record};
+    ghost use Rattle.cx_letter.specs.declared.kept.Record.{Record};
     ghost use Rattle.cx_keeper.specs.Pieces.{ArePieces, records_at};
 
     ghost Value = { List Record };

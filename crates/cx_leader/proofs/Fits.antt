@@ -4,7 +4,7 @@ use Rattle.cx_role.proofs.Common.{Command, RoleId, same_role, Letter, Record, En
 use Rattle.cx_role.proofs.Common.{either_way, IsFit}
 use Rattle.cx_role.proofs.Common.msg
 use Rattle.cx_base.specs.Sets.{is_above}
-use Rattle.cx_msg.specs.declared.input.Input.TheVariants as input
+use Rattle.cx_letter.specs.declared.input.Input.TheVariants as input
 use Rattle.cx_model.specs.declared.states.Mode.{Mode}
 use Rattle.cx_model.specs.declared.states.Mode.TheVariants as mode
 use Rattle.cx_model.specs.Collection.{is_collecting}

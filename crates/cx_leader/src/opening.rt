@@ -9,7 +9,7 @@ ghost use Rattle.cx_leader.specs.State.{own_fits};
 use crate::rounds::{may_begin, round_of};
 use cx_base::{Cluster, NoMemory, RoleId};
 use cx_field::Entry;
-use cx_msg::Record;
+use cx_letter::Record;
 use cx_role::WakeFault;
 use std::alloc::Global;
 
@@ -27,7 +27,7 @@ pub fn none_held(alloc: Global, replicas: u16) -> Result<Vec<u64>, NoMemory>
 
 /// The round that these records leave after an earlier one, with its grid. The fault names the first record that this leader
 /// can't have appended.
-#[tactic(auto, unfolding(cx_msg::specs::Records::kept_record, cx_msg::specs::Records::round_grid))]
+#[tactic(auto, unfolding(cx_letter::specs::Records::kept_record, cx_letter::specs::Records::round_grid))]
 pub fn last_begun(
     before: Option<Entry>,
     cluster: &Cluster,

@@ -11,9 +11,9 @@ use crate::sending::ask_to_record;
 use cx_base::{Cluster, Grid, Round, Why};
 use cx_collect::Collector;
 use cx_field::{Entry, grid_fits};
-use cx_keeper::Keeper;
+use cx_keep::Keeper;
+use cx_letter::Record;
 use cx_model::Mode;
-use cx_msg::Record;
 use cx_role::{Outbox, StepFault, keep, names_grid, names_round};
 
 pub fn is_same(a: Round, b: Round) -> bool
@@ -62,7 +62,7 @@ pub fn may_begin(cluster: &Cluster, leader: u16, own: Round, round: Round, grid:
 
 impl Leader {
     // The round is kept before the matchmakers are asked to record it. What was proposed stays, for a change to begin with.
-    #[tactic(auto, unfolding(cx_msg::specs::Records::kept_record, cx_msg::specs::Records::round_grid))]
+    #[tactic(auto, unfolding(cx_letter::specs::Records::kept_record, cx_letter::specs::Records::round_grid))]
     fn begin<K: Keeper>(
         &mut self,
         keeper: &mut K,

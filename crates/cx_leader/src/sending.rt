@@ -10,7 +10,7 @@ ghost use Rattle.cx_leader.specs.Proposing.{IsWindowSlot};
 use cx_base::{Cluster, Grid, Kind, Round, Value};
 use cx_field::Entry;
 use cx_grid::is_member;
-use cx_msg::{Datagram, garbage_a, inform, leads, match_a, phase1a, propose};
+use cx_letter::{Datagram, garbage_a, inform, leads, match_a, phase1a, propose};
 use cx_phase1::Phase1;
 use cx_role::Outbox;
 

@@ -7,7 +7,7 @@ use Rattle.cx_role.proofs.Common.kept
 use Rattle.cx_role.proofs.Ranges.{real_or_none}
 use Rattle.cx_wire.specs.Format.{u16, u32}
 use Rattle.cx_field.specs.Fields.{goes_with, entries, grid, joined, round, round0, set}
-use Rattle.cx_msg.specs.Records.{fits, kept_record}
+use Rattle.cx_letter.specs.Records.{fits, kept_record}
 use Rattle.cx_field.proofs.ListLaws.{entries_fit, entries_snoc}
 use Rattle.cx_model.specs.Matchmaker.{MatchmakerDurable, matchmaker_after, matchmaker_fits, entry, entries_since, has_round}
 use Rattle.cx_match.specs.Sound.{IsSound, matchmaker_durable}

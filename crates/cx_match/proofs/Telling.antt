@@ -1,7 +1,7 @@
 -- What a matchmaker sends to a leader whose round it has recorded.
 use Rattle.cx_role.proofs.Common.{◌≡◌, List, [], ◌∷◌, ◌++◌, ap, sym, ◌∙◌, role, Entry, Leader, Letter, Matchmaker, RoleId, Round}
 use Rattle.cx_role.proofs.Common.msg
-use Rattle.cx_msg.specs.Letter.{letter}
+use Rattle.cx_letter.specs.Letter.{letter}
 use Rattle.cx_model.specs.Matchmaker.{entries_before}
 
 -- its answer alone, with the earlier entries

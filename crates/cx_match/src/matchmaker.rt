@@ -4,8 +4,8 @@ ghost use Rattle.cx_model.specs.Matchmaker.{MatchmakerDurable, matchmaker_rules}
 
 use cx_base::{Cluster, NoMemory, Order, RoleId, Round, Set, Why};
 use cx_field::Entry;
-use cx_keeper::Keeper;
-use cx_msg::{Datagram, Msg, Record};
+use cx_keep::Keeper;
+use cx_letter::{Datagram, Msg, Record};
 use cx_role::{Outbox, Role, StepFault, WakeFault, is_for};
 use std::alloc::Global;
 use std::marker::Model;

@@ -3,15 +3,15 @@
 ghost use Rattle.std.specs.Prelude.{◌≡◌, Ok, Err, IsErrOf, false};
 ghost use Rattle.cx_role.specs.Prelude.{[], true, IfOk, OnOk, OnErr, IsTrue, Kind, opened};
 ghost use Rattle.cx_model.specs.Matchmaker.{matchmaker_rules, matchmaker_after, matchmaker_fits};
-ghost use Rattle.cx_msg.specs.Records.{fits as record_fits};
+ghost use Rattle.cx_letter.specs.Records.{fits as record_fits};
 ghost use Rattle.cx_role.specs.Role.{Refuses};
 
 use crate::Matchmaker;
 use crate::entries::{are_before, retire};
 use cx_base::{Cluster, NoMemory, ROUNDS, RoleId, Round, Set, copy_all};
 use cx_field::Entry;
-use cx_keeper::Keeper;
-use cx_msg::Record;
+use cx_keep::Keeper;
+use cx_letter::Record;
 use cx_role::{StepFault, keep, names_ballot, names_entries, names_grid, names_round, names_set};
 use std::alloc::Global;
 

@@ -10,8 +10,8 @@ use crate::entries::all_entries;
 use crate::records::keep_own;
 use cx_base::{Duplicate, RoleId, Round, Set, Why, copy_all};
 use cx_field::{Entries, set_fits};
-use cx_keeper::Keeper;
-use cx_msg::{Record, boot_b, next_b, stop_b, stop_nack};
+use cx_keep::Keeper;
+use cx_letter::{Record, boot_b, next_b, stop_b, stop_nack};
 use cx_role::{Outbox, StepFault};
 
 impl Matchmaker {

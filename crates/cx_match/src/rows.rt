@@ -10,8 +10,8 @@ use crate::entries::{all_entries, earlier_entries, has_entry, has_later, last_ro
 use crate::records::keep_own;
 use cx_base::{Grid, NoMemory, ROUNDS, RoleId, Round, Why};
 use cx_field::{Asking, Entry, NackReason};
-use cx_keeper::Keeper;
-use cx_msg::{Record, garbage_b, match_b, match_nack, match_read_ack};
+use cx_keep::Keeper;
+use cx_letter::{Record, garbage_b, match_b, match_nack, match_read_ack};
 use cx_role::{Outbox, StepFault};
 
 impl Matchmaker {

@@ -9,9 +9,9 @@ use Rattle.cx_base.specs.declared.why.Why.TheVariants as why
 use Rattle.cx_base.specs.Grid.{Shape, make_grid}
 use Rattle.cx_base.specs.Round.{no_round}
 use Rattle.cx_field.specs.declared.parts.NackReason.TheVariants as nack
-use Rattle.cx_msg.specs.Letter.{letter}
-use Rattle.cx_msg.specs.declared.kept.Record.TheVariants as kept
-use Rattle.cx_msg.specs.declared.message.Msg.TheVariants as msg
+use Rattle.cx_letter.specs.Letter.{letter}
+use Rattle.cx_letter.specs.declared.kept.Record.TheVariants as kept
+use Rattle.cx_letter.specs.declared.message.Msg.TheVariants as msg
 use Rattle.cx_model.specs.Examples.{Line, IsRun, one_of_each, client, batcher, leader, acceptor, matchmaker, replica, reader, make_round, first, single, lead, collect, deliver, final_state, hold, ◌⇒◌, ◌keeping◌by◌, ◌sending◌}
 use Rattle.cx_model.specs.Matchmaker.{entry}
 use Rattle.cx_model.specs.Reader.{asking, make_token}

@@ -4,9 +4,9 @@ use Rattle.std.specs.Prelude.{◌++◌, true, List, [], ◌∷◌, codes, None, 
 use Rattle.cx_base.specs.declared.command.Reply.TheVariants.{Okay}
 use Rattle.cx_base.specs.declared.event.Event.TheVariants as event
 use Rattle.cx_base.specs.declared.why.Why.TheVariants as why
-use Rattle.cx_msg.specs.Letter.{letter}
-use Rattle.cx_msg.specs.declared.kept.Record.TheVariants as kept
-use Rattle.cx_msg.specs.declared.message.Msg.TheVariants as msg
+use Rattle.cx_letter.specs.Letter.{letter}
+use Rattle.cx_letter.specs.declared.kept.Record.TheVariants as kept
+use Rattle.cx_letter.specs.declared.message.Msg.TheVariants as msg
 use Rattle.cx_model.specs.Examples.{Line, IsRun, client, replica, unbatcher, put_a, batch_of, deliver, final_state, hold, ◌⇒◌, ◌keeping◌by◌, ◌sending◌}
 use Rattle.cx_model.specs.ExamplesDeferredRead.{cluster, applied, each}
 

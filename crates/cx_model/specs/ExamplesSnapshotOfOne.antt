@@ -8,10 +8,10 @@ use Rattle.cx_base.specs.declared.command.Reply.TheVariants.{Okay, Len}
 use Rattle.cx_base.specs.declared.event.Cut.TheVariants.{Whole, Torn, Kept}
 use Rattle.cx_base.specs.declared.event.Event.TheVariants as event
 use Rattle.cx_base.specs.declared.why.Why.TheVariants as why
-use Rattle.cx_msg.specs.Letter.{letter}
-use Rattle.cx_msg.specs.declared.kept.Record.{Record}
-use Rattle.cx_msg.specs.declared.kept.Record.TheVariants as kept
-use Rattle.cx_msg.specs.declared.message.Msg.TheVariants as msg
+use Rattle.cx_letter.specs.Letter.{letter}
+use Rattle.cx_letter.specs.declared.kept.Record.{Record}
+use Rattle.cx_letter.specs.declared.kept.Record.TheVariants as kept
+use Rattle.cx_letter.specs.declared.message.Msg.TheVariants as msg
 use Rattle.cx_model.specs.Examples.{Line, IsRun, run_of_lines, one_of_each, client, batcher, leader, proxy, acceptor, replica, unbatcher, first, single, app, put_a, batch_of, answered, deliver, final_state, hold, make_pair, ◌⇒◌, ◌keeping◌by◌, ◌snapping◌by◌, ◌sending◌}
 use Rattle.cx_model.specs.ExamplesOnePut.{story as put_story}
 use Rattle.cx_model.specs.Replica.{replica_rules}

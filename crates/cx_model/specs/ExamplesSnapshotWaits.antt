@@ -5,9 +5,9 @@ use Rattle.cx_base.specs.declared.command.Reply.TheVariants.{Okay}
 use Rattle.cx_base.specs.declared.event.Cut.TheVariants.{Whole}
 use Rattle.cx_base.specs.declared.event.Event.TheVariants as event
 use Rattle.cx_base.specs.declared.why.Why.TheVariants as why
-use Rattle.cx_msg.specs.Letter.{letter}
-use Rattle.cx_msg.specs.declared.kept.Record.TheVariants as kept
-use Rattle.cx_msg.specs.declared.message.Msg.TheVariants as msg
+use Rattle.cx_letter.specs.Letter.{letter}
+use Rattle.cx_letter.specs.declared.kept.Record.TheVariants as kept
+use Rattle.cx_letter.specs.declared.message.Msg.TheVariants as msg
 use Rattle.cx_model.specs.Examples.{Line, IsRun, leader, proxy, replica, unbatcher, first, put_a, batch_of, answered, deliver, final_state, hold, make_pair, Holding, ◌⇒◌, ◌keeping◌by◌, ◌snapping◌by◌, ◌sending◌}
 use Rattle.cx_model.specs.ExamplesDeferredRead.{cluster}
 use Rattle.cx_model.specs.ExamplesOnePut.{voted}

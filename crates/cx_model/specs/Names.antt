@@ -11,13 +11,13 @@ use Rattle.cx_base.specs.Cluster.{count_of}
 use Rattle.cx_base.specs.Fold.{commands_of}
 use Rattle.cx_base.specs.Grid.{Shape}
 use Rattle.cx_base.specs.Sets.{is_rising}
-use Rattle.cx_msg.specs.Letter.{Letter}
+use Rattle.cx_letter.specs.Letter.{Letter}
 use Rattle.cx_field.specs.declared.parts.Asking.{Asking}
 use Rattle.cx_field.specs.declared.parts.Entry.{Entry}
 use Rattle.cx_field.specs.declared.parts.Token.{Token}
 use Rattle.cx_field.specs.declared.parts.Vote.{Vote}
-use Rattle.cx_msg.specs.declared.message.Msg.{Msg}
-use Rattle.cx_msg.specs.declared.message.Msg.TheVariants as msg
+use Rattle.cx_letter.specs.declared.message.Msg.{Msg}
+use Rattle.cx_letter.specs.declared.message.Msg.TheVariants as msg
 
 abbrev pub names_role : Cluster → RoleId → Bool
 names_role c r = nat_lt r.index (count_of c r.kind)

@@ -16,8 +16,8 @@ use Rattle.cx_base.specs.declared.role.RoleId.{RoleId}
 use Rattle.cx_base.specs.Asked.{floor_fits}
 use Rattle.cx_base.specs.Lists.{rises}
 use Rattle.cx_base.specs.Noted.{Table, are_rising, comes_before, floor_of}
-use Rattle.cx_msg.specs.declared.kept.Record.{Record}
-use Rattle.cx_msg.specs.declared.kept.Record.TheVariants as kept
+use Rattle.cx_letter.specs.declared.kept.Record.{Record}
+use Rattle.cx_letter.specs.declared.kept.Record.TheVariants as kept
 use Rattle.cx_model.specs.Names.{names_value}
 use Rattle.cx_model.specs.Replica.{ReplicaDurable, answer_of, are_client_notes, is_renewal_whole, key_before, note_of, notes_of, pieces, pieces_of, replica_after, replica_fits, replica_rules}
 use Rattle.cx_model.specs.Rules.{folded_from, refused, refused_from}

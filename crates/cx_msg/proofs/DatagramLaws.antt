@@ -9,12 +9,13 @@ use Rattle.cx_base.specs.declared.role.Kind.{Kind}
 use Rattle.cx_base.specs.declared.role.Kind.TheVariants.{Client, Batcher, Leader, Proxy, Acceptor, Matchmaker, Replica, Unbatcher, Reader, Replacer}
 use Rattle.cx_wire.specs.Format.{Miss, u8, u16, ◌▷◌, by_tag}
 use Rattle.cx_wire.proofs.Laws.{IsBytes, IsExact, u8-exact, u16-exact, ▷-exact, shaped-exact, by_tag-takes, both, ok_is, tag_fits}
-use Rattle.cx_msg.specs.Messages.{body_shape, body_with, cases_with, tells_floors, version_of}
-use Rattle.cx_msg.specs.Letter.{Letter, is_kind, senders, receivers, is_listed, magic, header, header_of, fits, spelling}
+use Rattle.cx_letter.specs.Messages.{body_shape, body_with, cases_with, tells_floors, version_of}
+use Rattle.cx_letter.specs.Letter.{Letter, is_kind, senders, receivers, is_listed, fits}
+use Rattle.cx_msg.specs.Datagrams.{magic, header, header_of, spelling}
 use Rattle.cx_msg.specs.Decoding.{letter_at_end, after_header, with_header, decoded}
 use Rattle.cx_msg.specs.Decodes.{Decodes}
-use Rattle.cx_msg.specs.declared.message.Msg.{Msg}
-use Rattle.cx_msg.specs.declared.message.Msg.TheVariants.{Leads, MatchA, MatchNack, Phase1A, Nack, Phase2B, Chosen, ChosenIn, Held, Fetch, Inform, Informed, GarbageA, GarbageB, ReadReq, MatchRead, MatchReadAck, PreRead, PreReadAck, Read, Phase2A, Submit, Batch, MatchB, Phase1B, Propose, Results, Answer, ReadAnswer, SessRead, StopA, StopB, StopNack, NextA, NextB, BootA, BootB, Sets}
+use Rattle.cx_letter.specs.declared.message.Msg.{Msg}
+use Rattle.cx_letter.specs.declared.message.Msg.TheVariants.{Leads, MatchA, MatchNack, Phase1A, Nack, Phase2B, Chosen, ChosenIn, Held, Fetch, Inform, Informed, GarbageA, GarbageB, ReadReq, MatchRead, MatchReadAck, PreRead, PreReadAck, Read, Phase2A, Submit, Batch, MatchB, Phase1B, Propose, Results, Answer, ReadAnswer, SessRead, StopA, StopB, StopNack, NextA, NextB, BootA, BootB, Sets}
 use Rattle.cx_msg.specs.declared.header.Header.{Header}
 use Rattle.cx_msg.specs.declared.fault.WireFault.{WireFault}
 use Rattle.cx_msg.specs.declared.fault.WireFault.TheVariants as faults
@@ -24,7 +25,7 @@ use Rattle.std.proofs.lemmas.Bool.{leb-true, lt-ltb}
 use Rattle.cx_msg.proofs.Sizes.{body-sizes}
 use Rattle.cx_msg.proofs.BodyLaws.{bodies-sound, body-again}
 use Rattle.cx_msg.proofs.Versions.{version_tag, version_bytes, version_fits, own_version}
-use Rattle.cx_msg.proofs.PartsLaws.{Fitting, fitting}
+use Rattle.cx_letter.proofs.PartsLaws.{Fitting, fitting}
 
 pub header-exact : IsExact header
 unfolding header

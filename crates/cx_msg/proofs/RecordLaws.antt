@@ -5,10 +5,11 @@ use Rattle.std.proofs.lemmas.List.{append-nil}
 use Rattle.cx_wire.specs.Format.{Miss, u8, u16, u32, u64, ◌▷◌, by_tag}
 use Rattle.cx_wire.proofs.Laws.{IsBytes, IsExact, Takes-then, u8-exact, u16-exact, u32-exact, u64-exact, ▷-exact, case-sound, case-again, AllSound, ReadsAgain, by_tag-takes, tag_fits}
 use Rattle.cx_field.specs.Fields.{slot, mark, seq, round, round0, grid, value, values, pairs, notes, joined, set}
-use Rattle.cx_msg.specs.Records.{vote, round_mark, round_grid, base, client_notes, round_set, boot, record_shape, record_cases, kept_record, fits, spelling, is_tag, record_at_end, with_tag, record_of_bytes}
+use Rattle.cx_letter.specs.Records.{vote, round_mark, round_grid, base, client_notes, round_set, boot, record_shape, record_cases, kept_record, fits}
+use Rattle.cx_msg.specs.RecordBytes.{spelling, is_tag, record_at_end, with_tag, record_of_bytes}
 use Rattle.cx_msg.specs.Decodes.{Decodes}
-use Rattle.cx_msg.specs.declared.kept.Record.{Record}
-use Rattle.cx_msg.specs.declared.kept.Record.TheVariants as kept
+use Rattle.cx_letter.specs.declared.kept.Record.{Record}
+use Rattle.cx_letter.specs.declared.kept.Record.TheVariants as kept
 use Rattle.cx_msg.specs.declared.fault.WireFault.{WireFault}
 use Rattle.cx_msg.specs.declared.fault.WireFault.TheVariants as faults
 use Rattle.cx_field.proofs.FieldLaws.{slot-exact, mark-exact, seq-exact, round-exact, round0-exact, grid-exact, value-exact, values-exact, pairs-exact, notes-exact, joined-exact, set-exact}

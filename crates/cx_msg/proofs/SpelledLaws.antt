@@ -13,13 +13,13 @@ use Rattle.cx_wire.specs.Format.{Miss, bad, by_tag, short_field, u8, u16}
 use Rattle.cx_field.specs.Reading.{Fails}
 use Rattle.cx_field.specs.declared.fault.ReadFault.{ReadFault}
 use Rattle.cx_field.specs.declared.fault.ReadFault.TheVariants as faults
-use Rattle.cx_msg.specs.Letter.{Letter, body, fits, letter}
-use Rattle.cx_msg.specs.Messages.{body_shape, cases_with}
+use Rattle.cx_letter.specs.Letter.{Letter, body, fits, letter}
+use Rattle.cx_letter.specs.Messages.{body_shape, cases_with}
 use Rattle.cx_msg.specs.Spelled.{IsShort, IsSpelled, letter_of, letter_with, msg_or, role_at, short}
-use Rattle.cx_msg.specs.declared.message.Msg.{Msg}
+use Rattle.cx_letter.specs.declared.message.Msg.{Msg}
 use Rattle.cx_msg.proofs.BodyLaws.{body-again}
 use Rattle.cx_msg.proofs.DatagramLaws.{small_tag}
-use Rattle.cx_msg.proofs.PartsLaws.{fitting}
+use Rattle.cx_letter.proofs.PartsLaws.{fitting}
 
 -- its body is read as its message
 pub body_reads : (d : Letter) (kind : ℕ) (bytes : List ℕ) → IsSpelled d kind bytes → by_tag (cases_with true) kind (length bytes) bytes ≡ Ok (d.msg, [])

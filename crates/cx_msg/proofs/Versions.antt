@@ -10,9 +10,9 @@ use Rattle.cx_wire.proofs.Parts.{IsPart, IsShapePart, then_by-part, ▷-part, sh
 use Rattle.cx_field.proofs.Floors.{command-part, commands-part, value-part, votes-part}
 use Rattle.cx_field.specs.Fields.{slot, mark, round, grid, command_with, commands_with, value_with, votes_with, in_window, tells_floor, value_tells}
 use Rattle.cx_field.specs.declared.parts.Vote.{Vote}
-use Rattle.cx_msg.specs.Messages.{phase1b, phase2a, propose, slot_value, tells_floors, body_with, body_shape}
-use Rattle.cx_msg.specs.declared.message.Msg.{Msg}
-use Rattle.cx_msg.specs.declared.message.Msg.TheVariants.{Chosen, Phase2A, Submit, Batch, Phase1B, Propose}
+use Rattle.cx_letter.specs.Messages.{phase1b, phase2a, propose, slot_value, tells_floors, body_with, body_shape}
+use Rattle.cx_letter.specs.declared.message.Msg.{Msg}
+use Rattle.cx_letter.specs.declared.message.Msg.TheVariants.{Chosen, Phase2A, Submit, Batch, Phase1B, Propose}
 
 watched-part : IsPart (λ (x : ℕ × (ℕ × Value)). value_tells x.1.1) (then_by slot (λ s. only (λ cw. in_window cw s) mark ▷ value_with false)) (then_by slot (λ s. only (λ cw. in_window cw s) mark ▷ value_with true))
 watched-part =

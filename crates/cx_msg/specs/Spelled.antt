@@ -4,10 +4,10 @@ use Rattle.std.specs.Int.{w16, from_be_bytes}
 use Rattle.cx_base.specs.Role.{code_of, kind_of, role}
 use Rattle.cx_base.specs.declared.role.RoleId.{RoleId}
 use Rattle.cx_wire.specs.Format.{Miss, by_tag, u8, u16}
-use Rattle.cx_msg.specs.Letter.{Letter, body, fits, letter}
-use Rattle.cx_msg.specs.Messages.{body_shape, cases_with}
-use Rattle.cx_msg.specs.declared.message.Msg.{Msg}
-use Rattle.cx_msg.specs.declared.message.Msg.TheVariants.{Fetch}
+use Rattle.cx_letter.specs.Letter.{Letter, body, fits, letter}
+use Rattle.cx_letter.specs.Messages.{body_shape, cases_with}
+use Rattle.cx_letter.specs.declared.message.Msg.{Msg}
+use Rattle.cx_letter.specs.declared.message.Msg.TheVariants.{Fetch}
 
 -- the message that was read, and one that stands for a body that is none
 abbrev pub msg_or : Result (Msg × List ℕ) Miss → Msg

@@ -4,11 +4,10 @@ ghost use Rattle.std.specs.Prelude.{◌≡◌, length};
 ghost use Rattle.cx_wire.specs.Format as wire;
 ghost use Rattle.cx_field.specs.Fields as field;
 ghost use Rattle.cx_field.specs.Fields.{in_window};
-ghost use Rattle.cx_msg.specs.Messages as message;
-ghost use Rattle.cx_msg.specs.Records as records;
+ghost use Rattle.cx_letter.specs.Messages as message;
+ghost use Rattle.cx_letter.specs.Records as records;
 ghost use Rattle.cx_field.specs.Reading.{Gives, Reads};
 
-use crate::message::Msg;
 use crate::read_bodies::{
     match_read_ack_from, match_read_from, pre_read_ack_from, pre_read_from, read_answer_from,
     read_from, read_req_from, sess_read_from,
@@ -23,10 +22,11 @@ use cx_field::{
     grid_from, mark_from, reason_from, reply_from, round_from, round0_from, seq_from, slot_from,
     value_from, votes_from,
 };
+use cx_letter::Msg;
 use std::alloc::Global;
 
 /// Reads the body of a message of this kind, in which commands may tell their floors or may not.
-#[tactic(auto, unfolding(crate::specs::Messages::cases_with))]
+#[tactic(auto, unfolding(cx_letter::specs::Messages::cases_with))]
 pub fn body_from(
     kind: u8,
     alloc: Global,
@@ -113,7 +113,7 @@ fn match_a_from(alloc: Global, reader: &mut ByteReader<'_>) -> Result<Msg, ReadF
     Ok(Msg::MatchA { round, grid })
 }
 
-#[tactic(auto, unfolding(crate::specs::Messages::match_b))]
+#[tactic(auto, unfolding(cx_letter::specs::Messages::match_b))]
 fn match_b_from(alloc: Global, reader: &mut ByteReader<'_>) -> Result<Msg, ReadFault>
     ensures { Gives (λ m. m) result
         ((wire.case 5 message.match_b (λ x. Msg.MatchB x.0 x.1.0 x.1.1)).read reader.old) reader.new }
@@ -128,7 +128,7 @@ fn match_b_from(alloc: Global, reader: &mut ByteReader<'_>) -> Result<Msg, ReadF
     })
 }
 
-#[tactic(auto, unfolding(crate::specs::Messages::match_nack))]
+#[tactic(auto, unfolding(cx_letter::specs::Messages::match_nack))]
 fn match_nack_from(reader: &mut ByteReader<'_>) -> Result<Msg, ReadFault>
     ensures { Gives (λ m. m) result
         ((wire.case 6 message.match_nack (λ x. Msg.MatchNack x.0 x.1.0 x.1.1)).read reader.old)
@@ -151,7 +151,7 @@ fn phase1a_from(reader: &mut ByteReader<'_>) -> Result<Msg, ReadFault>
     Ok(Msg::Phase1A { round })
 }
 
-#[tactic(auto, unfolding(crate::specs::Messages::phase1b))]
+#[tactic(auto, unfolding(cx_letter::specs::Messages::phase1b))]
 fn phase1b_from(alloc: Global, floors: bool, reader: &mut ByteReader<'_>) -> Result<Msg, ReadFault>
     ensures { Gives (λ m. m) result
         ((wire.case 8 (message.phase1b floors) (λ x. Msg.Phase1B x.0 x.1.0 x.1.1)).read reader.old)
@@ -163,7 +163,7 @@ fn phase1b_from(alloc: Global, floors: bool, reader: &mut ByteReader<'_>) -> Res
     Ok(Msg::Phase1B { round, cw, votes })
 }
 
-#[tactic(auto, unfolding(crate::specs::Messages::nack))]
+#[tactic(auto, unfolding(cx_letter::specs::Messages::nack))]
 fn nack_from(reader: &mut ByteReader<'_>) -> Result<Msg, ReadFault>
     ensures { Gives (λ m. m) result ((wire.case 9 message.nack (λ x. Msg.Nack x.0 x.1)).read reader.old) reader.new }
 {
@@ -184,7 +184,7 @@ fn window_from(slot: u64, reader: &mut ByteReader<'_>) -> Result<u64, ReadFault>
     Ok(cw)
 }
 
-#[tactic(auto, unfolding(crate::specs::Messages::propose))]
+#[tactic(auto, unfolding(cx_letter::specs::Messages::propose))]
 fn propose_from(alloc: Global, floors: bool, reader: &mut ByteReader<'_>) -> Result<Msg, ReadFault>
     ensures { Gives (λ m. m) result
         ((wire.case 10 (message.propose floors)
@@ -204,7 +204,7 @@ fn propose_from(alloc: Global, floors: bool, reader: &mut ByteReader<'_>) -> Res
     })
 }
 
-#[tactic(auto, unfolding(crate::specs::Messages::phase2a))]
+#[tactic(auto, unfolding(cx_letter::specs::Messages::phase2a))]
 fn phase2a_from(alloc: Global, floors: bool, reader: &mut ByteReader<'_>) -> Result<Msg, ReadFault>
     ensures { Gives (λ m. m) result
         ((wire.case 11 (message.phase2a floors) (λ x. Msg.Phase2A x.0 x.1.0 x.1.1.0 x.1.1.1)).read
@@ -222,7 +222,7 @@ fn phase2a_from(alloc: Global, floors: bool, reader: &mut ByteReader<'_>) -> Res
     })
 }
 
-#[tactic(auto, unfolding(crate::specs::Messages::round_slot))]
+#[tactic(auto, unfolding(cx_letter::specs::Messages::round_slot))]
 fn phase2b_from(reader: &mut ByteReader<'_>) -> Result<Msg, ReadFault>
     ensures { Gives (λ m. m) result
         ((wire.case 12 message.round_slot (λ x. Msg.Phase2B x.0 x.1)).read reader.old) reader.new }
@@ -232,7 +232,7 @@ fn phase2b_from(reader: &mut ByteReader<'_>) -> Result<Msg, ReadFault>
     Ok(Msg::Phase2B { round, slot })
 }
 
-#[tactic(auto, unfolding(crate::specs::Messages::slot_value))]
+#[tactic(auto, unfolding(cx_letter::specs::Messages::slot_value))]
 fn chosen_from(alloc: Global, floors: bool, reader: &mut ByteReader<'_>) -> Result<Msg, ReadFault>
     ensures { Gives (λ m. m) result
         ((wire.case 13 (message.slot_value floors) (λ x. Msg.Chosen x.0 x.1)).read reader.old)
@@ -243,7 +243,7 @@ fn chosen_from(alloc: Global, floors: bool, reader: &mut ByteReader<'_>) -> Resu
     Ok(Msg::Chosen { slot, value })
 }
 
-#[tactic(auto, unfolding(crate::specs::Messages::round_slot))]
+#[tactic(auto, unfolding(cx_letter::specs::Messages::round_slot))]
 fn chosen_in_from(reader: &mut ByteReader<'_>) -> Result<Msg, ReadFault>
     ensures { Gives (λ m. m) result
         ((wire.case 14 message.round_slot (λ x. Msg.ChosenIn x.0 x.1)).read reader.old) reader.new }
@@ -253,7 +253,7 @@ fn chosen_in_from(reader: &mut ByteReader<'_>) -> Result<Msg, ReadFault>
     Ok(Msg::ChosenIn { round, slot })
 }
 
-#[tactic(auto, unfolding(crate::specs::Messages::results))]
+#[tactic(auto, unfolding(cx_letter::specs::Messages::results))]
 fn results_from(alloc: Global, reader: &mut ByteReader<'_>) -> Result<Msg, ReadFault>
     ensures { Gives (λ m. m) result
         ((wire.case 15 message.results (λ x. Msg.Results x.0 x.1)).read reader.old) reader.new }
@@ -263,7 +263,7 @@ fn results_from(alloc: Global, reader: &mut ByteReader<'_>) -> Result<Msg, ReadF
     Ok(Msg::Results { slot, answers })
 }
 
-#[tactic(auto, unfolding(crate::specs::Messages::answer))]
+#[tactic(auto, unfolding(cx_letter::specs::Messages::answer))]
 fn answer_from(reader: &mut ByteReader<'_>) -> Result<Msg, ReadFault>
     ensures { Gives (λ m. m) result
         ((wire.case 16 message.answer (λ x. Msg.Answer x.0 x.1.0 x.1.1)).read reader.old) reader.new }

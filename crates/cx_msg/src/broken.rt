@@ -2,7 +2,7 @@
 
 ghost use Rattle.std.specs.Prelude.{◌≡◌, ◌≤◌, IfOk, length};
 ghost use Rattle.cx_wire.specs.Format.{short_field};
-ghost use Rattle.cx_msg.specs.Records.{break_place, break_of_part};
+ghost use Rattle.cx_msg.specs.RecordBytes.{break_place, break_of_part};
 
 use crate::records::{fields_from, is_tag};
 use cx_base::NoMemory;
@@ -10,7 +10,7 @@ use cx_field::{ByteReader, ReadFault};
 use std::alloc::Global;
 
 // Where bytes break at a field that takes more of them than are left.
-#[tactic(auto, unfolding(crate::specs::Records::break_place))]
+#[tactic(auto, unfolding(crate::specs::RecordBytes::break_place))]
 fn cut_place(said: usize, have: usize, left: usize, need: usize) -> usize
     ensures place { result ≡ break_place said have (short_field left need) }
     ensures within { result ≤ have }
@@ -26,7 +26,7 @@ fn cut_place(said: usize, have: usize, left: usize, need: usize) -> usize
 /// Where a record of `said` bytes breaks if no more of them are there than these first ones, in bytes from its first: a tag that
 /// is none at 0; a field that is out of its range, or that would reach past the `said` bytes, at its first byte; bytes after
 /// the last field at the first of them; and else where these bytes end. The format is this project's own.
-#[tactic(auto, unfolding(crate::specs::Records::break_place, crate::specs::Records::part_ended, crate::specs::Records::part_with_tag))]
+#[tactic(auto, unfolding(crate::specs::RecordBytes::break_place, crate::specs::RecordBytes::part_ended, crate::specs::RecordBytes::part_with_tag))]
 pub fn break_of_part(alloc: Global, bytes: &[u8], said: usize) -> Result<usize, NoMemory>
     ensures place { IfOk result (λ at. at ≡ break_of_part said bytes.now) }
     ensures within { IfOk result (λ at. at ≤ length bytes.now) }

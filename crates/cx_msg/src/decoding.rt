@@ -1,23 +1,23 @@
 //! Datagrams from bytes.
 
 ghost use Rattle.std.specs.Prelude.{◌≡◌, ◌==◌, ◌≤◌, ◌++◌, ℕ, List, [], IfOk, IfErr, IsTrue, length};
-ghost use Rattle.cx_msg.specs.Letter.{Letter, spelling, fits};
+ghost use Rattle.cx_letter.specs.Letter.{Letter, fits};
+ghost use Rattle.cx_msg.specs.Datagrams.{spelling};
 ghost use Rattle.cx_msg.specs.Parts.{DecodesParts};
 ghost use Rattle.cx_msg.specs.Decoding.{decoded, letter_at_end, after_header};
 ghost use Rattle.cx_msg.specs.Decodes.{Decodes};
-ghost use Rattle.cx_msg.specs.Messages.{cases_with};
+ghost use Rattle.cx_letter.specs.Messages.{cases_with};
 ghost use Rattle.cx_msg.specs.Places.{LiesIn};
 ghost use Rattle.cx_wire.specs.Format.{by_tag};
 
 use crate::bodies::body_from;
-use crate::datagram::Datagram;
 use crate::fault::WireFault;
 use crate::floors::version_of;
 use crate::header::{Header, MAGIC, header_from};
-use crate::message::Msg;
 use crate::roles::{is_kind, may_receive, may_send};
 use cx_base::{Kind, RoleId};
 use cx_field::{ByteReader, ReadFault};
+use cx_letter::{Datagram, Msg};
 use std::alloc::Global;
 
 /// The parts of a datagram.

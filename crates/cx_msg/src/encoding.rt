@@ -1,13 +1,14 @@
 //! Datagrams to bytes.
 
 ghost use Rattle.std.specs.Prelude.{◌≡◌, ◌≤◌, ◌+◌, ◌++◌, length, OnOk, OnErr};
-ghost use Rattle.cx_msg.specs.Letter.{body, spelling};
+ghost use Rattle.cx_letter.specs.Letter.{body};
+ghost use Rattle.cx_msg.specs.Datagrams.{spelling};
 
-use crate::datagram::Datagram;
 use crate::floors::version_of;
 use crate::header::{Header, MAGIC, put_header};
-use crate::put_bodies::{message_kind, put_body};
+use crate::put_bodies::put_body;
 use cx_base::NoMemory;
+use cx_letter::{Datagram, message_kind};
 use std::alloc::Global;
 
 /// Appends the bytes of a datagram's body, without its header. Out of memory, it appends nothing.

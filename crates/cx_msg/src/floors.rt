@@ -4,11 +4,11 @@ ghost use Rattle.std.specs.Prelude.{◌≡◌};
 ghost use Rattle.std.specs.List.{list_any};
 ghost use Rattle.cx_field.specs.Fields.{tells_floor, value_tells};
 ghost use Rattle.cx_field.specs.declared.parts.Vote.{Vote as VoteModel};
-ghost use Rattle.cx_msg.specs.Messages.{tells_floors, version_of};
+ghost use Rattle.cx_letter.specs.Messages.{tells_floors, version_of};
 
-use crate::message::Msg;
 use cx_base::{Command, Value};
 use cx_field::Vote;
+use cx_letter::Msg;
 
 // Whether a command tells its floor: it isn't the number just below the command's.
 fn tells_floor(command: &Command) -> bool

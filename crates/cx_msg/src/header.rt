@@ -1,7 +1,7 @@
 //! The twelve bytes before a body.
 
 ghost use Rattle.std.specs.Prelude.{◌≡◌, ◌≤◌, ◌+◌, ◌++◌, length, OnOk};
-ghost use Rattle.cx_msg.specs.Letter.{header as header_format};
+ghost use Rattle.cx_msg.specs.Datagrams.{header as header_format};
 ghost use Rattle.cx_field.specs.Reading.{Reads};
 ghost use Rattle.cx_wire.specs.Format as wire;
 ghost use Rattle.cx_wire.specs.Format.{◌▷◌, Appends};
@@ -26,7 +26,7 @@ pub struct Header {
     pub said: u16,
 }
 
-#[tactic(auto, unfolding(crate::specs::Letter::header))]
+#[tactic(auto, unfolding(crate::specs::Datagrams::header))]
 pub fn header_from(reader: &mut ByteReader<'_>) -> Result<Header, ReadFault>
     ensures { Reads header_format reader.old result reader.new }
 {
@@ -66,7 +66,7 @@ fn put_role(out: &mut Vec<u8>, code: u8, index: u16) -> Result<(), NoMemory>
     put_u16(out, index)
 }
 
-#[tactic(auto, unfolding(crate::specs::Letter::header))]
+#[tactic(auto, unfolding(crate::specs::Datagrams::header))]
 pub fn put_header(out: &mut Vec<u8>, header: &Header) -> Result<(), NoMemory>
     ensures { OnOk result (Appends header_format header.now 12 out.old.items out.new.items) }
 {

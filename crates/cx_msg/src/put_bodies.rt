@@ -1,11 +1,10 @@
 //! The bodies of messages, appended to bytes.
 
 ghost use Rattle.std.specs.Prelude.{◌≡◌, ◌≤◌, ◌+◌, ◌++◌, true, length, OnOk};
-ghost use Rattle.cx_msg.specs.Messages as message;
-ghost use Rattle.cx_msg.specs.Records as records;
+ghost use Rattle.cx_letter.specs.Messages as message;
+ghost use Rattle.cx_letter.specs.Records as records;
 ghost use Rattle.cx_wire.specs.Format.{Appends};
 
-use crate::message::Msg;
 use crate::put_read_bodies::{
     put_match_read_ack, put_pre_read, put_pre_read_ack, put_read_answer, put_read_key,
     put_read_req, put_sess_read,
@@ -17,52 +16,7 @@ use cx_field::{
     put_commands, put_entries, put_grid, put_mark, put_reason, put_reply, put_round, put_seq,
     put_set, put_slot, put_value, put_votes,
 };
-
-/// A message's number on the wire.
-pub fn message_kind(msg: &Msg) -> u8
-    ensures { result ≡ (message.body_shape msg.now).tag }
-{
-    match msg {
-        Msg::Submit { .. } => 1,
-        Msg::Batch { .. } => 2,
-        Msg::Leads { .. } => 3,
-        Msg::MatchA { .. } => 4,
-        Msg::MatchB { .. } => 5,
-        Msg::MatchNack { .. } => 6,
-        Msg::Phase1A { .. } => 7,
-        Msg::Phase1B { .. } => 8,
-        Msg::Nack { .. } => 9,
-        Msg::Propose { .. } => 10,
-        Msg::Phase2A { .. } => 11,
-        Msg::Phase2B { .. } => 12,
-        Msg::Chosen { .. } => 13,
-        Msg::ChosenIn { .. } => 14,
-        Msg::Results { .. } => 15,
-        Msg::Answer { .. } => 16,
-        Msg::Held { .. } => 17,
-        Msg::Fetch { .. } => 18,
-        Msg::Inform { .. } => 19,
-        Msg::Informed { .. } => 20,
-        Msg::GarbageA { .. } => 21,
-        Msg::GarbageB { .. } => 22,
-        Msg::ReadReq { .. } => 23,
-        Msg::MatchRead { .. } => 24,
-        Msg::MatchReadAck { .. } => 25,
-        Msg::PreRead { .. } => 26,
-        Msg::PreReadAck { .. } => 27,
-        Msg::Read { .. } => 28,
-        Msg::ReadAnswer { .. } => 29,
-        Msg::StopA { .. } => 30,
-        Msg::StopB { .. } => 31,
-        Msg::StopNack { .. } => 32,
-        Msg::NextA { .. } => 33,
-        Msg::NextB { .. } => 34,
-        Msg::BootA { .. } => 35,
-        Msg::BootB { .. } => 36,
-        Msg::Sets { .. } => 37,
-        Msg::SessRead { .. } => 38,
-    }
-}
+use cx_letter::Msg;
 
 fn put_round_grid(out: &mut Vec<u8>, round: &Round, grid: &Grid) -> Result<(), NoMemory>
     ensures { OnOk result (Appends records.round_grid (round.now, grid.now) 44 out.old.items out.new.items) }
@@ -71,7 +25,7 @@ fn put_round_grid(out: &mut Vec<u8>, round: &Round, grid: &Grid) -> Result<(), N
     put_grid(out, grid)
 }
 
-#[tactic(auto, unfolding(crate::specs::Messages::round_slot))]
+#[tactic(auto, unfolding(cx_letter::specs::Messages::round_slot))]
 fn put_round_slot(out: &mut Vec<u8>, round: &Round, slot: u64) -> Result<(), NoMemory>
     ensures { OnOk result (Appends message.round_slot (round.now, slot) 18 out.old.items out.new.items) }
 {
@@ -86,7 +40,7 @@ fn put_round_mark(out: &mut Vec<u8>, round: &Round, mark: u64) -> Result<(), NoM
     put_mark(out, mark)
 }
 
-#[tactic(auto, unfolding(crate::specs::Messages::match_b))]
+#[tactic(auto, unfolding(cx_letter::specs::Messages::match_b))]
 fn put_match_b(
     out: &mut Vec<u8>,
     round: &Round,
@@ -101,7 +55,7 @@ fn put_match_b(
     put_entries(out, entries)
 }
 
-#[tactic(auto, unfolding(crate::specs::Messages::match_nack))]
+#[tactic(auto, unfolding(cx_letter::specs::Messages::match_nack))]
 fn put_match_nack(
     out: &mut Vec<u8>,
     round: &Round,
@@ -115,7 +69,7 @@ fn put_match_nack(
     put_round(out, other)
 }
 
-#[tactic(auto, unfolding(crate::specs::Messages::phase1b, cx_field::specs::Fields::votes))]
+#[tactic(auto, unfolding(cx_letter::specs::Messages::phase1b, cx_field::specs::Fields::votes))]
 fn put_phase1b(out: &mut Vec<u8>, round: &Round, cw: u64, votes: &Votes) -> Result<(), NoMemory>
     ensures { OnOk result (Appends (message.phase1b true) (round.now, (cw, votes.now)) 30611
         out.old.items out.new.items) }
@@ -125,7 +79,7 @@ fn put_phase1b(out: &mut Vec<u8>, round: &Round, cw: u64, votes: &Votes) -> Resu
     put_votes(out, cw, votes)
 }
 
-#[tactic(auto, unfolding(crate::specs::Messages::propose, cx_field::specs::Fields::value))]
+#[tactic(auto, unfolding(cx_letter::specs::Messages::propose, cx_field::specs::Fields::value))]
 fn put_propose(
     out: &mut Vec<u8>,
     round: &Round,
@@ -144,7 +98,7 @@ fn put_propose(
     put_value(out, value)
 }
 
-#[tactic(auto, unfolding(crate::specs::Messages::phase2a, cx_field::specs::Fields::value))]
+#[tactic(auto, unfolding(cx_letter::specs::Messages::phase2a, cx_field::specs::Fields::value))]
 fn put_phase2a(
     out: &mut Vec<u8>,
     round: &Round,
@@ -161,7 +115,7 @@ fn put_phase2a(
     put_value(out, value)
 }
 
-#[tactic(auto, unfolding(crate::specs::Messages::slot_value, cx_field::specs::Fields::value))]
+#[tactic(auto, unfolding(cx_letter::specs::Messages::slot_value, cx_field::specs::Fields::value))]
 fn put_slot_value(out: &mut Vec<u8>, slot: u64, value: &Value) -> Result<(), NoMemory>
     ensures { OnOk result (Appends (message.slot_value true) (slot, value.now) 946 out.old.items out.new.items) }
 {
@@ -169,7 +123,7 @@ fn put_slot_value(out: &mut Vec<u8>, slot: u64, value: &Value) -> Result<(), NoM
     put_value(out, value)
 }
 
-#[tactic(auto, unfolding(crate::specs::Messages::nack))]
+#[tactic(auto, unfolding(cx_letter::specs::Messages::nack))]
 fn put_nack(out: &mut Vec<u8>, round: &Round, promise: &Round) -> Result<(), NoMemory>
     ensures { OnOk result (Appends message.nack (round.now, promise.now) 20 out.old.items out.new.items) }
 {
@@ -177,7 +131,7 @@ fn put_nack(out: &mut Vec<u8>, round: &Round, promise: &Round) -> Result<(), NoM
     put_round(out, promise)
 }
 
-#[tactic(auto, unfolding(crate::specs::Messages::results))]
+#[tactic(auto, unfolding(cx_letter::specs::Messages::results))]
 fn put_results(out: &mut Vec<u8>, slot: u64, answers: &Answers) -> Result<(), NoMemory>
     ensures { OnOk result (Appends message.results (slot, answers.now) 681 out.old.items out.new.items) }
 {
@@ -185,7 +139,7 @@ fn put_results(out: &mut Vec<u8>, slot: u64, answers: &Answers) -> Result<(), No
     put_answers(out, answers)
 }
 
-#[tactic(auto, unfolding(crate::specs::Messages::answer))]
+#[tactic(auto, unfolding(cx_letter::specs::Messages::answer))]
 fn put_answer(out: &mut Vec<u8>, seq: u64, at: u64, reply: &Reply) -> Result<(), NoMemory>
     ensures { OnOk result (Appends message.answer (seq, (at, reply.now)) 82 out.old.items out.new.items) }
 {

@@ -1,7 +1,7 @@
 //! The bodies of messages of reads, appended to bytes.
 
 ghost use Rattle.std.specs.Prelude.{◌≡◌, ◌≤◌, ◌+◌, ◌++◌, OnOk};
-ghost use Rattle.cx_msg.specs.Messages as message;
+ghost use Rattle.cx_letter.specs.Messages as message;
 ghost use Rattle.cx_wire.specs.Format.{Appends};
 
 use cx_base::{Key, NoMemory, Round, Text};
@@ -11,7 +11,7 @@ use cx_field::{
 };
 use cx_wire::put_u16;
 
-#[tactic(auto, unfolding(crate::specs::Messages::read_req))]
+#[tactic(auto, unfolding(cx_letter::specs::Messages::read_req))]
 pub fn put_read_req(out: &mut Vec<u8>, seq: u64, replica: u16, key: &Key) -> Result<(), NoMemory>
     ensures { OnOk result (Appends message.read_req (seq, (replica, key.now)) 43 out.old.items out.new.items) }
 {
@@ -20,7 +20,7 @@ pub fn put_read_req(out: &mut Vec<u8>, seq: u64, replica: u16, key: &Key) -> Res
     put_name(out, key)
 }
 
-#[tactic(auto, unfolding(crate::specs::Messages::match_read_ack))]
+#[tactic(auto, unfolding(cx_letter::specs::Messages::match_read_ack))]
 pub fn put_match_read_ack(
     out: &mut Vec<u8>,
     asking: &Asking,
@@ -35,7 +35,7 @@ pub fn put_match_read_ack(
     put_entries(out, entries)
 }
 
-#[tactic(auto, unfolding(crate::specs::Messages::pre_read))]
+#[tactic(auto, unfolding(cx_letter::specs::Messages::pre_read))]
 pub fn put_pre_read(out: &mut Vec<u8>, asking: &Asking, watermark: &Round) -> Result<(), NoMemory>
     ensures { OnOk result (Appends message.pre_read (asking.now, watermark.now) 20 out.old.items out.new.items) }
 {
@@ -43,7 +43,7 @@ pub fn put_pre_read(out: &mut Vec<u8>, asking: &Asking, watermark: &Round) -> Re
     put_round(out, watermark)
 }
 
-#[tactic(auto, unfolding(crate::specs::Messages::pre_read_ack))]
+#[tactic(auto, unfolding(cx_letter::specs::Messages::pre_read_ack))]
 pub fn put_pre_read_ack(
     out: &mut Vec<u8>,
     asking: &Asking,
@@ -58,7 +58,7 @@ pub fn put_pre_read_ack(
     put_mark(out, mark)
 }
 
-#[tactic(auto, unfolding(crate::specs::Messages::read_key))]
+#[tactic(auto, unfolding(cx_letter::specs::Messages::read_key))]
 pub fn put_read_key(out: &mut Vec<u8>, token: &Token, mark: u64, key: &Key) -> Result<(), NoMemory>
     ensures { OnOk result (Appends message.read_key (token.now, (mark, key.now)) 51 out.old.items out.new.items) }
 {
@@ -67,7 +67,7 @@ pub fn put_read_key(out: &mut Vec<u8>, token: &Token, mark: u64, key: &Key) -> R
     put_name(out, key)
 }
 
-#[tactic(auto, unfolding(crate::specs::Messages::read_answer))]
+#[tactic(auto, unfolding(cx_letter::specs::Messages::read_answer))]
 pub fn put_read_answer(
     out: &mut Vec<u8>,
     seq: u64,
@@ -81,7 +81,7 @@ pub fn put_read_answer(
     put_found(out, found)
 }
 
-#[tactic(auto, unfolding(crate::specs::Messages::sess_read))]
+#[tactic(auto, unfolding(cx_letter::specs::Messages::sess_read))]
 pub fn put_sess_read(out: &mut Vec<u8>, seq: u64, mark: u64, key: &Key) -> Result<(), NoMemory>
     ensures { OnOk result (Appends message.sess_read (seq, (mark, key.now)) 49 out.old.items out.new.items) }
 {

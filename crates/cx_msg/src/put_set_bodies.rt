@@ -2,8 +2,8 @@
 
 ghost use Rattle.std.specs.Prelude.{◌≡◌, ◌≤◌, ◌+◌, ◌++◌, OnOk};
 ghost use Rattle.cx_field.specs.Fields as field;
-ghost use Rattle.cx_msg.specs.Messages as message;
-ghost use Rattle.cx_msg.specs.Records as records;
+ghost use Rattle.cx_letter.specs.Messages as message;
+ghost use Rattle.cx_letter.specs.Records as records;
 ghost use Rattle.cx_wire.specs.Format.{Appends, then_by};
 
 use cx_base::{NoMemory, Round, Set};
@@ -17,7 +17,7 @@ fn put_accepted(out: &mut Vec<u8>, accepted: &Round, set: &Set) -> Result<(), No
     put_set(out, set)
 }
 
-#[tactic(auto, unfolding(crate::specs::Messages::stop_b))]
+#[tactic(auto, unfolding(cx_letter::specs::Messages::stop_b))]
 pub fn put_stop_b(
     out: &mut Vec<u8>,
     round: &Round,

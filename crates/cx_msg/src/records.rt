@@ -5,12 +5,12 @@ ghost use Rattle.cx_wire.specs.Format as wire;
 ghost use Rattle.cx_wire.specs.Format.{Appends};
 ghost use Rattle.cx_msg.specs.Places.{LiesIn};
 ghost use Rattle.cx_msg.specs.Decodes.{Decodes};
-ghost use Rattle.cx_msg.specs.Records as records;
+ghost use Rattle.cx_msg.specs.RecordBytes.{is_tag, record_of_bytes, spelling};
+ghost use Rattle.cx_letter.specs.Records as records;
 ghost use Rattle.cx_field.specs.Reading.{Gives};
-ghost use Rattle.cx_msg.specs.declared.kept.Record.{Record as Kept};
+ghost use Rattle.cx_letter.specs.declared.kept.Record.{Record as Kept};
 
 use crate::fault::WireFault;
-use crate::kept::Record;
 use crate::put_set_bodies::put_boot;
 use cx_base::{NoMemory, Round, Value};
 use cx_field::{
@@ -18,17 +18,18 @@ use cx_field::{
     put_grid, put_mark, put_notes, put_pairs, put_round, put_seq, put_set, put_slot, put_value,
     put_values, round_from, round0_from, seq_from, set_from, slot_from, value_from, values_from,
 };
+use cx_letter::Record;
 use cx_wire::{put_u8, put_u16, put_u32, put_u64};
 use std::alloc::Global;
 
 /// Whether records have this tag.
 pub(crate) fn is_tag(tag: u8) -> bool
-    ensures { result ≡ records.is_tag tag }
+    ensures { result ≡ is_tag tag }
 {
     tag >= 1 && tag <= 16
 }
 
-#[tactic(auto, unfolding(crate::specs::Records::record_cases, cx_field::specs::Fields::value))]
+#[tactic(auto, unfolding(cx_letter::specs::Records::record_cases, cx_field::specs::Fields::value))]
 pub(crate) fn fields_from(
     tag: u8,
     alloc: Global,
@@ -133,9 +134,9 @@ pub(crate) fn fields_from(
     }
 }
 
-#[tactic(auto, unfolding(crate::specs::Records::record_at_end, crate::specs::Records::with_tag))]
+#[tactic(auto, unfolding(crate::specs::RecordBytes::record_at_end, crate::specs::RecordBytes::with_tag))]
 fn read(alloc: Global, bytes: &[u8]) -> Result<Record, WireFault>
-    ensures { Decodes result (records.record_of_bytes bytes.now) }
+    ensures { Decodes result (record_of_bytes bytes.now) }
 {
     let mut reader = ByteReader::new(bytes);
     let tag = match reader.u8() {
@@ -173,12 +174,12 @@ fn read(alloc: Global, bytes: &[u8]) -> Result<Record, WireFault>
 /// last field (`Trailing`). The format is this project's own; it has no version, and commands may tell their floors.
 pub fn record_from(alloc: Global, bytes: &[u8]) -> Result<Record, WireFault>
     // What is read is spelled so, and has a spelling.
-    ensures found { IfOk result (λ r. (bytes.now ≡ records.spelling r) × IsTrue (records.fits r)) }
+    ensures found { IfOk result (λ r. (bytes.now ≡ spelling r) × IsTrue (records.fits r)) }
     // What is spelled so is read, unless memory runs out.
-    ensures only { (r : Kept) → IsTrue (records.fits r) → bytes.now ≡ records.spelling r
+    ensures only { (r : Kept) → IsTrue (records.fits r) → bytes.now ≡ spelling r
         → Decodes result (Ok r) }
     // Which fault it is.
-    ensures exact { Decodes result (records.record_of_bytes bytes.now) }
+    ensures exact { Decodes result (record_of_bytes bytes.now) }
     // Where it lies.
     ensures place { IfErr result (λ fault. LiesIn 1 bytes.now fault) }
 {
@@ -228,7 +229,7 @@ fn put_client_notes(
     put_notes(out, notes)
 }
 
-#[tactic(auto, unfolding(crate::specs::Records::kept_record))]
+#[tactic(auto, unfolding(cx_letter::specs::Records::kept_record))]
 fn put_record(out: &mut Vec<u8>, kept: &Record) -> Result<(), NoMemory>
     ensures { OnOk result (Appends records.kept_record kept.now 30018 out.old.items out.new.items) }
 {
@@ -324,10 +325,10 @@ fn put_record(out: &mut Vec<u8>, kept: &Record) -> Result<(), NoMemory>
 }
 
 /// Appends the bytes of a record, at most 30,018. Out of memory, it appends nothing.
-#[tactic(auto, unfolding(crate::specs::Records::kept_record))]
+#[tactic(auto, unfolding(cx_letter::specs::Records::kept_record))]
 pub fn record_into(alloc: Global, kept: &Record, out: &mut Vec<u8>) -> Result<(), NoMemory>
-    ensures bytes { OnOk result (out.new.items ≡ out.old.items ++ records.spelling kept.now) }
-    ensures room { OnOk result (length (records.spelling kept.now) ≤ 30018) }
+    ensures bytes { OnOk result (out.new.items ≡ out.old.items ++ spelling kept.now) }
+    ensures room { OnOk result (length (spelling kept.now) ≤ 30018) }
     ensures err { OnErr result (out.new.items ≡ out.old.items) }
 {
     let mut whole = Vec::new(alloc);

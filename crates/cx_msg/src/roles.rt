@@ -1,7 +1,7 @@
 //! Which roles send and get which kind of message.
 
 ghost use Rattle.std.specs.Prelude.{◌≡◌};
-ghost use Rattle.cx_msg.specs.Letter.{is_kind, senders, receivers, is_listed};
+ghost use Rattle.cx_letter.specs.Letter.{is_kind, senders, receivers, is_listed};
 
 // Each kind of message with the code of a role that sends it.
 const SENDERS: [(u8, u8); 39] = [

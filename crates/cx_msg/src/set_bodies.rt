@@ -3,15 +3,15 @@
 ghost use Rattle.std.specs.Prelude.{◌≡◌};
 ghost use Rattle.cx_wire.specs.Format as wire;
 ghost use Rattle.cx_field.specs.Fields as field;
-ghost use Rattle.cx_msg.specs.Messages as message;
-ghost use Rattle.cx_msg.specs.Records as records;
+ghost use Rattle.cx_letter.specs.Messages as message;
+ghost use Rattle.cx_letter.specs.Records as records;
 ghost use Rattle.cx_field.specs.Reading.{Gives};
 
-use crate::message::Msg;
 use cx_field::{
     ByteReader, ReadFault, accepted_set_from, entries_from, joined_from, round_from, round0_from,
     set_from,
 };
+use cx_letter::Msg;
 use std::alloc::Global;
 
 pub fn stop_a_from(reader: &mut ByteReader<'_>) -> Result<Msg, ReadFault>
@@ -21,7 +21,7 @@ pub fn stop_a_from(reader: &mut ByteReader<'_>) -> Result<Msg, ReadFault>
     Ok(Msg::StopA { round })
 }
 
-#[tactic(auto, unfolding(crate::specs::Messages::stop_b))]
+#[tactic(auto, unfolding(cx_letter::specs::Messages::stop_b))]
 pub fn stop_b_from(alloc: Global, reader: &mut ByteReader<'_>) -> Result<Msg, ReadFault>
     ensures { Gives (λ m. m) result
         ((wire.case 31 message.stop_b
@@ -41,7 +41,7 @@ pub fn stop_b_from(alloc: Global, reader: &mut ByteReader<'_>) -> Result<Msg, Re
     })
 }
 
-#[tactic(auto, unfolding(crate::specs::Messages::nack))]
+#[tactic(auto, unfolding(cx_letter::specs::Messages::nack))]
 pub fn stop_nack_from(reader: &mut ByteReader<'_>) -> Result<Msg, ReadFault>
     ensures { Gives (λ m. m) result
         ((wire.case 32 message.nack (λ x. Msg.StopNack x.0 x.1)).read reader.old) reader.new }

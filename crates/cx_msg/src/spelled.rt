@@ -1,16 +1,15 @@
 //! Datagrams whose bodies aren't read.
 
 ghost use Rattle.std.specs.Prelude.{◌≡◌, ◌≤◌, ◌+◌, ◌++◌, IfOk, OnOk, drop, length, slice_index};
-ghost use Rattle.cx_msg.specs.Letter.{body};
-ghost use Rattle.cx_msg.specs.Names.{name_of_message};
+ghost use Rattle.cx_letter.specs.Letter.{body};
+ghost use Rattle.cx_letter.specs.Names.{name_of_message};
 ghost use Rattle.cx_msg.specs.Spelled.{IsShort, letter_of, role_at, role_bytes, short};
 
 use crate::bodies::body_from;
-use crate::datagram::Datagram;
-use crate::names::name_of_kind;
-use crate::put_bodies::{message_kind, put_body};
+use crate::put_bodies::put_body;
 use cx_base::{Kind, NoMemory, RoleId};
 use cx_field::{ByteReader, ReadFault};
+use cx_letter::{Datagram, message_kind, name_of_kind};
 use cx_wire::{put_u8, put_u16};
 use std::alloc::Global;
 use std::marker::Model;
@@ -25,7 +24,7 @@ pub struct Spelled<'a> {
 }
 
 impl<'a> Model for Spelled<'a> {
-    ghost use Rattle.cx_msg.specs.Letter.{Letter};
+    ghost use Rattle.cx_letter.specs.Letter.{Letter};
     ghost use Rattle.cx_msg.specs.Spelled.{IsSpelled, letter_with};
 
     ghost Value = { Letter };

@@ -5,7 +5,7 @@ use Rattle.std.proofs.Common.{if◌then◌else◌}
 use Rattle.std.specs.Prelude.{slice_index}
 use Rattle.std.proofs.lemmas.Bool.{cases_Bool}
 use Rattle.cx_base.specs.declared.role.Kind.{Kind}
-use Rattle.cx_msg.specs.declared.kept.Record.{Record}
+use Rattle.cx_letter.specs.declared.kept.Record.{Record}
 use Rattle.cx_journal.specs.Payload.{may_keep, part_break, payload_read}
 use Rattle.cx_journal.specs.Image.{Image, image, image_at, framed, sized, with_first, image_with_record}
 use Rattle.cx_journal.specs.State.{records_or_none}

@@ -11,7 +11,7 @@ use Rattle.cx_base.specs.declared.event.Event.{Event}
 use Rattle.cx_base.specs.declared.role.RoleId.{RoleId}
 use Rattle.cx_edge.specs.Link.{LinkHistory, with_taken}
 use Rattle.cx_model.specs.Names.{names_role}
-use Rattle.cx_msg.specs.Letter.{Letter}
+use Rattle.cx_letter.specs.Letter.{Letter}
 use Rattle.cx_course.specs.Action.{Action, Answered, Bound, Noted, Took, bound_by, bound_in, is_filled, kept_in, printed_in}
 use Rattle.cx_course.specs.Action.{sent_by, sent_in, step_actions, taken_by, taken_in}
 use Rattle.cx_course.specs.Changing.{StoreChange}

@@ -6,7 +6,8 @@ use Rattle.cx_base.specs.declared.cluster.Cluster.{Cluster}
 use Rattle.cx_disk.specs.declared.disk.Failed.{Failed}
 use Rattle.cx_edge.specs.Link.{LinkHistory, Sends, with_sent}
 use Rattle.cx_model.specs.Names.{names_role}
-use Rattle.cx_msg.specs.Letter.{Letter, spelling}
+use Rattle.cx_letter.specs.Letter.{Letter}
+use Rattle.cx_msg.specs.Datagrams.{spelling}
 use Rattle.cx_node.specs.Doing.{HasLinkSent, HasLinkSentPart}
 use Rattle.cx_node.specs.Ports.{port_of}
 

@@ -15,10 +15,10 @@ use Rattle.cx_journal.specs.Files.{Files, OneFile, TwoFiles, both_told, files_re
 use Rattle.cx_journal.specs.Store.{store_told}
 use Rattle.cx_journal.specs.declared.store.RecordStore.{RecordStore}
 use Rattle.cx_journal.specs.declared.store.RecordStore.TheVariants.{One, Two}
-use Rattle.cx_keeper.specs.Keeper.{KeeperChange, Renewal, list_after}
+use Rattle.cx_keep.specs.Keeper.{KeeperChange, Renewal, list_after}
 use Rattle.cx_model.specs.Lists.{bool_cases, differ_role, get_set_other, get_set_same, not_both, number_itself}
 use Rattle.cx_model.specs.Lists.{same_number, same_role-itself}
-use Rattle.cx_msg.specs.declared.kept.Record.{Record}
+use Rattle.cx_letter.specs.declared.kept.Record.{Record}
 use Rattle.cx_seat.specs.declared.guest.Guest.{Guest}
 use Rattle.cx_node.specs.declared.node.Stop.{Stop}
 use Rattle.cx_node.specs.declared.node.Stop.TheVariants as stop

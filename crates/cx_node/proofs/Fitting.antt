@@ -4,12 +4,12 @@ use Rattle.std.proofs.Common.{sym, ap, ap₂, ◌∙◌, append-nil}
 use Rattle.std.proofs.lemmas.Bool.Decides.{nat_tests}
 use Rattle.std.proofs.lemmas.List.{length-append}
 use Rattle.cx_base.specs.declared.event.Event.{Event}
-use Rattle.cx_keeper.specs.Keeper.{KeeperChange}
+use Rattle.cx_keep.specs.Keeper.{KeeperChange}
 use Rattle.cx_course.specs.Course.{has_room_for, own_event, requests_by, step_events}
 use Rattle.cx_course.specs.Hosted.{Hosted, does}
 use Rattle.cx_course.specs.declared.doing.Doing.{Doing}
 use Rattle.cx_course.specs.declared.doing.Doing.TheVariants.{Begin, Give, Snap}
-use Rattle.cx_msg.specs.Letter.{Letter}
+use Rattle.cx_letter.specs.Letter.{Letter}
 use Rattle.cx_seat.specs.Changing.{Changing}
 use Rattle.cx_seat.specs.Guest.{HasChangeFailedIn, Grows, Rests, hosted_of, keeper_of, who}
 use Rattle.cx_seat.specs.declared.guest.Guest.{Guest}

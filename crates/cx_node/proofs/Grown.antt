@@ -4,7 +4,7 @@ use Rattle.std.proofs.Common.{ap, subst, Bool, true, false, if◌then◌else◌}
 use Rattle.std.proofs.lemmas.Option.{none-some}
 use Rattle.cx_base.specs.declared.role.RoleId.{RoleId}
 use Rattle.cx_base.specs.Role.{same_role}
-use Rattle.cx_keeper.specs.Keeper.{KeeperChange}
+use Rattle.cx_keep.specs.Keeper.{KeeperChange}
 use Rattle.cx_seat.specs.declared.guest.Guest.{Guest}
 use Rattle.cx_course.specs.Changing.{StoreChange, changes_of}
 use Rattle.cx_seat.specs.Changing.{Changing}

@@ -12,7 +12,7 @@ use Rattle.cx_course.specs.Run.{TakeResults}
 use Rattle.cx_course.specs.Tending.{node_run}
 use Rattle.cx_course.specs.declared.doing.Doing.{Doing}
 use Rattle.cx_node.proofs.Walk.{IsPreserved, walk}
-use Rattle.cx_msg.specs.Letter.{Letter}
+use Rattle.cx_letter.specs.Letter.{Letter}
 
 -- no record is known of, and nothing was left out
 record IsPlain (s : Course) (done : List Action) : Type 0 where

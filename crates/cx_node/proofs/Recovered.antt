@@ -11,7 +11,7 @@ use Rattle.cx_journal.specs.Files.{Files}
 use Rattle.cx_journal.specs.State.{records_or_none}
 use Rattle.cx_journal.specs.declared.store.RecordStore.{RecordStore}
 use Rattle.cx_model.specs.Lists.{by_role, differ_role, same_role-itself}
-use Rattle.cx_msg.specs.declared.kept.Record.{Record}
+use Rattle.cx_letter.specs.declared.kept.Record.{Record}
 use Rattle.cx_seat.specs.declared.guest.Guest.{Guest}
 use Rattle.cx_seat.specs.Guest.{hosted_in}
 use Rattle.cx_course.specs.Hosted.{Hosted}

@@ -18,11 +18,11 @@ use Rattle.cx_model.specs.Replacer.{replacer_rules}
 use Rattle.cx_model.specs.Replica.{ReplicaDurable, ReplicaVolatile, replica_renewed, replica_rules}
 use Rattle.cx_model.specs.Rules.{Rules, Running, outcome_of}
 use Rattle.cx_model.specs.Unbatcher.{unbatcher_rules}
-use Rattle.cx_msg.specs.Letter.{Letter}
-use Rattle.cx_msg.specs.declared.input.Input.{Input}
-use Rattle.cx_msg.specs.declared.input.Input.TheVariants as input
-use Rattle.cx_keeper.specs.Keeper.{Append, KeeperChange, Renewal}
-use Rattle.cx_msg.specs.declared.kept.Record.{Record}
+use Rattle.cx_letter.specs.Letter.{Letter}
+use Rattle.cx_letter.specs.declared.input.Input.{Input}
+use Rattle.cx_letter.specs.declared.input.Input.TheVariants as input
+use Rattle.cx_keep.specs.Keeper.{Append, KeeperChange, Renewal}
+use Rattle.cx_letter.specs.declared.kept.Record.{Record}
 use Rattle.cx_course.specs.declared.doing.Doing.{Doing}
 use Rattle.cx_course.specs.declared.doing.Doing.TheVariants.{Begin, Give, Snap}
 use Rattle.cx_course.specs.Action.{Action, Kept, Printed, Sent, step_actions}

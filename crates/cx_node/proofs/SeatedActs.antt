@@ -16,7 +16,7 @@ use Rattle.cx_edge.specs.Sink.{AppendsPart}
 use Rattle.cx_model.specs.Lists.{bool_cases, differ_role, get_set_other, get_set_same, not_both, number_itself}
 use Rattle.cx_model.specs.Lists.{same_number}
 use Rattle.cx_model.specs.Names.{names_role}
-use Rattle.cx_msg.specs.Letter.{Letter}
+use Rattle.cx_letter.specs.Letter.{Letter}
 use Rattle.cx_course.specs.declared.doing.Doing.{Doing}
 use Rattle.cx_seat.specs.declared.guest.Guest.{Guest}
 use Rattle.cx_node.specs.declared.node.Stop.{Stop}

@@ -13,9 +13,9 @@ use Rattle.cx_edge.specs.Shelf.{shelf}
 use Rattle.cx_edge.specs.declared.shelf.Shelf.{Shelf}
 use Rattle.cx_journal.specs.declared.store.RecordStore.{RecordStore}
 use Rattle.cx_journal.specs.declared.store.RecordStore.TheVariants.{One, Two}
-use Rattle.cx_keeper.specs.Keeper.{KeeperChange}
-use Rattle.cx_keeper.specs.declared.keeper.KeepFault.{KeepFault}
-use Rattle.cx_keeper.specs.declared.keeper.KeepFault.TheVariants.{Failed, NoMemory}
+use Rattle.cx_keep.specs.Keeper.{KeeperChange}
+use Rattle.cx_keep.specs.declared.keeper.KeepFault.{KeepFault}
+use Rattle.cx_keep.specs.declared.keeper.KeepFault.TheVariants.{Failed, NoMemory}
 use Rattle.cx_seat.specs.declared.guest.Guest.{Guest}
 use Rattle.cx_node.specs.declared.node.RunEnd.{RunEnd}
 use Rattle.cx_node.specs.declared.node.Stop.{Stop}

@@ -7,16 +7,16 @@ use Rattle.cx_base.specs.Faults.{Rises}
 use Rattle.cx_base.specs.declared.role.RoleId.{RoleId}
 use Rattle.cx_disk.specs.declared.disk.Disk.{Ghosts as DiskGhosts}
 use Rattle.cx_edge.specs.Shelf.{shelf}
-use Rattle.cx_keeper.specs.Keeper.{Append, KeeperChange, IsKeeperChange, Renewal, list_after}
-use Rattle.cx_keeper.specs.declared.keeper.KeepFault.{KeepFault}
-use Rattle.cx_keeper.specs.declared.keeper.KeepFault.TheVariants.{Failed, NoMemory}
+use Rattle.cx_keep.specs.Keeper.{Append, KeeperChange, IsKeeperChange, Renewal, list_after}
+use Rattle.cx_keep.specs.declared.keeper.KeepFault.{KeepFault}
+use Rattle.cx_keep.specs.declared.keeper.KeepFault.TheVariants.{Failed, NoMemory}
 use Rattle.cx_journal.specs.Files.{files_records}
 use Rattle.cx_journal.specs.Store.{IsStoreChange, store_faults, store_told, store_whole}
 use Rattle.cx_journal.specs.StoreLaw.{store_change_is}
 use Rattle.cx_journal.specs.declared.store.RecordStore.{RecordStore}
 use Rattle.cx_journal.specs.declared.store.RecordStore.TheVariants.{One, Two}
 use Rattle.cx_journal.proofs.Stores.{store_whole_after}
-use Rattle.cx_msg.specs.declared.kept.Record.{Record}
+use Rattle.cx_letter.specs.declared.kept.Record.{Record}
 use Rattle.cx_course.specs.Changing.{lists_after}
 use Rattle.cx_seat.specs.Changing.{Changing, Refuses}
 use Rattle.cx_seat.specs.Guest.{AreChangesMade, HasChangeFailed}

@@ -10,8 +10,8 @@ use Rattle.cx_base.specs.declared.role.RoleId.{RoleId}
 use Rattle.cx_base.specs.Role.{role, same_role}
 use Rattle.cx_edge.specs.Link.{LinkHistory}
 use Rattle.cx_leader.specs.Tending.{can_collect, is_new_leader}
-use Rattle.cx_msg.specs.Letter.{Letter}
-use Rattle.cx_msg.specs.declared.input.Input.TheVariants as input
+use Rattle.cx_letter.specs.Letter.{Letter}
+use Rattle.cx_letter.specs.declared.input.Input.TheVariants as input
 use Rattle.cx_seat.specs.Changing.{Changing}
 use Rattle.cx_node.specs.declared.come.Come.TheVariants as come
 use Rattle.cx_course.specs.declared.doing.Doing.TheVariants.{Give}

@@ -21,7 +21,7 @@ use Rattle.cx_course.specs.declared.doing.Doing.TheVariants.{Begin, Give, Snap}
 use Rattle.cx_leader.specs.Tending.{can_collect, is_new_leader}
 use Rattle.cx_model.specs.Leader.{LeaderDurable, LeaderVolatile}
 use Rattle.cx_model.specs.Rules.{Running}
-use Rattle.cx_msg.specs.declared.input.Input.TheVariants as input
+use Rattle.cx_letter.specs.declared.input.Input.TheVariants as input
 use Rattle.cx_record.specs.Numbers.{Numbered, numbered}
 
 -- what the role at a place may be asked in a run: a datagram is for it, and one that bytes bring

@@ -6,9 +6,9 @@ use Rattle.cx_base.specs.declared.cluster.Cluster.{Cluster}
 use Rattle.cx_base.specs.declared.role.Kind.TheVariants as kind
 use Rattle.cx_base.specs.declared.role.RoleId.{RoleId}
 use Rattle.cx_edge.specs.Link.{LinkHistory}
-use Rattle.cx_msg.specs.Letter.{Letter}
-use Rattle.cx_keeper.specs.Keeper.{KeeperChange, Renewal}
-use Rattle.cx_msg.specs.declared.kept.Record.{Record}
+use Rattle.cx_letter.specs.Letter.{Letter}
+use Rattle.cx_keep.specs.Keeper.{KeeperChange, Renewal}
+use Rattle.cx_letter.specs.declared.kept.Record.{Record}
 use Rattle.cx_seat.specs.declared.guest.Guest.{Guest}
 use Rattle.cx_node.specs.declared.node.Stop.{Stop}
 use Rattle.cx_node.specs.declared.node.Stop.TheVariants as stop

@@ -11,8 +11,8 @@ use Rattle.cx_disk.specs.declared.disk.Disk.{Ghosts as DiskGhosts}
 use Rattle.cx_edge.specs.Link.{Bind, LinkHistory}
 use Rattle.cx_journal.specs.Store.{IsStoreChange}
 use Rattle.cx_journal.specs.declared.store.RecordStore.{RecordStore}
-use Rattle.cx_keeper.specs.Keeper.{Append, KeeperChange, Renewal}
-use Rattle.cx_msg.specs.declared.kept.Record.{Record}
+use Rattle.cx_keep.specs.Keeper.{Append, KeeperChange, Renewal}
+use Rattle.cx_letter.specs.declared.kept.Record.{Record}
 use Rattle.cx_seat.specs.declared.guest.Guest.{Guest}
 use Rattle.cx_node.specs.declared.node.RunEnd.{RunEnd}
 use Rattle.cx_node.specs.declared.node.RunEnd.TheVariants as end

@@ -6,7 +6,8 @@ use Rattle.cx_base.specs.declared.role.Kind.{Kind}
 use Rattle.cx_base.specs.declared.role.Kind.TheVariants.{Client, Batcher, Leader, Proxy, Acceptor, Matchmaker}
 use Rattle.cx_base.specs.declared.role.Kind.TheVariants.{Replica, Unbatcher, Reader, Replacer}
 use Rattle.cx_base.specs.declared.role.RoleId.{RoleId}
-use Rattle.cx_msg.specs.Letter.{Letter, spelling}
+use Rattle.cx_letter.specs.Letter.{Letter}
+use Rattle.cx_msg.specs.Datagrams.{spelling}
 use Rattle.cx_model.specs.Names.{names_role}
 use Rattle.cx_edge.specs.Link.{Bind, Sending}
 

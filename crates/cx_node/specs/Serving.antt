@@ -14,14 +14,14 @@ use Rattle.cx_edge.specs.declared.source.Source.{Ghosts as SourceGhosts}
 use Rattle.cx_edge.specs.Link.{LinkHistory}
 use Rattle.cx_journal.specs.Files.{Files, files_image, files_records}
 use Rattle.cx_journal.specs.State.{records_or_none}
-use Rattle.cx_msg.specs.declared.kept.Record.{Record}
+use Rattle.cx_letter.specs.declared.kept.Record.{Record}
 use Rattle.cx_node.specs.declared.input.NodeInput.TheVariants.{Lines}
 use Rattle.cx_node.specs.declared.input.Refusal.{Refusal}
 use Rattle.cx_node.specs.declared.input.Refusal.TheVariants as refusal
 use Rattle.cx_node.specs.declared.node.RunEnd.{RunEnd}
 use Rattle.cx_node.specs.declared.node.RunEnd.TheVariants as end
 use Rattle.cx_course.specs.Action.{Action, Bound, Filled, AreTakesOf, Kept, Printed, Took, kept_in, printed_in}
-use Rattle.cx_keeper.specs.Keeper.{KeeperChange}
+use Rattle.cx_keep.specs.Keeper.{KeeperChange}
 use Rattle.cx_course.specs.Changing.{changes_of, lists_after}
 use Rattle.cx_node.specs.Doing.{Linked}
 use Rattle.cx_course.specs.Hosted.{Hosted}

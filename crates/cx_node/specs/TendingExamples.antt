@@ -6,8 +6,8 @@ use Rattle.cx_base.specs.declared.role.Kind.TheVariants.{Client, Reader, Replica
 use Rattle.cx_base.specs.Role.{role}
 use Rattle.cx_model.specs.Examples.{one_of_each}
 use Rattle.cx_model.specs.Replica.{replica_rules}
-use Rattle.cx_msg.specs.Letter.{Letter, letter}
-use Rattle.cx_msg.specs.declared.message.Msg.TheVariants as msg
+use Rattle.cx_letter.specs.Letter.{Letter, letter}
+use Rattle.cx_letter.specs.declared.message.Msg.TheVariants as msg
 use Rattle.cx_course.specs.Action.{sent_in}
 use Rattle.cx_course.specs.Hosted.{Hosted, ClientAt, ReplicaAt}
 use Rattle.cx_course.specs.Course.{Course, Moved, course_of, stays}

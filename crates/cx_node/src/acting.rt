@@ -17,7 +17,7 @@ use crate::{Node, Stop};
 use cx_base::{Event, RoleId};
 use cx_course::Doing;
 use cx_edge::{Link, Sink, write_all};
-use cx_keeper::Renew;
+use cx_keep::Renew;
 use cx_record::Recorder;
 use cx_role::{Outbox, StepFault};
 use cx_seat::{Seat, has_room, note_own, take_down};

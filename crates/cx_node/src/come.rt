@@ -1,6 +1,6 @@
 //! What a take of a link gave.
 
-use cx_msg::Datagram;
+use cx_letter::Datagram;
 
 /// Nothing was there; or bytes that bring no datagram; or one, with its number among those that the node sent, where it
 /// records, else 0.

@@ -22,8 +22,8 @@ use crate::{Node, Stop, Whom};
 use cx_base::{Kind, Order, RoleId};
 use cx_course::{Doing, Standing};
 use cx_edge::{Link, Sink};
-use cx_keeper::Renew;
-use cx_msg::Input;
+use cx_keep::Renew;
+use cx_letter::Input;
 use cx_seat::Seat;
 
 // A replica ticks when its log comes to a further multiple of this number of slots.

@@ -16,7 +16,7 @@ use crate::care::Care;
 use cx_base::{Cluster, Event, MAX_DATAGRAM_LENGTH, NoMemory, RoleId};
 use cx_course::Doing;
 use cx_edge::{Link, Sink};
-use cx_keeper::Renew;
+use cx_keep::Renew;
 use cx_record::Recorder;
 use cx_role::Outbox;
 use cx_seat::Seat;

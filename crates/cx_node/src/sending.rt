@@ -7,7 +7,8 @@ ghost use Rattle.cx_node.specs.Ports.{roles_before, port_of};
 
 use cx_base::{Cluster, Kind, NoMemory, RoleId};
 use cx_edge::Link;
-use cx_msg::{Datagram, encode_into};
+use cx_letter::Datagram;
+use cx_msg::encode_into;
 use cx_record::Recorder;
 use cx_role::names_role;
 use std::alloc::Global;

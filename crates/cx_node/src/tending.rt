@@ -22,8 +22,8 @@ use crate::{Come, Node, Stop, Whom};
 use cx_base::{Cluster, Kind, NoMemory, Order};
 use cx_course::{Doing, Standing};
 use cx_edge::{Link, Sink};
-use cx_keeper::Renew;
-use cx_msg::{Datagram, Input};
+use cx_keep::Renew;
+use cx_letter::{Datagram, Input};
 use cx_seat::Seat;
 use std::alloc::Global;
 

@@ -18,8 +18,9 @@ use crate::{Come, Node, Stop};
 use cx_base::{Cluster, Grid, Kind, MEMBERS, NoMemory, Order, RoleId};
 use cx_course::Doing;
 use cx_edge::{Link, Sink, TakeEnd};
-use cx_keeper::Renew;
-use cx_msg::{Input, WireFault, decode};
+use cx_keep::Renew;
+use cx_letter::Input;
+use cx_msg::{WireFault, decode};
 use cx_record::Recorder;
 use std::alloc::Global;
 

@@ -11,9 +11,9 @@ use crate::pendings::{Pendings, declined, find, put_pending, uncounted, update_p
 use crate::sends::{again_all, all_or_none, announce, ask_column};
 use cx_base::{Cluster, Duplicate, NoMemory, Order, RoleId, Round, Value, WINDOW, Why};
 use cx_grid::{Marks, column_whole};
-use cx_keeper::Keeper;
+use cx_keep::Keeper;
+use cx_letter::{Datagram, Msg, Record};
 use cx_model::Pending;
-use cx_msg::{Datagram, Msg, Record};
 use cx_role::{Outbox, Role, StepFault, WakeFault, is_for};
 use std::alloc::Global;
 use std::marker::Model;

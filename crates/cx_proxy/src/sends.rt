@@ -81,10 +81,10 @@ pub fn announce(
     for replica in 0..cluster.replicas {
         let value = pending.value.copy(alloc)?;
         out.room(1)?;
-        out.push(cx_msg::chosen(me.index, replica, pending.slot, value));
+        out.push(cx_letter::chosen(me.index, replica, pending.slot, value));
     }
     out.room(1)?;
-    out.push(cx_msg::chosen_in(me.index, pending.round.id, pending.round, pending.slot));
+    out.push(cx_letter::chosen_in(me.index, pending.round.id, pending.round, pending.slot));
     Ok(())
 }
 
@@ -165,7 +165,7 @@ fn ask(
 {
     let value = pending.value.copy(alloc)?;
     out.room(1)?;
-    out.push(cx_msg::phase2a(
+    out.push(cx_letter::phase2a(
         me.index,
         acceptor,
         pending.round,

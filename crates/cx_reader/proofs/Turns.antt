@@ -3,7 +3,7 @@ use Rattle.cx_role.proofs.Common.{◌≡◌, ◌<◌, ◌+◌, ◌^◌, ◌&&◌
 use Rattle.cx_role.proofs.Common.kept
 use Rattle.cx_wire.specs.Format.{u64}
 use Rattle.cx_field.specs.Fields.{seq}
-use Rattle.cx_msg.specs.Records.{fits}
+use Rattle.cx_letter.specs.Records.{fits}
 use Rattle.cx_model.specs.Reader.{last_turn}
 
 some_below : (n limit : ℕ) → n + 1 < limit → (nat_lt (n + 1) limit && nat_le 1 (n + 1)) ≡ true

@@ -9,7 +9,7 @@ ghost use Rattle.cx_field.specs.Fields as field;
 
 use cx_base::{Duplicate, Key, NoMemory};
 use cx_field::Token;
-use cx_msg::{Datagram, replica_read};
+use cx_letter::{Datagram, replica_read};
 use cx_role::Outbox;
 use std::alloc::Global;
 use std::marker::Model;

@@ -12,8 +12,8 @@ use crate::batch::Batch;
 use crate::records::LAST_TURN;
 use crate::sends::ask_matchmakers;
 use cx_base::Why;
-use cx_keeper::Keeper;
-use cx_msg::Record;
+use cx_keep::Keeper;
+use cx_letter::Record;
 use cx_role::{Outbox, StepFault, keep};
 
 impl Reader {

@@ -7,7 +7,7 @@ ghost use Rattle.cx_model.specs.Reader.{reader_after, reader_fits, reader_rules}
 
 use crate::Reader;
 use cx_base::{Cluster, Set};
-use cx_msg::Record;
+use cx_letter::Record;
 use std::alloc::Global;
 
 /// The last turn: after it no batch begins.

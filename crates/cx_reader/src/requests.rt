@@ -8,7 +8,7 @@ use crate::Reader;
 use crate::asked::{Asked, is_among, put_again};
 use crate::records::LAST_TURN;
 use cx_base::{READS, Why, copy_all};
-use cx_keeper::Keeper;
+use cx_keep::Keeper;
 use cx_role::{Outbox, StepFault};
 
 impl Reader {

@@ -12,7 +12,7 @@ use crate::batch::Batch;
 use crate::sends::ask_matchmakers;
 use cx_base::{Duplicate, NoMemory, RoleId, Round, Why};
 use cx_field::{Asking, Entries};
-use cx_keeper::Keeper;
+use cx_keep::Keeper;
 use cx_model::{Acked, MatchAnswer};
 use cx_role::{Outbox, StepFault};
 

@@ -7,7 +7,7 @@ ghost use Rattle.cx_model.specs.Reader.{asking, ask_matchmakers};
 ghost use Rattle.cx_field.specs.Fields as field;
 
 use cx_field::Asking;
-use cx_msg::match_read;
+use cx_letter::match_read;
 use cx_role::Outbox;
 
 /// What tells the datagrams of a turn apart.

@@ -2,7 +2,8 @@
 use Rattle.std.specs.Global.{Global}
 use Rattle.std.proofs.Common.{◌≡◌, ◌+◌, ◌∙◌, ℕ, zero, suc, true, false, List, [], ◌∷◌, ◌++◌, Vec, Option, Some, None, if◌then◌else◌, length, slice_get, option_map, bytes_eq, ap, sym, refl, inl, inr, arith, add-zero}
 use Rattle.std.proofs.lemmas.Bool.{cases_Bool}
-use Rattle.cx_msg.specs.Letter.{Letter, spelling}
+use Rattle.cx_letter.specs.Letter.{Letter}
+use Rattle.cx_msg.specs.Datagrams.{spelling}
 use Rattle.cx_record.specs.Numbers.{Numbered, last_from, last_sent, numbered, or_else}
 use Rattle.cx_record.specs.Table.{AreNumbers, datagram_number}
 

@@ -1,6 +1,7 @@
 -- The numbers of the datagrams that a recording node has sent, and the room that its record has.
 use Rattle.std.specs.Prelude.{ℕ, ◌+◌, Bool, nat_le, List, [], ◌∷◌, ◌++◌, bytes_eq, Option, None, Some, if◌then◌else◌}
-use Rattle.cx_msg.specs.Letter.{Letter, spelling}
+use Rattle.cx_letter.specs.Letter.{Letter}
+use Rattle.cx_msg.specs.Datagrams.{spelling}
 
 -- What a recording node knows of its record: the datagrams that its roles have sent, in the order of sending, and how many lines it has.
 pub record Recorded : Type 0 where

@@ -7,7 +7,8 @@ ghost use Rattle.cx_record.specs.Table.{datagram_number};
 
 use cx_base::{MAX_LINES, NoMemory};
 use cx_history::Sent;
-use cx_msg::{Datagram, encode_into};
+use cx_letter::Datagram;
+use cx_msg::encode_into;
 use indexmap::IndexMap;
 use std::alloc::Global;
 use std::marker::Model;

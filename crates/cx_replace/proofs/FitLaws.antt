@@ -5,7 +5,7 @@ use Rattle.cx_role.proofs.Common.msg
 use Rattle.std.specs.Prelude.{None, bytes_eq}
 use Rattle.cx_base.specs.Sets.{is_above}
 use Rattle.cx_grid.specs.Quorum.{with_mark}
-use Rattle.cx_msg.specs.declared.input.Input.TheVariants as input
+use Rattle.cx_letter.specs.declared.input.Input.TheVariants as input
 use Rattle.cx_model.specs.Matched.{enough}
 use Rattle.cx_model.specs.Replacer.{ReplacerDurable, ReplacerVolatile, boot_b_row, decide, halt_counted, has_halted, is_booting}
 use Rattle.cx_model.specs.Replacer.{is_deciding, is_resting, is_stopping, joined_entries, next_b_row, replacer_row, replacer_rules}

@@ -9,8 +9,8 @@ ghost use Rattle.cx_model.specs.Replacer.{replacer_rules};
 use crate::Replacer;
 use crate::counted::Counted;
 use cx_base::{Cluster, Few, RoleId, Round, Set};
+use cx_letter::Record;
 use cx_model::Replacing;
-use cx_msg::Record;
 use cx_role::{WakeFault, names_ballot};
 use std::alloc::Global;
 

@@ -9,14 +9,14 @@ use crate::Replacer;
 use crate::counted::Counted;
 use crate::sends::ask_to_stop;
 use cx_base::{Round, Set, Why};
-use cx_keeper::Keeper;
+use cx_keep::Keeper;
+use cx_letter::Record;
 use cx_model::Replacing;
-use cx_msg::Record;
 use cx_role::{Outbox, StepFault, keep, names_set};
 
 impl Replacer {
     // The ballot is kept before the known set is asked to stop.
-    #[tactic(auto, unfolding(cx_msg::specs::Records::kept_record))]
+    #[tactic(auto, unfolding(cx_letter::specs::Records::kept_record))]
     fn begin<K: Keeper>(
         &mut self,
         keeper: &mut K,

@@ -9,7 +9,7 @@ ghost use Rattle.cx_model.specs.Replacer.{boot_a_to, next_a_to, sets_to, stop_a_
 
 use cx_base::{Cluster, Duplicate, NoMemory, Round, Set};
 use cx_field::Entries;
-use cx_msg::{boot_a, next_a, sets_to_leader, sets_to_reader, sets_to_replacer, stop_a};
+use cx_letter::{boot_a, next_a, sets_to_leader, sets_to_reader, sets_to_replacer, stop_a};
 use cx_role::Outbox;
 use std::alloc::Global;
 

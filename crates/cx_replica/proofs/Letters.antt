@@ -4,8 +4,8 @@ use Rattle.cx_base.specs.Lists.{numbers}
 use Rattle.cx_base.specs.Role.{role}
 use Rattle.cx_base.specs.declared.role.Kind.TheVariants.{Leader, Replica}
 use Rattle.cx_base.specs.declared.role.RoleId.{RoleId}
-use Rattle.cx_msg.specs.Letter.{Letter, letter}
-use Rattle.cx_msg.specs.declared.message.Msg.TheVariants as msg
+use Rattle.cx_letter.specs.Letter.{Letter, letter}
+use Rattle.cx_letter.specs.declared.message.Msg.TheVariants as msg
 use Rattle.cx_model.specs.Replica.{held_to}
 
 numbers_step : (i n : ℕ) → i < n → numbers i (n - i) ≡ i ∷ numbers (i + 1) (n - (i + 1))

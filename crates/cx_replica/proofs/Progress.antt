@@ -6,7 +6,7 @@ use Rattle.cx_base.specs.declared.cluster.Cluster.{Cluster}
 use Rattle.cx_base.specs.declared.command.Value.{Value}
 use Rattle.cx_base.specs.declared.role.RoleId.{RoleId}
 use Rattle.cx_base.specs.Fold.{command_list, commands_of}
-use Rattle.cx_msg.specs.Letter.{Letter}
+use Rattle.cx_letter.specs.Letter.{Letter}
 use Rattle.cx_model.specs.Replica.{Machine, execute, execute_all, execute_value, machine_from, results_at, results_from}
 use Rattle.cx_replica.specs.Room.{HasRoom, LeavesRoom, MachineState}
 use Rattle.cx_replica.specs.Sound.{are_answers}

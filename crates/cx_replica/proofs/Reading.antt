@@ -5,7 +5,7 @@ use Rattle.cx_base.specs.declared.command.Placed.{Placed}
 use Rattle.cx_base.specs.declared.command.Value.{Value}
 use Rattle.cx_base.specs.declared.role.RoleId.{RoleId}
 use Rattle.cx_base.specs.Log.{ready_values, still_early}
-use Rattle.cx_msg.specs.Letter.{Letter}
+use Rattle.cx_letter.specs.Letter.{Letter}
 use Rattle.cx_model.specs.declared.states.Deferred.{Deferred}
 use Rattle.cx_model.specs.Replica.{Machine, machine_from, read_answers, replica_rules, results_from}
 use Rattle.cx_model.specs.Replica.{still_deferred}

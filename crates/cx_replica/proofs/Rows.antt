@@ -20,8 +20,8 @@ use Rattle.cx_base.specs.declared.command.Note.{Note}
 use Rattle.cx_wire.specs.Format.{u8, u32, u64}
 use Rattle.cx_model.specs.Renewed.{IsOrdered}
 use Rattle.cx_field.specs.Fields.{mark, value, token}
-use Rattle.cx_msg.specs.Records.{kept_record, fits as record_fits}
-use Rattle.cx_msg.specs.declared.kept.Record.TheVariants as kept
+use Rattle.cx_letter.specs.Records.{kept_record, fits as record_fits}
+use Rattle.cx_letter.specs.declared.kept.Record.TheVariants as kept
 use Rattle.cx_model.specs.declared.states.Deferred.{Deferred}
 use Rattle.cx_model.specs.Names.{names_value}
 use Rattle.cx_model.specs.Outcome.{Outcome, by_test}

@@ -18,13 +18,13 @@ use Rattle.cx_base.specs.Asked.{floor_fits}
 use Rattle.cx_base.specs.Lists.{rises}
 use Rattle.cx_base.specs.Noted.{Table, are_rising, comes_before, floor_of}
 use Rattle.cx_field.specs.Fields.{answered, mark, note, notes, pair, pairs, value}
-use Rattle.cx_keeper.specs.Keeper.{all_fit}
+use Rattle.cx_keep.specs.Keeper.{all_fit}
 use Rattle.cx_model.specs.Names.{names_value}
 use Rattle.cx_model.specs.Renewed.{IsOrdered, all_left, is_near, rises_left}
 use Rattle.cx_model.specs.Replica.{note_of, pieces, pieces_of}
-use Rattle.cx_msg.specs.declared.kept.Record.{Record}
-use Rattle.cx_msg.specs.declared.kept.Record.TheVariants as kept
-use Rattle.cx_msg.specs.Records.{kept_record, fits as record_fits}
+use Rattle.cx_letter.specs.declared.kept.Record.{Record}
+use Rattle.cx_letter.specs.declared.kept.Record.TheVariants as kept
+use Rattle.cx_letter.specs.Records.{kept_record, fits as record_fits}
 use Rattle.cx_table.specs.Entries.{of_client}
 use Rattle.cx_wire.specs.Format.{Format, each_fits, u8, u16, u32, u64}
 use Rattle.cx_replica.specs.Sound.{IsTableOfCluster, are_answers, are_clients_below, are_own, are_pairs, are_values, is_cluster_value}

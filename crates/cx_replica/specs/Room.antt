@@ -6,8 +6,8 @@ use Rattle.cx_base.specs.declared.command.Answered.{Answered}
 use Rattle.cx_base.specs.declared.command.Command.{Command}
 use Rattle.cx_base.specs.declared.command.Value.{Value}
 use Rattle.cx_model.specs.Replica.{Machine}
-use Rattle.cx_msg.specs.declared.kept.Record.{Record}
-use Rattle.cx_msg.specs.declared.kept.Record.TheVariants as kept
+use Rattle.cx_letter.specs.declared.kept.Record.{Record}
+use Rattle.cx_letter.specs.declared.kept.Record.TheVariants as kept
 use Rattle.cx_table.specs.State.{Room, room_for}
 
 -- what values left, and for how many more keys, and more answers of each client, there is room

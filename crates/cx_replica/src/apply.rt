@@ -14,8 +14,8 @@ use crate::rooms::Rooms;
 use crate::sending::answer_reads;
 use cx_base::{Value, Why};
 use cx_field::LogValues;
-use cx_keeper::Keeper;
-use cx_msg::Record;
+use cx_keep::Keeper;
+use cx_letter::Record;
 use cx_rlog::Taken;
 use cx_role::{Outbox, StepFault, keep};
 

@@ -6,15 +6,15 @@ ghost use Rattle.std.specs.List.{list_all};
 ghost use Rattle.cx_base.specs.declared.command.Value.{Value};
 ghost use Rattle.cx_model.specs.Names.{names_value};
 ghost use Rattle.cx_model.specs.Replica.{replica_after, replica_fits};
-ghost use Rattle.cx_msg.specs.Records.{fits as record_fits};
-ghost use Rattle.cx_msg.specs.declared.kept.Record.TheVariants as kept;
+ghost use Rattle.cx_letter.specs.Records.{fits as record_fits};
+ghost use Rattle.cx_letter.specs.declared.kept.Record.TheVariants as kept;
 ghost use Rattle.cx_replica.specs.Sound.{are_notes, are_values};
 
 use crate::orders::are_client_notes;
 use crate::replica::Replica;
 use crate::wanted::Wanted;
 use cx_base::{Cluster, NoMemory, Note, PAIRS, Pair, SLOTS, Value, WINDOW};
-use cx_msg::Record;
+use cx_letter::Record;
 use cx_role::names_value;
 
 /// How many pairs a full record has.

@@ -14,8 +14,8 @@ use crate::replica::Replica;
 use crate::sending::answer_at;
 use cx_base::{NoMemory, READS, RoleId, Why};
 use cx_field::Token;
+use cx_letter::fetched;
 use cx_model::Deferred;
-use cx_msg::fetched;
 use cx_role::Outbox;
 
 fn is_deferred(deferred: &[Deferred], token: Token) -> bool

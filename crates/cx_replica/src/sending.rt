@@ -10,8 +10,8 @@ ghost use Rattle.cx_replica.specs.Sound.{are_answers, are_reads};
 
 use crate::machine::Machine;
 use cx_base::{Answered, Cluster, Few, RoleId};
+use cx_letter::{Datagram, fetch, held, read_answer, results};
 use cx_model::Deferred;
-use cx_msg::{Datagram, fetch, held, read_answer, results};
 use cx_role::Outbox;
 
 /// Sends the answers of a slot, if there are any and this replica is the one to do so.

@@ -4,7 +4,7 @@ use Rattle.std.proofs.lemmas.Bool.Decides.{nat_tests}
 use Rattle.cx_base.specs.declared.cluster.Cluster.{Cluster}
 use Rattle.cx_base.specs.declared.role.RoleId.{RoleId}
 use Rattle.cx_model.specs.Rules.{Rules, folded, folded_from, refused, refused_from}
-use Rattle.cx_msg.specs.declared.kept.Record.{Record}
+use Rattle.cx_letter.specs.declared.kept.Record.{Record}
 use Rattle.cx_role.specs.Own.{FitAlong}
 
 module _ {D V : Type 0} (rules : Rules D V) (c : Cluster) (me : RoleId) where

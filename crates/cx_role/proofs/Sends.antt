@@ -2,7 +2,7 @@
 use Rattle.std.proofs.Common.{◌≡◌, ◌≤◌, ◌<◌, ◌+◌, ◌-◌, ℕ, suc, Bool, true, false, List, [], ◌∷◌, ◌++◌, map, filter}
 use Rattle.std.proofs.Common.{refl, append_assoc, arith}
 use Rattle.cx_base.specs.Lists.{numbers, below}
-use Rattle.cx_msg.specs.Letter.{Letter}
+use Rattle.cx_letter.specs.Letter.{Letter}
 use Rattle.cx_role.specs.Outbox.{Outgoing}
 
 -- what was sent, and what is to be sent to those from i on, is all that is to be sent, and each takes room for one

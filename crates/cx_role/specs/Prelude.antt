@@ -24,7 +24,7 @@ pub use Rattle.cx_field.specs.Fields.{in_window}
 pub use Rattle.cx_field.specs.declared.parts.Entry.{Entry}
 pub use Rattle.cx_field.specs.declared.parts.Token.{Token}
 pub use Rattle.cx_field.specs.declared.parts.Vote.{Vote}
-pub use Rattle.cx_keeper.specs.Keeper.{all_fit}
+pub use Rattle.cx_keep.specs.Keeper.{all_fit}
 pub use Rattle.cx_model.specs.Matched.{entries_told, greatest_watermark, is_counted, is_member_of, later_round}
 pub use Rattle.cx_model.specs.Matched.{live_entries, members_in, members_of, rows_whole}
 pub use Rattle.cx_model.specs.Names.{names, names_body, names_entry, names_grid, names_role, names_round, names_value}
@@ -37,11 +37,11 @@ pub use Rattle.cx_model.specs.declared.states.Mode.TheVariants as mode
 pub use Rattle.cx_model.specs.declared.states.Pending.{Pending}
 pub use Rattle.cx_model.specs.declared.states.Plan.{Plan}
 pub use Rattle.cx_model.specs.declared.states.Promised.{Promised}
-pub use Rattle.cx_msg.specs.Letter.{Letter}
-pub use Rattle.cx_msg.specs.declared.input.Input.TheVariants.{Take}
-pub use Rattle.cx_msg.specs.declared.kept.Record.{Record}
-pub use Rattle.cx_msg.specs.declared.kept.Record.TheVariants as kept
-pub use Rattle.cx_msg.specs.declared.message.Msg.{Msg}
-pub use Rattle.cx_msg.specs.declared.message.Msg.TheVariants as msg
+pub use Rattle.cx_letter.specs.Letter.{Letter}
+pub use Rattle.cx_letter.specs.declared.input.Input.TheVariants.{Take}
+pub use Rattle.cx_letter.specs.declared.kept.Record.{Record}
+pub use Rattle.cx_letter.specs.declared.kept.Record.TheVariants as kept
+pub use Rattle.cx_letter.specs.declared.message.Msg.{Msg}
+pub use Rattle.cx_letter.specs.declared.message.Msg.TheVariants as msg
 pub use Rattle.cx_role.specs.Outbox.{Outgoing}
 pub use Rattle.cx_role.specs.Role.{IsReply, IsStep, MayKeep, Replies}

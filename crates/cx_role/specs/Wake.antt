@@ -1,7 +1,7 @@
 -- Why a role could not be opened.
 use Rattle.std.specs.Prelude.{◌≡◌, ℕ, true, List, Option, Some}
 use Rattle.cx_model.specs.Rules.{Rules, Running, folded_from, refused_from}
-use Rattle.cx_msg.specs.declared.kept.Record.{Record as Kept}
+use Rattle.cx_letter.specs.declared.kept.Record.{Record as Kept}
 use Rattle.cx_role.specs.declared.role.WakeFault.{WakeFault}
 use Rattle.cx_role.specs.declared.role.WakeFault.TheVariants.{Record, NoMemory}
 

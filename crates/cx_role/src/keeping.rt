@@ -1,13 +1,13 @@
 //! The one append of a step.
 
 ghost use Rattle.std.specs.Prelude.{◌≡◌, false, Ok, Err, IfOk, IsErrOf, IsTrue, OnOk};
-ghost use Rattle.cx_keeper.specs.declared.keeper.KeepFault.TheVariants as fault;
-ghost use Rattle.cx_msg.specs.Records.{fits};
+ghost use Rattle.cx_keep.specs.declared.keeper.KeepFault.TheVariants as fault;
+ghost use Rattle.cx_letter.specs.Records.{fits};
 ghost use Rattle.cx_role.specs.Role.{Refuses};
 
 use crate::StepFault;
-use cx_keeper::Keeper;
-use cx_msg::Record;
+use cx_keep::Keeper;
+use cx_letter::Record;
 
 /// Keeps the record of a step. A role whose keeper failed lives no longer, and has to be opened again.
 pub fn keep<K: Keeper>(keeper: &mut K, live: &mut bool, what: &Record) -> Result<(), StepFault>

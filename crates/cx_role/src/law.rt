@@ -4,7 +4,7 @@ ghost use Rattle.std.specs.Prelude.{◌≡◌, ◌++◌, List, None};
 ghost use Rattle.cx_base.specs.declared.cluster.Cluster.{Cluster};
 ghost use Rattle.cx_base.specs.declared.role.RoleId.{RoleId};
 ghost use Rattle.cx_model.specs.Rules.{folded, refused};
-ghost use Rattle.cx_msg.specs.declared.kept.Record.{Record};
+ghost use Rattle.cx_letter.specs.declared.kept.Record.{Record};
 ghost use Rattle.cx_role.specs.Own.{FitAlong};
 
 use crate::Role;

@@ -13,7 +13,7 @@ mod outbox;
 mod role;
 
 /// Why a step was not made. After `Failed` nothing was sent, and the role has to be opened again from what the keeper recovers.
-pub use cx_keeper::KeepFault as StepFault;
+pub use cx_keep::KeepFault as StepFault;
 pub use keeping::keep;
 pub use law::own_records_open;
 pub use names::{

@@ -11,7 +11,7 @@ ghost use Rattle.cx_field.specs.declared.parts.Vote.{Vote};
 
 use cx_base::{Answered, Cluster, Command, Grid, RoleId, Round, Set, Value, count_of};
 use cx_field::{Asking, Entry, Token, Vote};
-use cx_msg::{Datagram, Msg};
+use cx_letter::{Datagram, Msg};
 
 /// Whether a role is one of the cluster's.
 pub fn names_role(cluster: &Cluster, role: RoleId) -> bool

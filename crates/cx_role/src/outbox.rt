@@ -3,7 +3,7 @@ ghost use Rattle.std.specs.Prelude.{◌≡◌, ◌≤◌, ◌<◌, ◌+◌, ◌+
 ghost use Rattle.cx_role.specs.Outbox.{Outgoing};
 
 use cx_base::{MAX_SENDS, NoMemory};
-use cx_msg::Datagram;
+use cx_letter::Datagram;
 use std::alloc::Global;
 use std::marker::Model;
 

@@ -1,18 +1,18 @@
 //! A role of the protocol.
 
 ghost use Rattle.std.specs.Prelude.{◌≡◌, [], true, None, IfOk, IfErr, IsTrue};
-ghost use Rattle.cx_keeper.specs.Keeper.{all_fit};
+ghost use Rattle.cx_keep.specs.Keeper.{all_fit};
 ghost use Rattle.cx_model.specs.Names.{names_role};
 ghost use Rattle.cx_model.specs.Rules.{Rules, Running, opened, refused, outcome_of};
-ghost use Rattle.cx_msg.specs.declared.input.Input.TheVariants as input;
+ghost use Rattle.cx_letter.specs.declared.input.Input.TheVariants as input;
 ghost use Rattle.cx_role.specs.declared.role.WakeFault.TheVariants as wake;
 ghost use Rattle.cx_role.specs.Role.{IsReply, IsStep, MayKeep};
 ghost use Rattle.cx_role.specs.Wake.{IsWakeFault, refused_behind, reopened};
 
 use crate::{Outbox, StepFault};
 use cx_base::{Cluster, NoMemory, Order, RoleId, Why};
-use cx_keeper::Keeper;
-use cx_msg::{Datagram, Record};
+use cx_keep::Keeper;
+use cx_letter::{Datagram, Record};
 use std::alloc::{AllocError, Global};
 use thiserror::Error;
 

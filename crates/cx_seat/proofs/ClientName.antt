@@ -8,7 +8,7 @@ use Rattle.cx_client.specs.Window.{is_outstanding}
 use Rattle.cx_model.specs.Heard.{mark_told}
 use Rattle.cx_model.specs.Names.{names}
 use Rattle.cx_model.specs.Outcome.{either_way}
-use Rattle.cx_msg.specs.Letter.{Letter}
+use Rattle.cx_letter.specs.Letter.{Letter}
 
 told_name : (s : ClientState) (at : ℕ) (o : Option ℕ) → (client_told s at o).state.me ≡ s.me
 told_name s at None = refl

@@ -37,17 +37,17 @@ use Rattle.cx_inv_run.specs.Kinds.{IsKeeper, IsWriter}
 use Rattle.cx_inv_run.proofs.KindLaws.{kinds_are_so}
 use Rattle.cx_inv_run.proofs.Members.{Member-second}
 use Rattle.cx_inv_run.proofs.Steps.{run_append}
-use Rattle.cx_msg.specs.Letter.{Letter}
-use Rattle.cx_msg.specs.declared.input.Act.{Act}
-use Rattle.cx_msg.specs.declared.input.Act.TheVariants.{Give, Snap}
-use Rattle.cx_msg.specs.declared.input.Input.{Input}
-use Rattle.cx_msg.specs.declared.input.Input.TheVariants as input
-use Rattle.cx_msg.specs.declared.input.KeptRecord.{KeptRecord}
-use Rattle.cx_msg.specs.declared.input.Written.{Written}
-use Rattle.cx_msg.specs.declared.input.Written.TheVariants as written
-use Rattle.cx_msg.specs.declared.kept.Record.{Record}
-use Rattle.cx_msg.specs.declared.kept.Record.TheVariants as kept_record
-use Rattle.cx_msg.specs.Records.{fits, record_shape}
+use Rattle.cx_letter.specs.Letter.{Letter}
+use Rattle.cx_letter.specs.declared.input.Act.{Act}
+use Rattle.cx_letter.specs.declared.input.Act.TheVariants.{Give, Snap}
+use Rattle.cx_letter.specs.declared.input.Input.{Input}
+use Rattle.cx_letter.specs.declared.input.Input.TheVariants as input
+use Rattle.cx_letter.specs.declared.input.KeptRecord.{KeptRecord}
+use Rattle.cx_letter.specs.declared.input.Written.{Written}
+use Rattle.cx_letter.specs.declared.input.Written.TheVariants as written
+use Rattle.cx_letter.specs.declared.kept.Record.{Record}
+use Rattle.cx_letter.specs.declared.kept.Record.TheVariants as kept_record
+use Rattle.cx_letter.specs.Records.{fits, record_shape}
 use Rattle.cx_journal.specs.Payload.{all_kept_by, is_kept_by, may_keep}
 use Rattle.cx_disk.specs.declared.disk.Disk.{Ghosts as DiskGhosts}
 use Rattle.cx_journal.specs.Files.{Files, IsFilesImageOf, files_records, one_told}
@@ -56,8 +56,8 @@ use Rattle.cx_journal.specs.StoreLaw.{both_records, one_records, one_tells}
 use Rattle.cx_journal.specs.declared.store.RecordStore.{RecordStore}
 use Rattle.cx_journal.specs.declared.store.RecordStore.TheVariants.{One, Two}
 use Rattle.cx_journal.proofs.Stores.{two_tell}
-use Rattle.cx_keeper.specs.Keeper.{Append, KeeperChange, Renewal, list_after as change_after}
-use Rattle.cx_keeper.specs.declared.keeper.KeepFault.{KeepFault}
+use Rattle.cx_keep.specs.Keeper.{Append, KeeperChange, Renewal, list_after as change_after}
+use Rattle.cx_keep.specs.declared.keeper.KeepFault.{KeepFault}
 use Rattle.cx_journal.proofs.Gates.{all_kept-push}
 use Rattle.cx_journal.proofs.Payloads.{both_so}
 use Rattle.cx_promises.proofs.Lawful.{lawful}

@@ -21,7 +21,7 @@ use Rattle.cx_model.specs.Reader.{reader_rules}
 use Rattle.cx_model.specs.Replacer.{replacer_rules}
 use Rattle.cx_model.specs.Replica.{replica_rules}
 use Rattle.cx_model.specs.Rules.{Rules, refused}
-use Rattle.cx_msg.specs.declared.kept.Record.{Record}
+use Rattle.cx_letter.specs.declared.kept.Record.{Record}
 use Rattle.cx_seat.specs.declared.guest.Guest.{Guest}
 use Rattle.cx_seat.specs.Opening.{AreOpened, IsBadAs, IsFirstBad}
 use Rattle.cx_seat.specs.Wake.{IsBadStore}

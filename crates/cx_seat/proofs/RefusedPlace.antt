@@ -5,7 +5,7 @@ use Rattle.std.proofs.lemmas.Option.{same_Some}
 use Rattle.cx_base.specs.declared.cluster.Cluster.{Cluster}
 use Rattle.cx_base.specs.declared.role.RoleId.{RoleId}
 use Rattle.cx_model.specs.Rules.{Rules, refused, refused_from}
-use Rattle.cx_msg.specs.declared.kept.Record.{Record}
+use Rattle.cx_letter.specs.declared.kept.Record.{Record}
 
 refused_before : {D V : Type 0} (rules : Rules D V) (c : Cluster) (me : RoleId) (d : D) (start : ℕ) (rs : List Record)
     (i : ℕ) → refused_from rules c me d start rs ≡ Some i → i ≤ start + length rs

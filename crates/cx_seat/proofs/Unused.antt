@@ -10,7 +10,7 @@ use Rattle.cx_base.specs.declared.role.RoleId.{RoleId}
 use Rattle.cx_journal.specs.Files.{Files, files_image}
 use Rattle.cx_journal.specs.State.{has_some, records_or_none}
 use Rattle.cx_journal.specs.declared.store.RecordStore.{RecordStore}
-use Rattle.cx_msg.specs.declared.kept.Record.{Record}
+use Rattle.cx_letter.specs.declared.kept.Record.{Record}
 use Rattle.cx_seat.specs.declared.guest.Guest.{Guest}
 use Rattle.cx_seat.specs.Guest.{keeper_of, who}
 use Rattle.cx_seat.specs.Opening.{AreOpened, HasStore, IsBadAs, IsFirstUsed, IsOpened, first_holding, holds_record, is_durable, is_store_used}

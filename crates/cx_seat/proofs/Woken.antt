@@ -11,7 +11,7 @@ use Rattle.cx_journal.specs.Pair.{front_of}
 use Rattle.cx_journal.specs.Payload.{payloads}
 use Rattle.cx_journal.specs.Twin.{pair_image}
 use Rattle.cx_model.specs.Rules.{Rules, refused}
-use Rattle.cx_msg.specs.declared.kept.Record.{Record}
+use Rattle.cx_letter.specs.declared.kept.Record.{Record}
 use Rattle.cx_seat.specs.declared.opening.OpenStop.TheVariants as open_stop
 use Rattle.cx_seat.specs.declared.waking.WakeStop.{WakeStop}
 use Rattle.cx_seat.specs.declared.waking.WakeStop.TheVariants as wake_stop

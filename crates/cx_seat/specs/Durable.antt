@@ -5,7 +5,7 @@ use Rattle.cx_base.specs.declared.role.RoleId.{RoleId}
 use Rattle.cx_journal.specs.Files.{Files, files_image}
 use Rattle.cx_journal.specs.declared.store.RecordStore.{RecordStore}
 use Rattle.cx_model.specs.Rules.{Rules, Running, opened, refused}
-use Rattle.cx_msg.specs.declared.kept.Record.{Record}
+use Rattle.cx_letter.specs.declared.kept.Record.{Record}
 use Rattle.cx_seat.specs.Opening.{HasRecords}
 use Rattle.cx_seat.specs.Stores.{has_second}
 

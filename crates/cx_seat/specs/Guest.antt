@@ -4,13 +4,13 @@ use Rattle.std.specs.Prelude.{IsErrOf, IsTrue, OnErr, OnOk, true}
 use Rattle.std.specs.Option.{option_map}
 use Rattle.cx_base.specs.declared.cluster.Cluster.{Cluster}
 use Rattle.cx_base.specs.declared.role.RoleId.{RoleId}
-use Rattle.cx_keeper.specs.declared.keeper.KeepFault.{KeepFault}
-use Rattle.cx_keeper.specs.declared.keeper.KeepFault.TheVariants.{Failed, NoMemory}
+use Rattle.cx_keep.specs.declared.keeper.KeepFault.{KeepFault}
+use Rattle.cx_keep.specs.declared.keeper.KeepFault.TheVariants.{Failed, NoMemory}
 use Rattle.cx_model.specs.Names.{names_role}
 use Rattle.cx_model.specs.Outcome.{Outcome}
 use Rattle.cx_model.specs.Rules.{Rules, Running, running_after}
-use Rattle.cx_msg.specs.Letter.{Letter}
-use Rattle.cx_keeper.specs.Keeper.{Append, KeeperChange}
+use Rattle.cx_letter.specs.Letter.{Letter}
+use Rattle.cx_keep.specs.Keeper.{Append, KeeperChange}
 use Rattle.cx_course.specs.Changing.{StoreChange, changed_by, changes_of}
 use Rattle.cx_course.specs.Alike.{AreDistinct}
 use Rattle.cx_seat.specs.Changing.{Changing, Refuses}

@@ -26,7 +26,7 @@ use Rattle.cx_model.specs.Replacer.{replacer_rules}
 use Rattle.cx_model.specs.Replica.{replica_rules}
 use Rattle.cx_model.specs.Rules.{opened}
 use Rattle.cx_model.specs.Unbatcher.{unbatcher_rules}
-use Rattle.cx_msg.specs.declared.kept.Record.{Record}
+use Rattle.cx_letter.specs.declared.kept.Record.{Record}
 use Rattle.cx_script.specs.Requests.{script_of}
 use Rattle.cx_seat.specs.declared.guest.Guest.{Guest}
 use Rattle.cx_seat.specs.declared.opening.OpenStop.{OpenStop}

@@ -11,7 +11,7 @@ use Rattle.cx_journal.specs.Store.{store_told, store_whole}
 use Rattle.cx_journal.specs.declared.store.RecordStore.{RecordStore}
 use Rattle.cx_inv_open.specs.Reopened.{stored_as}
 use Rattle.cx_model.specs.World.{change, kept_by, run}
-use Rattle.cx_msg.specs.declared.input.Written.{Written}
+use Rattle.cx_letter.specs.declared.input.Written.{Written}
 use Rattle.cx_promises.specs.Lawful.{IsLawful}
 use Rattle.cx_seat.specs.Stores.{has_second, is_two}
 

@@ -6,7 +6,7 @@ use Rattle.cx_journal.specs.Files.{Files, files_image, files_records, front_in}
 use Rattle.cx_journal.specs.Journal.{frames}
 use Rattle.cx_journal.specs.Payload.{payloads}
 use Rattle.cx_model.specs.Rules.{Rules, Running, opened, refused}
-use Rattle.cx_msg.specs.declared.kept.Record.{Record}
+use Rattle.cx_letter.specs.declared.kept.Record.{Record}
 
 -- A role as the records of a store leave it: they are those of its bytes, each is one that the role could have
 -- appended, and the store has them, each with a gate.

@@ -8,8 +8,8 @@ ghost use Rattle.cx_base.specs.declared.role.RoleId.{RoleId};
 ghost use Rattle.cx_journal.specs.Files.{Files, files_records};
 ghost use Rattle.cx_journal.specs.Store.{IsStoreChange, StoreLeftSince, StoreMayLeave, store_told};
 ghost use Rattle.cx_journal.specs.declared.store.RecordStore.{RecordStore};
-ghost use Rattle.cx_keeper.specs.declared.keeper.KeepFault.{KeepFault};
-ghost use Rattle.cx_msg.specs.declared.input.Written.{Written};
+ghost use Rattle.cx_keep.specs.declared.keeper.KeepFault.{KeepFault};
+ghost use Rattle.cx_letter.specs.declared.input.Written.{Written};
 ghost use Rattle.cx_course.specs.Changing.{change_for};
 ghost use Rattle.cx_seat.specs.Stops.{IsNextChange, IsOfRun};
 

@@ -5,14 +5,14 @@ ghost use Rattle.std.specs.List.{flat_map};
 ghost use Rattle.std.specs.Option.{option_to_list};
 ghost use Rattle.cx_course.specs.Course.{has_room_for, own_event, request_by};
 ghost use Rattle.cx_course.specs.declared.doing.Doing.TheVariants.{Give};
-ghost use Rattle.cx_msg.specs.Letter.{Letter};
+ghost use Rattle.cx_letter.specs.Letter.{Letter};
 ghost use Rattle.cx_seat.specs.Noting.{with_more_lines, shown};
 ghost use Rattle.cx_record.specs.Lines.{events_text};
 ghost use Rattle.cx_record.specs.Numbers.{has_room};
 
 use cx_base::{Cut, Event, Kind, NoMemory, RoleId};
 use cx_course::Doing;
-use cx_msg::{Datagram, Input, Msg};
+use cx_letter::{Datagram, Input, Msg};
 use cx_record::{Recorder, line_into};
 
 // The event that a role's taking of an input is, if it is one.

@@ -16,7 +16,7 @@ ghost use Rattle.cx_seat.specs.Wake.{IsBadStore, IsWoken};
 use cx_base::{Cluster, RoleId};
 use cx_disk::Disk;
 use cx_journal::{Journal, Twin};
-use cx_keeper::OpenFault;
+use cx_keep::OpenFault;
 use cx_replica::Replica;
 use cx_role::{Role, WakeFault};
 use std::alloc::Global;

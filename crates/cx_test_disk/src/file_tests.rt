@@ -1,7 +1,7 @@
 //! The bytes of two disks: what is opened, and what changes leave.
 
 ghost use Rattle.std.specs.Prelude.{◌≡◌, ◌+◌, length, IfOk, IsTrue};
-ghost use Rattle.cx_msg.specs.Records.{fits};
+ghost use Rattle.cx_letter.specs.Records.{fits};
 
 use crate::disk_tests::disk;
 use cx_disk::{DiskRoom, MemDisk};

@@ -1,7 +1,7 @@
 //! What a keeper in memory keeps where an append or a renewal is cut.
 
 ghost use Rattle.std.specs.Prelude.{IfOk, IsTrue};
-ghost use Rattle.cx_msg.specs.Records.{fits};
+ghost use Rattle.cx_letter.specs.Records.{fits};
 
 use cx_base::Cut;
 use cx_keeper::{Keeper, MemKeeper, Renew};

@@ -1,7 +1,7 @@
 //! Twins over disks of which one fails or stops: what is read again, and what each crash of both leaves.
 
 ghost use Rattle.std.specs.Prelude.{IfOk, IsTrue};
-ghost use Rattle.cx_msg.specs.Records.{fits};
+ghost use Rattle.cx_letter.specs.Records.{fits};
 
 use crate::disk_tests::disk;
 use cx_disk::{DiskRoom, MemDisk, Unsynced};

@@ -2,9 +2,9 @@
 
 ghost use Rattle.std.specs.Prelude.{◌≡◌, true, IfOk, IsTrue};
 ghost use Rattle.cx_base.specs.declared.role.Kind.TheVariants as kind;
-ghost use Rattle.cx_keeper.specs.Keeper.{all_fit};
+ghost use Rattle.cx_keep.specs.Keeper.{all_fit};
 ghost use Rattle.cx_model.specs.Names.{names_role};
-ghost use Rattle.cx_msg.specs.Records.{fits};
+ghost use Rattle.cx_letter.specs.Records.{fits};
 
 use cx_base::{Cluster, Kind, RoleId};
 use cx_msg::{Record, record_from};

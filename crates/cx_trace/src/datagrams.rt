@@ -7,7 +7,8 @@ ghost use Rattle.cx_trace.specs.Trace.{datagram_text, head_text, named_text, is_
 use crate::pieces::{put, put_hex, put_number, put_role, undo_part};
 use crate::replies::{put_answer, put_read};
 use cx_base::{NoMemory, RoleId};
-use cx_msg::{Datagram, Msg, Spelled};
+use cx_letter::{Datagram, Msg};
+use cx_msg::Spelled;
 use std::alloc::Global;
 
 /// Appends what a message tells the client that gets it: the line of an answer, and nothing of another kind. An `Err` may

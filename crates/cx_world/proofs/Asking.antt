@@ -10,9 +10,9 @@ use Rattle.cx_base.specs.Role.{role}
 use Rattle.cx_model.specs.Heard.{heard_by}
 use Rattle.cx_model.specs.Request.{is_stale, request}
 use Rattle.cx_model.specs.World.{World, Change, nothing, ask, act_at}
-use Rattle.cx_msg.specs.Letter.{Letter}
-use Rattle.cx_msg.specs.declared.input.Act.{Act}
-use Rattle.cx_msg.specs.declared.input.KeptRecord.{KeptRecord}
+use Rattle.cx_letter.specs.Letter.{Letter}
+use Rattle.cx_letter.specs.declared.input.Act.{Act}
+use Rattle.cx_letter.specs.declared.input.KeptRecord.{KeptRecord}
 use Rattle.cx_field.specs.declared.parts.Token.{Token}
 use Rattle.cx_world.specs.World.{SeatLists, HasSeats, IsChange}
 

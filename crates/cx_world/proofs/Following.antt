@@ -10,7 +10,7 @@ use Rattle.cx_base.specs.declared.role.Kind.TheVariants as kind
 use Rattle.cx_base.specs.declared.role.RoleId.{RoleId}
 use Rattle.cx_kv.proofs.Behind.{behind_both}
 use Rattle.cx_model.specs.World.{log_of}
-use Rattle.cx_msg.specs.declared.input.KeptRecord.{KeptRecord}
+use Rattle.cx_letter.specs.declared.input.KeptRecord.{KeptRecord}
 use Rattle.cx_choice.proofs.Numbered.{next_kept}
 use Rattle.cx_world.specs.Folded.{values_by, values_kept}
 

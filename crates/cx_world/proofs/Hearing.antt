@@ -19,7 +19,7 @@ use Rattle.cx_field.specs.Fields.{mark}
 use Rattle.cx_wire.specs.Format.{u64}
 use Rattle.cx_model.specs.Heard.{delivered_to, heard_at, heard_by, is_heard, mark_told, told_to}
 use Rattle.cx_model.specs.World.{World, change, come}
-use Rattle.cx_msg.specs.Letter.{Letter}
+use Rattle.cx_letter.specs.Letter.{Letter}
 use Rattle.cx_world.specs.Heard.{AreMarks, Hears, Raised, delivered, heard_below, is_below, is_client}
 
 -- A NUMBER IS RAISED

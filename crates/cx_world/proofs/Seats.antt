@@ -22,10 +22,10 @@ use Rattle.cx_model.specs.Rules.{Rules, Running, folded}
 use Rattle.cx_model.specs.Turn.{turn}
 use Rattle.cx_model.specs.Unbatcher.{unbatcher_rules}
 use Rattle.cx_model.specs.World.{World, Roles, Turns, turn_at, turn_found, turn_done, list_of, kept_by, act_of, act_at, of_batcher, of_leader, of_proxy, of_acceptor, of_matchmaker, of_replica, of_unbatcher, of_reader, of_replacer}
-use Rattle.cx_msg.specs.Letter.{Letter}
-use Rattle.cx_msg.specs.declared.input.Act.{Act}
-use Rattle.cx_msg.specs.declared.input.KeptRecord.{KeptRecord}
-use Rattle.cx_msg.specs.declared.input.Written.{Written}
+use Rattle.cx_letter.specs.Letter.{Letter}
+use Rattle.cx_letter.specs.declared.input.Act.{Act}
+use Rattle.cx_letter.specs.declared.input.KeptRecord.{KeptRecord}
+use Rattle.cx_letter.specs.declared.input.Written.{Written}
 use Rattle.cx_world.specs.Seat.{Seat, volatile_of, seat_turn, TurnsFound, TurnsAt, IsSeat, AreSeats}
 use Rattle.cx_world.specs.World.{SeatLists, seat_roles, volatiles, HasSeats, IsChange}
 

@@ -5,16 +5,16 @@ use Rattle.cx_base.specs.declared.event.Cut.{Cut}
 use Rattle.cx_base.specs.declared.event.Cut.TheVariants.{Whole, Torn, Kept}
 use Rattle.cx_base.specs.declared.role.RoleId.{RoleId}
 use Rattle.cx_base.specs.declared.why.Why.{Why}
-use Rattle.cx_msg.specs.Letter.{Letter}
-use Rattle.cx_msg.specs.declared.input.Act.TheVariants.{Snap}
-use Rattle.cx_msg.specs.declared.input.Written.{Written}
-use Rattle.cx_msg.specs.declared.input.Written.TheVariants as written
+use Rattle.cx_letter.specs.Letter.{Letter}
+use Rattle.cx_letter.specs.declared.input.Act.TheVariants.{Snap}
+use Rattle.cx_letter.specs.declared.input.Written.{Written}
+use Rattle.cx_letter.specs.declared.input.Written.TheVariants as written
 use Rattle.cx_model.specs.Lists.{list_with}
 use Rattle.cx_model.specs.Rules.{Rules, Running, folded, refused}
 use Rattle.cx_model.specs.Turn.{cut_turn, snap_turn}
-use Rattle.cx_keeper.specs.Keeper.{Renewal}
+use Rattle.cx_keep.specs.Keeper.{Renewal}
 use Rattle.cx_keeper.specs.MemKeeper.{kept_of}
-use Rattle.cx_keeper.specs.declared.keeper.KeepFault.TheVariants.{Failed}
+use Rattle.cx_keep.specs.declared.keeper.KeepFault.TheVariants.{Failed}
 use Rattle.cx_role.specs.Role.{KeepsDurable}
 use Rattle.cx_role.specs.Snap.{SnapStays, Snaps}
 use Rattle.cx_world.specs.LastKeeper.{LastState, first_slot_of, last_renew_gives, list_kept}

@@ -8,20 +8,20 @@ use Rattle.cx_base.specs.declared.event.Cut.{Cut}
 use Rattle.cx_base.specs.declared.event.Cut.TheVariants.{Whole, Torn, Kept}
 use Rattle.cx_base.specs.declared.role.RoleId.{RoleId}
 use Rattle.cx_base.specs.declared.why.Why.{Why}
-use Rattle.cx_msg.specs.Letter.{Letter}
-use Rattle.cx_msg.specs.declared.input.Act.TheVariants.{Give}
-use Rattle.cx_msg.specs.declared.input.Input.{Input}
-use Rattle.cx_msg.specs.declared.input.Written.{Written}
-use Rattle.cx_msg.specs.declared.input.Written.TheVariants as written
-use Rattle.cx_msg.specs.declared.kept.Record.{Record}
+use Rattle.cx_letter.specs.Letter.{Letter}
+use Rattle.cx_letter.specs.declared.input.Act.TheVariants.{Give}
+use Rattle.cx_letter.specs.declared.input.Input.{Input}
+use Rattle.cx_letter.specs.declared.input.Written.{Written}
+use Rattle.cx_letter.specs.declared.input.Written.TheVariants as written
+use Rattle.cx_letter.specs.declared.kept.Record.{Record}
 use Rattle.cx_model.specs.Folds.{folded_kept}
 use Rattle.cx_model.specs.Lists.{list_with}
 use Rattle.cx_model.specs.Outcome.{Outcome}
 use Rattle.cx_model.specs.Rules.{Rules, Running, IsFit, folded, folded_from, opened, outcome_of, refused, refused_from, with_kept}
 use Rattle.cx_model.specs.Turn.{Turn, cut_turn, turn_with, whole_turn}
-use Rattle.cx_keeper.specs.Keeper.{KeeperChange, Append, list_after}
+use Rattle.cx_keep.specs.Keeper.{KeeperChange, Append, list_after}
 use Rattle.cx_keeper.specs.MemKeeper.{kept_of, is_left_by_cut}
-use Rattle.cx_keeper.specs.declared.keeper.KeepFault.TheVariants.{Failed}
+use Rattle.cx_keep.specs.declared.keeper.KeepFault.TheVariants.{Failed}
 use Rattle.cx_role.specs.Role.{Steps, Keeps, KeepsDurable, MayKeep}
 use Rattle.cx_role.specs.Wake.{refused_behind, reopened}
 use Rattle.cx_world.specs.LastKeeper.{LastState, last_append_gives, last_cut, last_gives, list_kept, written_by}

@@ -20,8 +20,8 @@ use Rattle.cx_model.specs.Replacer.{replacer_rules}
 use Rattle.cx_model.specs.Replica.{replica_rules}
 use Rattle.cx_model.specs.Unbatcher.{unbatcher_rules}
 use Rattle.cx_model.specs.World.{World, Roles, change, step, start, fresh_roles, run, run_from, event_list}
-use Rattle.cx_msg.specs.Letter.{Letter}
-use Rattle.cx_msg.specs.declared.input.KeptRecord.{KeptRecord}
+use Rattle.cx_letter.specs.Letter.{Letter}
+use Rattle.cx_letter.specs.declared.input.KeptRecord.{KeptRecord}
 use Rattle.cx_model.specs.Heard.{heard_at}
 use Rattle.cx_world.specs.Heard.{Hears, Raised, heard_below}
 use Rattle.cx_world.specs.Seat.{AreSeats}

@@ -5,7 +5,7 @@ use Rattle.cx_base.specs.Role.{same_role}
 use Rattle.cx_base.specs.declared.command.Value.{Value}
 use Rattle.cx_base.specs.declared.role.RoleId.{RoleId}
 use Rattle.cx_model.specs.World.{log_of, values_in}
-use Rattle.cx_msg.specs.declared.input.KeptRecord.{KeptRecord}
+use Rattle.cx_letter.specs.declared.input.KeptRecord.{KeptRecord}
 use Rattle.cx_trace.specs.declared.summary.Folded.{Folded}
 
 -- how many values it kept, and the fold of their commands

@@ -7,7 +7,7 @@ use Rattle.cx_base.specs.declared.role.Kind.{Kind}
 use Rattle.cx_base.specs.declared.role.Kind.TheVariants.{Client}
 use Rattle.cx_field.specs.Fields.{mark}
 use Rattle.cx_model.specs.Heard.{heard_by, is_heard}
-use Rattle.cx_msg.specs.Letter.{Letter}
+use Rattle.cx_letter.specs.Letter.{Letter}
 
 -- a number for each client that a cluster may have, in the range of what answers tell
 pub record AreMarks (numbers : List ℕ) : Type 0 where

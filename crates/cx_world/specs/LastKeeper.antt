@@ -4,13 +4,13 @@ use Rattle.std.proofs.Common.{refl}
 use Rattle.std.specs.Option.{option_to_list}
 use Rattle.cx_base.specs.declared.event.Cut.{Cut}
 use Rattle.cx_base.specs.declared.event.Cut.TheVariants.{Whole, Torn, Kept}
-use Rattle.cx_msg.specs.declared.input.Written.{Written}
-use Rattle.cx_msg.specs.declared.input.Written.TheVariants as written
-use Rattle.cx_msg.specs.declared.kept.Record.{Record}
-use Rattle.cx_msg.specs.declared.kept.Record.TheVariants as kept
-use Rattle.cx_keeper.specs.declared.keeper.KeepFault.{KeepFault}
-use Rattle.cx_keeper.specs.declared.keeper.KeepFault.TheVariants.{Failed, NoMemory}
-use Rattle.cx_keeper.specs.Keeper.{KeeperChange, Append, Renewal, IsAppend, IsKeeperChange, all_fit}
+use Rattle.cx_letter.specs.declared.input.Written.{Written}
+use Rattle.cx_letter.specs.declared.input.Written.TheVariants as written
+use Rattle.cx_letter.specs.declared.kept.Record.{Record}
+use Rattle.cx_letter.specs.declared.kept.Record.TheVariants as kept
+use Rattle.cx_keep.specs.declared.keeper.KeepFault.{KeepFault}
+use Rattle.cx_keep.specs.declared.keeper.KeepFault.TheVariants.{Failed, NoMemory}
+use Rattle.cx_keep.specs.Keeper.{KeeperChange, Append, Renewal, IsAppend, IsKeeperChange, all_fit}
 use Rattle.cx_keeper.specs.MemKeeper.{MemKeeperState, kept_of, faults_of, mem_gives, mem_append_is, mem_renew_is}
 use Rattle.cx_history.specs.Kept.{all_changes_fit}
 

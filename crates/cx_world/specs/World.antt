@@ -21,8 +21,8 @@ use Rattle.cx_model.specs.Rules.{Running}
 use Rattle.cx_model.specs.Unbatcher.{unbatcher_rules}
 use Rattle.cx_history.specs.Begins.{IsPrefix}
 use Rattle.cx_model.specs.World.{World, Roles, Change, change, step, run, event_list}
-use Rattle.cx_msg.specs.Letter.{Letter}
-use Rattle.cx_msg.specs.declared.input.KeptRecord.{KeptRecord}
+use Rattle.cx_letter.specs.Letter.{Letter}
+use Rattle.cx_letter.specs.declared.input.KeptRecord.{KeptRecord}
 use Rattle.cx_trace.specs.declared.effect.Effect.{Effect}
 use Rattle.cx_world.specs.Heard.{Hears, heard_below}
 use Rattle.cx_world.specs.Seat.{Seat, AreSeats, roles_in}

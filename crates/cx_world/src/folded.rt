@@ -8,7 +8,7 @@ ghost use Rattle.cx_world.specs.Folded.{folded_of, values_by};
 use cx_base::{Kind, NoMemory, RoleId, Value};
 use cx_history::Kept;
 use cx_kv::{ExecutedCommands, Store, apply_value};
-use cx_msg::{KeptRecord, Record, Written};
+use cx_letter::{KeptRecord, Record, Written};
 use cx_trace::Folded;
 use std::alloc::Global;
 

@@ -7,7 +7,7 @@ ghost use Rattle.cx_world.specs.Heard.{Raised, delivered, is_client};
 
 use cx_base::{CLIENTS, Event, Kind, NoMemory, RoleId, Why};
 use cx_history::Sent;
-use cx_msg::{Datagram, Msg};
+use cx_letter::{Datagram, Msg};
 use std::marker::Model;
 
 /// The greatest number that each client of a cluster was told in an answer, 0 where it was told none.

@@ -2,14 +2,15 @@
 
 ghost use Rattle.std.specs.Prelude.{◌≡◌, ◌++◌, ◌∷◌, ℕ, [], IfOk, IsTrue, None, true, OnOk, OnErr, Some, option_to_list};
 ghost use Rattle.cx_history.specs.Kept.{all_changes_fit};
-ghost use Rattle.cx_keeper.specs.Keeper.{all_fit};
-ghost use Rattle.cx_msg.specs.Records.{fits};
-ghost use Rattle.cx_msg.specs.declared.input.Written.TheVariants as written;
+ghost use Rattle.cx_keep.specs.Keeper.{all_fit};
+ghost use Rattle.cx_letter.specs.Records.{fits};
+ghost use Rattle.cx_letter.specs.declared.input.Written.TheVariants as written;
 ghost use Rattle.cx_world.specs.LastKeeper.{faults_kept, first_slot_of, is_renewal, last_append_gives, last_append_is, last_renew_gives, last_renew_is, list_kept, base_slot, tells_nothing};
 
 use cx_base::{Cut, Duplicate, Faults, NoMemory};
-use cx_keeper::{KeepFault, Keeper, OpenFault, Records, Renew};
-use cx_msg::{Record, Written};
+use cx_keep::{KeepFault, Keeper, OpenFault, Renew};
+use cx_keeper::Records;
+use cx_letter::{Record, Written};
 use cx_ring::{GhostList, GhostListOf};
 use std::alloc::Global;
 use std::marker::Model;

@@ -4,7 +4,7 @@ ghost use Rattle.std.specs.Prelude.{◌≡◌, true, option_to_list};
 ghost use Rattle.cx_history.specs.Kept.{all_changes_fit, changes_kept};
 
 use cx_base::{RoleId, Why};
-use cx_msg::{KeptRecord, Written};
+use cx_letter::{KeptRecord, Written};
 
 /// The result of a turn of a role, beside the seat and the outbox: in which word, and how its store was changed.
 #[derive(Drop)]

@@ -20,7 +20,7 @@ use crate::turned::Changed;
 use cx_base::{Cluster, Event, Happened, Kind, NoMemory, Why};
 use cx_choice::{Chosen, chosen_prefix};
 use cx_history::{Events, Kept, Sent};
-use cx_msg::{Datagram, KeptRecord};
+use cx_letter::{Datagram, KeptRecord};
 use cx_role::Outbox;
 use cx_trace::{Effect, Folded};
 use std::alloc::Global;

@@ -1,5 +1,5 @@
 use Rattle.std.proofs.Common.{ap, subst, ◌∙◌, arith}
-use Rattle.cx_msg.specs.Records.{record_of_bytes}
+use Rattle.cx_msg.specs.RecordBytes.{record_of_bytes}
 use Rattle.cx_msg.specs.Decodes.{Decodes}
 use Rattle.cx_msg.proofs.RecordLaws.{is_found, recorded-again}
 use Rattle.cx_msg.proofs.PlaceLaws.{record_faults_lie}

@@ -2,8 +2,8 @@ use Rattle.std.proofs.Common.{◌≡◌, ◌∙◌, length, map, ap, arith, subs
 use Rattle.cx_base.specs.declared.command.Answered.{Answered}
 use Rattle.cx_base.specs.declared.command.Note.{Note}
 use Rattle.cx_model.specs.Replica.{note_of}
-use Rattle.cx_msg.specs.declared.kept.Record.TheVariants as kept
-use Rattle.cx_msg.specs.Records.{fits as record_fits}
+use Rattle.cx_letter.specs.declared.kept.Record.TheVariants as kept
+use Rattle.cx_letter.specs.Records.{fits as record_fits}
 use Rattle.cx_table.specs.Entries.{of_client}
 use Rattle.cx_replica.proofs.Snapping.{few_notes, some_notes, notes_fit}
 use Rattle.cx_replica.proofs.snap.notes_record.Goals as goal

@@ -1,8 +1,8 @@
 use Rattle.std.proofs.Common.{◌≡◌, ◌+◌, ◌-◌, ◌≤◌, ◌∙◌, length, take, drop, ap, arith, subst, sym, true, List, length-drop}
 use Rattle.std.specs.Prelude.{min}
 use Rattle.cx_base.specs.declared.command.Pair.{Pair}
-use Rattle.cx_msg.specs.declared.kept.Record.TheVariants as kept
-use Rattle.cx_msg.specs.Records.{fits as record_fits}
+use Rattle.cx_letter.specs.declared.kept.Record.TheVariants as kept
+use Rattle.cx_letter.specs.Records.{fits as record_fits}
 use Rattle.cx_replica.specs.Sound.{are_pairs}
 use Rattle.cx_replica.proofs.Snapping.{next_pairs_fit, take_least}
 use Rattle.cx_replica.proofs.snap.pairs_record.Goals as goal

@@ -1,7 +1,7 @@
 use Rattle.std.proofs.Common.{◌≡◌, ◌≤◌, ◌++◌, ◌-◌, true, map, drop}
-use Rattle.cx_keeper.specs.Keeper.{all_fit}
+use Rattle.cx_keep.specs.Keeper.{all_fit}
 use Rattle.cx_model.specs.Replica.{pieces}
-use Rattle.cx_msg.specs.declared.kept.Record.TheVariants as kept
+use Rattle.cx_letter.specs.declared.kept.Record.TheVariants as kept
 use Rattle.cx_replica.proofs.snap.push_pairs.Given as goal
 
 abbrev pub invariant-loop-left : goal.invariant-loop-left

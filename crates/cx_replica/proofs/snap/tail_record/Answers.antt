@@ -2,8 +2,8 @@ use Rattle.std.proofs.Common.{◌≡◌, ◌+◌, ◌-◌, ◌≤◌, ◌∙◌,
 use Rattle.std.specs.Prelude.{min}
 use Rattle.cx_base.specs.declared.command.Value.{Value}
 use Rattle.cx_field.specs.Fields.{value}
-use Rattle.cx_msg.specs.declared.kept.Record.TheVariants as kept
-use Rattle.cx_msg.specs.Records.{fits as record_fits}
+use Rattle.cx_letter.specs.declared.kept.Record.TheVariants as kept
+use Rattle.cx_letter.specs.Records.{fits as record_fits}
 use Rattle.cx_replica.proofs.Snapping.{all_later, next_tail_fit, take_least}
 use Rattle.cx_replica.proofs.snap.tail_record.Goals as goal
 

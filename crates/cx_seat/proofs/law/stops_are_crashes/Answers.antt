@@ -3,8 +3,8 @@ use Rattle.cx_journal.specs.Files.{IsFilesImageOf, files_records}
 use Rattle.cx_journal.specs.Payload.{all_kept_by}
 use Rattle.cx_journal.specs.Store.{store_told}
 use Rattle.cx_journal.proofs.Stores.{store_at_any_moment, store_lasts}
-use Rattle.cx_keeper.specs.Keeper.{list_after as change_after}
-use Rattle.cx_msg.specs.declared.kept.Record.{Record}
+use Rattle.cx_keep.specs.Keeper.{list_after as change_after}
+use Rattle.cx_letter.specs.declared.kept.Record.{Record}
 use Rattle.cx_course.specs.Changing.{change_for}
 use Rattle.cx_seat.specs.Stores.{is_two}
 use Rattle.cx_seat.proofs.Crashes.{kept_of_run, lost_of_run, own_writer, renews_two, store_fits, whole_of_run}

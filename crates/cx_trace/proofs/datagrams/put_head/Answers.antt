@@ -1,6 +1,6 @@
 use Rattle.std.proofs.Common.{◌≡◌, ◌++◌, OnOk, List, ℕ, ap, subst, ◌∙◌}
 use Rattle.cx_base.specs.declared.role.RoleId.{RoleId}
-use Rattle.cx_msg.specs.Names.{name_of_message}
+use Rattle.cx_letter.specs.Names.{name_of_message}
 use Rattle.cx_trace.specs.Trace.{named_text}
 use Rattle.cx_trace.proofs.datagrams.put_head.Goals as goal
 

@@ -1,6 +1,6 @@
 use Rattle.std.proofs.Common.{◌≡◌, ◌++◌, ◌∙◌, List, ℕ, false, ap, sym, subst}
 use Rattle.std.proofs.lemmas.List.{append-nil}
-use Rattle.cx_msg.specs.Names.{name_of_message}
+use Rattle.cx_letter.specs.Names.{name_of_message}
 use Rattle.cx_trace.specs.Trace.{is_answer_name}
 use Rattle.cx_trace.proofs.Telling.{tells_nothing}
 use Rattle.cx_trace.proofs.datagrams.put_told_by.Goals as goal

@@ -1,6 +1,6 @@
 use Rattle.std.proofs.Common.{◌≡◌, ◌++◌, ◌∙◌, OnOk, ap, subst}
 use Rattle.cx_base.specs.declared.role.RoleId.{RoleId}
-use Rattle.cx_msg.specs.declared.message.Msg.{Msg}
+use Rattle.cx_letter.specs.declared.message.Msg.{Msg}
 use Rattle.cx_trace.specs.Trace.{told_text}
 use Rattle.cx_trace.proofs.datagrams.put_told_of.Goals as goal
 

@@ -1,7 +1,7 @@
 use Rattle.std.proofs.Common.{refl}
 use Rattle.cx_base.specs.Role.{role}
 use Rattle.cx_base.specs.declared.role.Kind.TheVariants as kind
-use Rattle.cx_msg.specs.declared.input.Act.TheVariants.{Snap}
+use Rattle.cx_letter.specs.declared.input.Act.TheVariants.{Snap}
 use Rattle.cx_world.specs.World.{lists_of}
 use Rattle.cx_world.proofs.Seats.{replica_change}
 use Rattle.cx_world.proofs.change.snap.Goals as goal

@@ -1,5 +1,5 @@
 use Rattle.std.proofs.Common.{◌<◌, List, length, ap, arith}
-use Rattle.cx_msg.specs.declared.input.KeptRecord.{KeptRecord}
+use Rattle.cx_letter.specs.declared.input.KeptRecord.{KeptRecord}
 use Rattle.cx_history.specs.Kept.{changes_in}
 use Rattle.cx_history.proofs.Keeping.{counts, is_within, one_kept}
 use Rattle.cx_history.proofs.kept.Kept.at.Goals as goal

@@ -1,7 +1,7 @@
 use Rattle.std.proofs.Common.{◌≡◌, List, ap, subst}
 use Rattle.std.specs.Prelude.{IfOk}
 use Rattle.std.specs.List.{slice_get}
-use Rattle.cx_msg.specs.declared.kept.Record.{Record}
+use Rattle.cx_letter.specs.declared.kept.Record.{Record}
 use Rattle.cx_keeper.specs.MemKeeper.{kept_of}
 use Rattle.cx_keeper.proofs.Since.{kept_last, last_fits}
 use Rattle.cx_keeper.proofs.mem_keeper.MemKeeper.kept_since.Goals as goal

@@ -1,6 +1,6 @@
 use Rattle.std.proofs.Common.{◌≡◌, ◌++◌, drop}
 use Rattle.std.specs.Prelude.{IsTrue}
-use Rattle.cx_keeper.specs.Keeper.{all_fit}
+use Rattle.cx_keep.specs.Keeper.{all_fit}
 use Rattle.cx_keeper.proofs.records.Records.of.Given as goal
 
 abbrev pub invariant-loop-what : goal.invariant-loop-what

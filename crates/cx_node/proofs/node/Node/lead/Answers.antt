@@ -4,7 +4,7 @@ use Rattle.cx_base.specs.Grid.{Shape}
 use Rattle.cx_base.specs.Role.{role}
 use Rattle.cx_base.specs.declared.event.Order.TheVariants as order
 use Rattle.cx_base.specs.declared.role.Kind.TheVariants as kind
-use Rattle.cx_msg.specs.declared.input.Input.TheVariants as input
+use Rattle.cx_letter.specs.declared.input.Input.TheVariants as input
 use Rattle.cx_course.specs.declared.doing.Doing.TheVariants.{Give}
 use Rattle.cx_node.specs.Acts.{Acts, scene_of}
 use Rattle.cx_seat.specs.Changing.{changing}

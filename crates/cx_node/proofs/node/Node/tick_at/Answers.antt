@@ -1,6 +1,6 @@
 use Rattle.std.proofs.Common.{slice_get, arith, ap, ◌∙◌}
 use Rattle.std.proofs.lemmas.List.{length-map}
-use Rattle.cx_msg.specs.declared.input.Input.TheVariants as input
+use Rattle.cx_letter.specs.declared.input.Input.TheVariants as input
 use Rattle.cx_node.specs.Acts.{scene_of}
 use Rattle.cx_seat.specs.Changing.{changing}
 use Rattle.cx_seat.specs.Guest.{hosted_in, hosted_of}

@@ -1,5 +1,5 @@
 use Rattle.std.proofs.Common.{◌≡◌, ◌∙◌, ◌++◌, ap}
-use Rattle.cx_msg.specs.Letter.{spelling}
+use Rattle.cx_msg.specs.Datagrams.{spelling}
 use Rattle.cx_record.proofs.Found.{one_more}
 use Rattle.cx_record.proofs.recorder.Recorder.note.Goals as goal
 

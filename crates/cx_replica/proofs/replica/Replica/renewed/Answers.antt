@@ -3,7 +3,7 @@ use Rattle.cx_base.specs.declared.command.Value.{Value}
 use Rattle.cx_field.specs.Fields.{value}
 use Rattle.cx_model.specs.Replica.{ReplicaDurable, ReplicaVolatile}
 use Rattle.cx_model.specs.Rules.{Running}
-use Rattle.cx_msg.specs.declared.kept.Record.TheVariants as kept
+use Rattle.cx_letter.specs.declared.kept.Record.TheVariants as kept
 use Rattle.cx_replica.specs.Sound.{are_values}
 use Rattle.cx_replica.proofs.Rows.{own_fits}
 use Rattle.cx_replica.proofs.Snapping.{all_later, base_fit, fit_more}

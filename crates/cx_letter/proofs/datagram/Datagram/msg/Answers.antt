@@ -1,8 +1,8 @@
 use Rattle.std.proofs.Common.{subst}
-use Rattle.cx_msg.specs.Letter.{Letter}
-use Rattle.cx_msg.specs.LetterParts.{PartsFit}
-use Rattle.cx_msg.proofs.PartsLaws.{parts}
-use Rattle.cx_msg.proofs.datagram.Datagram.msg.Goals as goal
+use Rattle.cx_letter.specs.Letter.{Letter}
+use Rattle.cx_letter.specs.LetterParts.{PartsFit}
+use Rattle.cx_letter.proofs.PartsLaws.{parts}
+use Rattle.cx_letter.proofs.datagram.Datagram.msg.Goals as goal
 
 pub returns-clause-parts : goal.returns-clause-parts
 returns-clause-parts c =

@@ -1,8 +1,8 @@
 //! Datagrams: messages with who sends and who gets them.
 
 ghost use Rattle.std.specs.Prelude.{◌≡◌, IsTrue};
-ghost use Rattle.cx_msg.specs.Letter.{fits as letter_fits, letter};
-ghost use Rattle.cx_msg.specs.LetterParts.{PartsFit};
+ghost use Rattle.cx_letter.specs.Letter.{fits as letter_fits, letter};
+ghost use Rattle.cx_letter.specs.LetterParts.{PartsFit};
 
 use crate::message::Msg;
 use cx_base::{Duplicate, NoMemory, RoleId};
@@ -19,7 +19,7 @@ pub struct Datagram {
 
 impl Model for Datagram {
     ghost use Rattle.std.specs.Prelude.{IsTrue};
-    ghost use Rattle.cx_msg.specs.Letter.{Letter, fits, letter};
+    ghost use Rattle.cx_letter.specs.Letter.{Letter, fits, letter};
 
     ghost Value = { Letter };
 

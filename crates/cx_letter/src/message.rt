@@ -1,10 +1,9 @@
 //! What one role says to another.
 
 ghost use Rattle.std.specs.Prelude.{◌≡◌};
-ghost use Rattle.cx_msg.specs.Names.{name_of_message};
+ghost use Rattle.cx_letter.specs.Names.{name_of_message};
 
-use crate::names::name_of_kind;
-use crate::put_bodies::message_kind;
+use crate::names::{message_kind, name_of_kind};
 use cx_base::{Command, Commands, Grid, Key, Reply, Round, Set, Text, Value};
 use cx_field::{Answers, Asking, Entries, NackReason, Token, Votes};
 

@@ -1,21 +1,18 @@
--- The parts of a datagram and of a record that fit.
+-- The parts of a datagram that fit.
 use Rattle.std.proofs.Common.{◌≡◌, ℕ, Bool, true, false, ◌&&◌, ◌||◌, eqb, refl, sym, ap, ◌∙◌, IsTrue}
 use Rattle.std.proofs.lemmas.Bool.{eqb-true}
 use Rattle.cx_base.specs.Role.{role, code_of, kind_of}
 use Rattle.cx_base.specs.declared.role.Kind.{Kind}
 use Rattle.cx_base.specs.declared.role.Kind.TheVariants.{Client, Batcher, Leader, Proxy, Acceptor, Matchmaker, Replica, Unbatcher, Reader, Replacer}
 use Rattle.cx_base.specs.declared.role.RoleId.{RoleId}
-use Rattle.cx_wire.specs.Format.{u8, u16, u32, u64}
+use Rattle.cx_wire.specs.Format.{u16}
 use Rattle.cx_wire.proofs.Laws.{both}
-use Rattle.cx_field.specs.Fields.{slot, mark, at, seq, round, round0, grid, name, command, commands, value, reply, in_window, entries, joined, set, accepted_set, votes, answers, found, reason, token, asking, values, pairs, notes}
-use Rattle.cx_msg.specs.Messages.{body_shape, answer, match_b, match_nack, match_read_ack, nack, phase1b, phase2a, pre_read, pre_read_ack, propose, read_answer, read_key, read_req, results, round_slot, sess_read, slot_value, stop_b}
-use Rattle.cx_msg.specs.Letter.{Letter, letter, senders, receivers, is_listed, fits}
-use Rattle.cx_msg.specs.LetterParts.{PartsFit}
-use Rattle.cx_msg.specs.Records.{fits as record_fits}
-use Rattle.cx_msg.specs.declared.kept.Record.{Record}
-use Rattle.cx_msg.specs.declared.kept.Record.TheVariants as kept
-use Rattle.cx_msg.specs.declared.message.Msg.{Msg}
-use Rattle.cx_msg.specs.declared.message.Msg.TheVariants.{Submit, Batch, Leads, MatchA, MatchB, MatchNack, Phase1A, Phase1B, Nack, Propose, Phase2A, Phase2B, Chosen, ChosenIn, Results, Answer, Held, Fetch, Inform, Informed, GarbageA, GarbageB, ReadReq, MatchRead, MatchReadAck, PreRead, PreReadAck, Read, ReadAnswer, SessRead, StopA, StopB, StopNack, NextA, NextB, BootA, BootB, Sets}
+use Rattle.cx_field.specs.Fields.{slot, mark, at, seq, round, round0, grid, name, command, commands, value, reply, in_window, entries, joined, set, accepted_set, votes, answers, found, reason, token, asking}
+use Rattle.cx_letter.specs.Messages.{body_shape, answer, match_b, match_nack, match_read_ack, nack, phase1b, phase2a, pre_read, pre_read_ack, propose, read_answer, read_key, read_req, results, round_slot, sess_read, slot_value, stop_b}
+use Rattle.cx_letter.specs.Letter.{Letter, letter, senders, receivers, is_listed, fits}
+use Rattle.cx_letter.specs.LetterParts.{PartsFit}
+use Rattle.cx_letter.specs.declared.message.Msg.{Msg}
+use Rattle.cx_letter.specs.declared.message.Msg.TheVariants.{Submit, Batch, Leads, MatchA, MatchB, MatchNack, Phase1A, Phase1B, Nack, Propose, Phase2A, Phase2B, Chosen, ChosenIn, Results, Answer, Held, Fetch, Inform, Informed, GarbageA, GarbageB, ReadReq, MatchRead, MatchReadAck, PreRead, PreReadAck, Read, ReadAnswer, SessRead, StopA, StopB, StopNack, NextA, NextB, BootA, BootB, Sets}
 
 same_kind : (k : Kind) → k ≡ kind_of (code_of k)
 same_kind Client = refl
@@ -223,54 +220,3 @@ parts from to (SessRead sq n key) h =
     let p = both (seq.fits sq) (mark.fits n && (name 32).fits key) f.msg in
     let q = both (mark.fits n) ((name 32).fits key) p.1 in
     (record { sent = listed_role from 1 f.from; received = listed_role to 7 f.to }, p.0, q.0, q.1)
-
--- each part of a record that fits
-abbrev pub RecordPartsFit : Record → Type 0
-RecordPartsFit (kept.Promise r) = IsTrue (round.fits r)
-RecordPartsFit (kept.Vote r s cw v) = IsTrue (round.fits r) × IsTrue (slot.fits s) × IsTrue (mark.fits cw) × IsTrue (value.fits v)
-RecordPartsFit (kept.Water r n) = IsTrue (round.fits r) × IsTrue (mark.fits n)
-RecordPartsFit (kept.Match r g) = IsTrue (round.fits r) × IsTrue (grid.fits g)
-RecordPartsFit (kept.Garbage r g) = IsTrue (round.fits r) × IsTrue (grid.fits g)
-RecordPartsFit (kept.Round r g) = IsTrue (round.fits r) × IsTrue (grid.fits g)
-RecordPartsFit (kept.Log vs) = IsTrue (values.fits vs)
-RecordPartsFit (kept.Base f h p c) = IsTrue (mark.fits f) × IsTrue (mark.fits h) × IsTrue (u32.fits p) × IsTrue (u8.fits c)
-RecordPartsFit (kept.Pairs ps) = IsTrue (pairs.fits ps)
-RecordPartsFit (kept.Notes c f ns) = IsTrue (u16.fits c) × IsTrue (u64.fits f) × IsTrue (notes.fits ns)
-RecordPartsFit (kept.Tail vs) = IsTrue (values.fits vs)
-RecordPartsFit (kept.Ballot r) = IsTrue (round.fits r)
-RecordPartsFit (kept.Stop r) = IsTrue (round.fits r)
-RecordPartsFit (kept.Next r s) = IsTrue (round.fits r) × IsTrue (set.fits s)
-RecordPartsFit (kept.Boot s w es) = IsTrue (set.fits s) × IsTrue (round0.fits w) × IsTrue (joined.fits es)
-RecordPartsFit (kept.Turn n) = IsTrue (seq.fits n)
-
-pub record_parts : (r : Record) → IsTrue (record_fits r) → RecordPartsFit r
-record_parts (kept.Promise r) h = h
-record_parts (kept.Vote r s cw v) h =
-    let p = both (round.fits r) (slot.fits s && (mark.fits cw && value.fits v)) h in
-    let q = both (slot.fits s) (mark.fits cw && value.fits v) p.1 in
-    let t = both (mark.fits cw) (value.fits v) q.1 in
-    (p.0, q.0, t.0, t.1)
-record_parts (kept.Water r n) h = both (round.fits r) (mark.fits n) h
-record_parts (kept.Match r g) h = both (round.fits r) (grid.fits g) h
-record_parts (kept.Garbage r g) h = both (round.fits r) (grid.fits g) h
-record_parts (kept.Round r g) h = both (round.fits r) (grid.fits g) h
-record_parts (kept.Log vs) h = h
-record_parts (kept.Base f g p c) h =
-    let t = both (mark.fits f) (mark.fits g && (u32.fits p && u8.fits c)) h in
-    let q = both (mark.fits g) (u32.fits p && u8.fits c) t.1 in
-    let r = both (u32.fits p) (u8.fits c) q.1 in
-    (t.0, q.0, r.0, r.1)
-record_parts (kept.Pairs ps) h = h
-record_parts (kept.Notes c f ns) h =
-    let t = both (u16.fits c) (u64.fits f && notes.fits ns) h in
-    let q = both (u64.fits f) (notes.fits ns) t.1 in
-    (t.0, q.0, q.1)
-record_parts (kept.Tail vs) h = h
-record_parts (kept.Ballot r) h = h
-record_parts (kept.Stop r) h = h
-record_parts (kept.Next r s) h = both (round.fits r) (set.fits s) h
-record_parts (kept.Boot s w es) h =
-    let p = both (set.fits s) (round0.fits w && joined.fits es) h in
-    let q = both (round0.fits w) (joined.fits es) p.1 in
-    (p.0, q.0, q.1)
-record_parts (kept.Turn n) h = h

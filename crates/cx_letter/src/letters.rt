@@ -7,7 +7,7 @@ ghost use Rattle.cx_base.specs.Role.{role};
 ghost use Rattle.cx_base.specs.declared.role.Kind.{Kind};
 ghost use Rattle.cx_field.specs.Fields as field;
 ghost use Rattle.cx_field.specs.Fields.{in_window};
-ghost use Rattle.cx_msg.specs.Letter.{letter};
+ghost use Rattle.cx_letter.specs.Letter.{letter};
 
 use crate::datagram::Datagram;
 use crate::message::Msg;

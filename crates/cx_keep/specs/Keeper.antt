@@ -2,10 +2,10 @@
 use Rattle.std.specs.Prelude.{◌≡◌, ◌⊎◌, ◌≤◌, ℕ, Bool, true, List, [], ◌∷◌, ◌++◌, Result, Ok, Err}
 use Rattle.std.specs.List.{list_all}
 use Rattle.cx_base.specs.Faults.{Rises}
-use Rattle.cx_msg.specs.declared.kept.Record.{Record}
-use Rattle.cx_msg.specs.Records.{fits}
-use Rattle.cx_keeper.specs.declared.keeper.KeepFault.{KeepFault}
-use Rattle.cx_keeper.specs.declared.keeper.KeepFault.TheVariants.{Failed, NoMemory}
+use Rattle.cx_letter.specs.declared.kept.Record.{Record}
+use Rattle.cx_letter.specs.Records.{fits}
+use Rattle.cx_keep.specs.declared.keeper.KeepFault.{KeepFault}
+use Rattle.cx_keep.specs.declared.keeper.KeepFault.TheVariants.{Failed, NoMemory}
 
 -- whether each record's fields are in their ranges
 abbrev pub all_fit : List Record → Bool

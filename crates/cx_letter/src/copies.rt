@@ -1,7 +1,7 @@
 //! Messages made a second time.
 
 ghost use Rattle.std.specs.Prelude.{◌≡◌, IfOk, true, false};
-ghost use Rattle.cx_msg.specs.Copies.{has_list, has_value};
+ghost use Rattle.cx_letter.specs.Copies.{has_list, has_value};
 
 use crate::message::Msg;
 use cx_base::{Duplicate, NoMemory};

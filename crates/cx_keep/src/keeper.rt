@@ -2,15 +2,15 @@
 
 ghost use Rattle.std.specs.Prelude.{◌≡◌, ◌≤◌, ℕ, Bool, true, List, Option, Result, IfOk, IsTrue, Err};
 ghost use Rattle.cx_base.specs.Faults.{Rises};
-ghost use Rattle.cx_msg.specs.declared.kept.Record.{Record};
-ghost use Rattle.cx_msg.specs.Records.{fits};
-ghost use Rattle.cx_keeper.specs.declared.keeper.KeepFault.{KeepFault};
-ghost use Rattle.cx_keeper.specs.declared.keeper.KeepFault.TheVariants as fault;
-ghost use Rattle.cx_keeper.specs.declared.keeper.OpenFault.TheVariants as open_fault;
-ghost use Rattle.cx_keeper.specs.Keeper.{IsAppend, IsKeeperChange, Renewal, all_fit};
+ghost use Rattle.cx_letter.specs.declared.kept.Record.{Record};
+ghost use Rattle.cx_letter.specs.Records.{fits};
+ghost use Rattle.cx_keep.specs.declared.keeper.KeepFault.{KeepFault};
+ghost use Rattle.cx_keep.specs.declared.keeper.KeepFault.TheVariants as fault;
+ghost use Rattle.cx_keep.specs.declared.keeper.OpenFault.TheVariants as open_fault;
+ghost use Rattle.cx_keep.specs.Keeper.{IsAppend, IsKeeperChange, Renewal, all_fit};
 
 use cx_base::NoMemory;
-use cx_msg::Record;
+use cx_letter::Record;
 use std::alloc::{AllocError, AllocFailed};
 use thiserror::Error;
 

@@ -1,0 +1,6 @@
+pub mod Copies
+pub mod Letter
+pub mod LetterParts
+pub mod Messages
+pub mod Names
+pub mod Records
