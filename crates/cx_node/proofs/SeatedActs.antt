@@ -37,7 +37,7 @@ use Rattle.cx_record.specs.Numbers.{Recorded, has_room, with_step}
 use Rattle.cx_node.proofs.Asked.{IsNoted, are_noted, linked_step, none_noted, step_bound, step_kept, step_made, step_printed}
 use Rattle.cx_node.proofs.Asked.{step_taken}
 use Rattle.cx_node.proofs.Done.{did_nothing, guests_rest, rests_itself, same_at, stands_at}
-use Rattle.cx_node.proofs.Grown.{before, grows_none}
+use Rattle.cx_node.proofs.Grown.{grows_none}
 use Rattle.cx_node.proofs.Seated.{kept_own, kept_first, kind_stays, renewed_by, fails_some, cut_sends, cut_text}
 
 -- what a record has of a step
