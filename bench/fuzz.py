@@ -4,14 +4,16 @@ ends in another way than it may.
 
 Use: bench/fuzz.py PROGRAM [--seconds N] [--runs N] [--seed N] [--only N] [--limit N] [--keep FOLDER] [--reference COMMAND]
 
-PROGRAM is run with `replay`, `gen SEED COUNT` and `node --turns N ROLE..` on inputs that are made from the seed, which is printed:
+PROGRAM is run with `replay`, `gen SEED COUNT` and `node`, with each of its options, on inputs that are made from the seed, which is printed:
 schedules of crates/compax/data and made ones, cut, changed and joined. It runs for so many seconds (60), or for so many runs if that
 is less. Each run of PROGRAM has a folder of its own, and a limit (20 seconds). Of each it says that it was not ended by a signal,
-that it ended in time, that its status is one of the ten and its error line that status's, and that words and lines that are refused
-are refused with nothing else done. With a reference, a command that takes the same words and reads the same input, a replay and a
-generated run print the same bytes with the same status, and a node is refused for its words or its input exactly where
-the reference refuses it. Where something differs the input is kept in a folder (fuzz-kept), and the status is 1; `--only N` makes the run
-with that number again, with the same seed.
+that it ended in time, that its status is one that docs/INPUT.md has and its error line that status's (of a node with --tend whose
+link or store failed a line with the cause may follow), and that words and lines that are refused are refused with nothing else done.
+Stores are of each kind of role that has one. The last lines count how runs ended.
+
+With a reference, a command that takes the same words and reads the same input, a replay and a generated run print the same bytes with the
+same status, and a node without --tend is refused for its words or its input exactly where the reference refuses it. Where something
+differs the input is kept in a folder (fuzz-kept), and the status is 1; `--only N` makes the run with that number again, with the same seed.
 """
 
 import argparse
@@ -25,29 +27,19 @@ import sys
 import tempfile
 import time
 
-DATA = pathlib.Path(__file__).resolve().parent.parent / "crates" / "compax" / "data"
+TOP = pathlib.Path(__file__).resolve().parent.parent
+sys.path.insert(0, str(TOP / "tools"))
+import workloads  # noqa: E402
+from headers import COUNTED_BY, KEEPING, KINDS, RANGES, Role  # noqa: E402
+from statuses import lines_by_status  # noqa: E402
 
-# each status with its line on standard error
-LINES = {
-    0: rb"",
-    2: rb"bad words\n",
-    3: rb"bad input at line [0-9]+\n",
-    4: rb"read failed\n",
-    5: rb"write failed\n",
-    6: rb"link failed\n",
-    7: rb"store failed: [a-z]+:[0-9]+\n",
-    8: rb"turns ended\n",
-    9: rb"no memory\n",
-    10: rb"bad store: [a-z]+:[0-9]+ at [0-9]+\n",
-}
-BAD_WORDS, BAD_INPUT, NO_MEMORY = 2, 3, 9
-
-# the keys of a header in order, with their ranges
-KEYS = [("f", 0, 3), ("leaders", 1, 8), ("proxies", 1, 16), ("acceptors", 1, 64), ("replicas", 1, 8), ("batchers", 1, 8),
-        ("unbatchers", 1, 8), ("readers", 1, 8), ("clients", 1, 64), ("batch", 1, 8)]
-COUNTED = {"leader": "leaders", "proxy": "proxies", "acceptor": "acceptors", "replica": "replicas", "batcher": "batchers",
-           "unbatcher": "unbatchers", "reader": "readers", "client": "clients"}
-STORED = ["leader", "acceptor", "match", "replica"]
+DATA = TOP / "crates/compax/data"
+BAD_WORDS, BAD_INPUT, LINK_FAILED, STORE_FAILED, NO_MEMORY = 2, 3, 6, 7, 9
+OPTIONAL = ("pool", "replacers")        # keys that a header may lack
+NODE_ROW = re.search(r"^\| `compax node .*", (TOP / "docs/INPUT.md").read_text(), re.MULTILINE)[0]
+OPTIONS = dict(re.findall(r"\[(--\w+)( \w)?\]", NODE_ROW))         # whether each takes a number
+VALUES = {"--turns": ("1", "10", "200"), "--tend": ("64", "65", "1024", "65536"), "--window": ("1", "2", "63", "64")}
+BAD_VALUES = ("0", "63", "65", "65537", "1000000001", "x", "", "-1", "+1", "1 ")
 
 NUMBERS = [0, 1, 2, 31, 32, 33, 63, 64, 255, 256, 65535, 65536, 2**32 - 1, 2**32, 2**40, 2**63, 2**64 - 1, 2**64, 10**40]
 PIECES = [b"\r", b"\n", b"\r\n", b"\t", b" ", b"  ", b"\0", b"\xff", b"#", b"---", b"---\n", b"=", b"'", b'"', b"[a]\n", b"a.b = 1\n",
@@ -60,12 +52,15 @@ def header(rng, port=None):
     """A header's values, of a small cluster for the most part."""
     wide = rng.random() < 0.1
     values = {}
-    for key, low, high in KEYS:
+    for key, (low, high) in RANGES.items():
         values[key] = rng.randint(low, high if wide else min(high, low + rng.choice([0, 0, 1, 2, 3])))
     values["replicas"] = max(values["replicas"], values["f"] + 1)
-    if port is not None:
-        values["base_port"] = port
-    return values
+    values["pool"] = max(values["pool"], 2 * values["f"] + rng.choice([1, 2, 4]))
+    for key in OPTIONAL:
+        if rng.random() < 0.5:
+            del values[key]
+    del values["base_port"]
+    return values if port is None else values | {"base_port": port}
 
 
 def header_text(values):
@@ -73,23 +68,25 @@ def header_text(values):
 
 
 def indices(values, kind):
-    return 2 * values["f"] + 1 if kind == "match" else values[COUNTED[kind]]
+    """How many roles of a kind there are."""
+    return values.get(COUNTED_BY[kind], {"match": 2 * values["f"] + 1}.get(kind, 0))
 
 
 def role(rng, values, kinds):
-    kind = rng.choice(kinds)
+    kind = rng.choice([kind for kind in kinds if indices(values, kind)])
     return f"{kind}:{rng.randrange(indices(values, kind))}"
 
 
-def request(rng, values, number):
-    client = role(rng, values, ["client"])
+def request(rng, values, number, told=""):
+    """A line of a client; `told` is what stands behind its number."""
+    client, told = role(rng, values, ["client"]), f"{number}{told}"
     key = "k" + str(rng.randrange(4))
     if rng.random() < 0.3:
-        return f"read {client} {number} {role(rng, values, ['reader'])} {role(rng, values, ['replica'])} {key}"
+        return f"read {client} {told} {role(rng, values, ['reader'])} {role(rng, values, ['replica'])} {key}"
     if rng.random() < 0.2:
-        return f"session {client} {number} {role(rng, values, ['replica'])} {key}"
+        return f"session {client} {told} {role(rng, values, ['replica'])} {key}"
     rest = rng.choice([f"put {key} v{number % 10}", f"del {key}", f"app {key} v{number % 10}"])
-    return f"write {client} {number} {role(rng, values, ['batcher'])} {rest}"
+    return f"write {client} {told} {role(rng, values, ['batcher'])} {rest}"
 
 
 def grid(rng, values):
@@ -102,7 +99,7 @@ def grid(rng, values):
 
 def events(rng, values, count):
     """Lines of a schedule that gets somewhere: what is sent is delivered soon, for the most part."""
-    others = [kind for kind in COUNTED if kind != "client"] + ["match"]
+    others = [kind for kind in KINDS if kind != "client"]
     front = 0
     yield f"lead leader:0 {grid(rng, values)}"
     for number in range(1, count):
@@ -112,13 +109,17 @@ def events(rng, values, count):
             front += at == front
             yield f"deliver {at}" + rng.choice([""] * 30 + [" torn", " kept"])
         elif what < 82:
-            yield request(rng, values, number)
+            yield request(rng, values, number, rng.choice([""] * 4 + [f"/{max(0, number - rng.randint(1, 66))}"]))
         elif what < 90:
             yield f"tick {role(rng, values, others)}"
         elif what < 94:
             yield f"{rng.choice(['lead', 'change'])} {role(rng, values, ['leader'])} {grid(rng, values)}"
         elif what < 95:
             yield f"collect {role(rng, values, ['leader'])}"
+        elif what < 96 and indices(values, "replacer"):
+            count, pool = 2 * values["f"] + 1, indices(values, "match")
+            members = sorted(rng.sample(range(pool), count))
+            yield f"replace {role(rng, values, ['replacer'])} {','.join(map(str, members))}" + rng.choice([""] * 8 + [" torn", " kept"])
         elif what < 97:
             yield f"snap {role(rng, values, ['replica'])}" + rng.choice([""] * 8 + [" torn", " kept"])
         else:
@@ -215,33 +216,59 @@ def gen_case(rng):
     return Case(words, b"", {})
 
 
-# An acceptor's journal, and a replica's file with a list that was written anew.
-WHOLE = [bytes.fromhex("010000000b010000000100000000000000"),
-         bytes.fromhex("04010100000016080000000000000001000000000000000100000001010100000006090101610131"
-                       "010000001d0a0000000000000000000001000000000000000100000000000000010000")]
+# A small store of each kind of role that has one: journals, and a replica's file with a list that was written anew.
+WHOLE = {
+    "leader": [workloads.written("leader", 1)],
+    "acceptor": [workloads.written("acceptor", 2), workloads.written("informed", 1), bytes.fromhex("010000000b010000000100000000000000")],
+    "match": [workloads.written("matchmaker", 1)],
+    "replica": [workloads.written("replica", 2),
+                bytes.fromhex("04010100000016080000000000000001000000000000000100000001010100000006090101610131"
+                              "010000001d0a0000000000000000000001000000000000000100000000000000010000")],
+    "reader": [bytes.fromhex("010000000910000000000000000100")],
+    "replacer": [bytes.fromhex("010000000b0c0000000100000000000000")],
+}
 
 
-def store(rng):
-    """A store's bytes: those of a small journal, changed, or any."""
-    whole = rng.choice(WHOLE)
+def store(rng, kind):
+    """A store's bytes: those of a small one of its kind or of any, changed, or any bytes. None is a folder, where a file should be."""
+    whole = rng.choice(WHOLE[kind] if rng.random() < 0.8 else [each for stored in WHOLE.values() for each in stored])
+    if rng.random() < 0.05:
+        return None
     return rng.choice([b"", b"\0", b"\1", b"\4", whole, whole, changed(rng, whole), changed(rng, whole * 2), rng.randbytes(rng.randrange(64))])
 
 
 def stores(rng, values):
-    """The files of a role; only a replica has another one."""
-    name = f"compax-{role(rng, values, STORED).replace(':', '-')}"
-    return {f"{name}.{ending}": store(rng) for ending in ("journal", "other") if rng.random() < 0.7}
+    """The files of some roles."""
+    files = {}
+    for _ in range(rng.choice([1, 1, 2, 4])):
+        kind, _, index = role(rng, values, KEEPING).partition(":")
+        files |= {name: store(rng, kind) for name in Role(kind, int(index)).files if rng.random() < 0.8}
+    return files
+
+
+def options(rng):
+    """Each option with a value or without, sometimes with a bad one, or twice; --turns nearly always, since it ends the run."""
+    words = []
+    for option, takes in OPTIONS.items():
+        if rng.random() < (0.97 if option == "--turns" else 0.3):
+            is_bad = rng.random() < 0.03
+            value = rng.choice(BAD_VALUES if is_bad else VALUES.get(option, BAD_VALUES))
+            words.append([option] + [value] * bool(takes))
+    if rng.random() < 0.02:
+        words.append(rng.choice([["--more"], ["--turns"], ["--record"], ["-t", "1"], ["--"]]))
+    rng.shuffle(words)
+    return [word for each in words for word in each]
 
 
 def node_words(rng, values):
-    kinds = list(COUNTED) + ["match"]
-    roles = [f"{kind}:{index}" for kind in kinds for index in range(indices(values, kind))]
+    roles = [f"{kind}:{index}" for kind in KINDS for index in range(indices(values, kind))]
     rng.shuffle(roles)
-    if rng.random() < 0.5:
+    words = options(rng)
+    if rng.random() < (0.1 if "--record" in words else 0.5):
         roles = roles[:rng.randint(1, len(roles))]
     if rng.random() < 0.1:
         roles[rng.randrange(len(roles))] = rng.choice(["", "client", "client:", "match:99", "client:65536", "acceptor:00", roles[0]])
-    return ["node", "--turns", str(rng.choice([1, 10, 200])) if rng.random() < 0.95 else rng.choice(["0", "x", "1000000001"])] + roles
+    return ["node", *words, *roles]
 
 
 def node_case(rng, shipped):
@@ -249,9 +276,10 @@ def node_case(rng, shipped):
     data = made_input(rng, values)
     if rng.random() < 0.2:
         data = rng.choice(shipped)
-    if rng.random() < 0.5:
+    files = stores(rng, values) if rng.random() < 0.5 else {}
+    if rng.random() < (0.1 if files else 0.5):
         data = changed(rng, data)
-    return Case(node_words(rng, values), data, stores(rng, values) if rng.random() < 0.3 else {})
+    return Case(node_words(rng, values), data, files)
 
 
 def make(seed, number, schedules, inputs):
@@ -262,11 +290,19 @@ def make(seed, number, schedules, inputs):
     return gen_case(rng) if what < 7 else node_case(rng, inputs)
 
 
+def lay(folder, case):
+    """Makes the stores that are there before."""
+    for name, data in case.files.items():
+        if data is None:
+            (folder / name).mkdir()
+        else:
+            (folder / name).write_bytes(data)
+
+
 def run(command, case, limit):
     """The status, or why there is none, and what was written."""
     with tempfile.TemporaryDirectory() as folder:
-        for name, data in case.files.items():
-            (pathlib.Path(folder) / name).write_bytes(data)
+        lay(pathlib.Path(folder), case)
         try:
             done = subprocess.run(command + case.words, input=case.data, capture_output=True, cwd=folder, timeout=limit)
         except subprocess.TimeoutExpired:
@@ -280,9 +316,11 @@ def wrong_end(case, status, out, err):
         return "it hangs"
     if status < 0:
         return f"it was ended by signal {-status}"
-    if status not in LINES:
+    if status not in lines_by_status():
         return f"there is no status {status}"
-    if not re.fullmatch(LINES[status], err):
+    line, *more = err.decode(errors="replace").removesuffix("\n").split("\n")
+    causes = 1 if status in (LINK_FAILED, STORE_FAILED) and "--tend" in case.words else 0
+    if not lines_by_status()[status].fullmatch(line) or err and not err.endswith(b"\n") or len(more) > causes:
         return f"another line than that of status {status}"
     if status == BAD_WORDS and out or case.words[0] == "node" and status == BAD_INPUT and out:
         return "it has written something, but its words or lines are refused"
@@ -308,8 +346,7 @@ def keep(folder, case, got, wanted):
     folder.mkdir(parents=True, exist_ok=True)
     (folder / "words").write_text("\n".join(case.words) + "\n")
     (folder / "input").write_bytes(case.data)
-    for name, data in case.files.items():
-        (folder / name).write_bytes(data)
+    lay(folder, case)
     for name, end in (("got", got), ("wanted", wanted)):
         if end is not None:
             (folder / f"{name}.status").write_text(f"{end[0]}\n")
@@ -321,10 +358,15 @@ def tried(args, case):
     """Why this run is wrong, or None, and how the program and the reference ended."""
     got = run(args.program, case, args.limit)
     why = wrong_end(case, *got)
-    if why is not None or args.reference is None:
+    if why is not None or args.reference is None or "--tend" in case.words:     # a reference tends nothing
         return why, got, None
     wanted = run(args.reference, case, 10 * args.limit)
     return differs(case, got, wanted), got, wanted
+
+
+def said_of(err):
+    """The first line on standard error, without its numbers."""
+    return re.sub(r":?\b\d+", "", err.decode(errors="replace").partition("\n")[0])
 
 
 def arguments():
@@ -355,12 +397,12 @@ def main():
             keep(folder, case, got, wanted)
             print(f"run {number}: {shlex.join(case.words)}: status {got[0]}: {why}; kept in {folder}")
             return 1
-        ends[case.words[0] if case.words[0] in ("replay", "gen", "node") else "other words", got[0]] += 1
+        ends[case.words[0] if case.words[0] in ("replay", "gen", "node") else "other words", got[0], said_of(got[2])] += 1
         number += 1
         if args.only is not None:
             break
-    for (command, status), count in sorted(ends.items()):
-        print(f"{command}: status {status}, {count} times")
+    for (command, status, said), count in sorted(ends.items()):
+        print(f"{command}: status {status}, {count} times{said and ': '}{said}")
     print(f"{sum(ends.values())} runs, none wrong")
     return 0
 

@@ -9,6 +9,8 @@ Use: bench/load.py [--seconds S] [--folder F] [--clients-tend N] [--asks KIND] c
 The words, as `--tend 1024`, are passed to each node. With --clients-tend a process of clients alone has this number in place of theirs.
 Clients put; with `--asks reads` or `--asks sessions` each puts once, and then asks for keys, of the one or the other replica, by a reader
 or in a session.
+
+The exit status is 1 where a process ends that was to run on, which is said with its line on standard error, or nothing was answered.
 """
 import argparse
 import base64
@@ -26,9 +28,14 @@ import sys
 import tempfile
 import time
 
+sys.path.insert(0, str(pathlib.Path(__file__).resolve().parent.parent / "tools"))
+from statuses import line_of  # noqa: E402
+
 LINES = 60_000                  # of a node's input, which has at most 65,535
 TICKS = os.sysconf("SC_CLK_TCK")
 STARTS = 100
+LONGEST_END = 5                 # seconds from a node's last answer to its end
+UNANSWERED = 8                  # a node's status
 
 # A replica beside the leader has what comes to the leader wait in its sockets while it syncs. Without one the window of 32 slots is
 # full more often, and what comes to a full window is dropped: of 64 clients in batches of 1 some then wait for seconds.
@@ -83,13 +90,30 @@ def processor_time(process):
     return (int(fields[11]) + int(fields[12])) / TICKS
 
 
+class Process(subprocess.Popen):
+    """A process, and what it says on standard error."""
+
+    def __init__(self, words, **streams):
+        self.said = tempfile.TemporaryFile()
+        super().__init__(words, stderr=self.said, **streams)
+
+    def check(self, may_end=False):
+        """Stops the measurement where the process has ended, but well where it may."""
+        status = self.poll()
+        if status is None or may_end and status == 0:
+            return
+        self.said.seek(0)
+        said = self.said.read().decode(errors="replace")
+        sys.exit(f"load.py: {' '.join(map(str, self.args))} ended with status {status}: {line_of(status, said)}")
+
+
 @contextlib.contextmanager
 def processes():
     """Starts processes, and ends at the end those that it has started."""
     running = []
 
     def start(words, folder, stdin=subprocess.DEVNULL, stdout=subprocess.DEVNULL):
-        running.append(subprocess.Popen(words, cwd=folder, stdin=stdin, stdout=stdout, stderr=subprocess.DEVNULL))
+        running.append(Process(words, cwd=folder, stdin=stdin, stdout=stdout))
         return running[-1]
 
     try:
@@ -98,6 +122,7 @@ def processes():
         for process in running:
             process.kill()
             process.wait()
+            process.said.close()
 
 
 @dataclasses.dataclass
@@ -189,8 +214,10 @@ def compax(folder, seconds, program, layout, clients, batch, words, tend=None, a
         for server in servers.values():
             start(node(program, words, server), folder, nothing.open())
         time.sleep(0.5 if servers else 0)
+        for process in running:
+            process.check()
         asking = start(node(program, clients_words(words, tend) if servers else words, roles), folder, asked.open(), subprocess.PIPE)
-        pipe, held, ends = asking.stdout.fileno(), b"", time.monotonic() + seconds
+        pipe, held, read, ends = asking.stdout.fileno(), b"", b"-", time.monotonic() + seconds
         while (left := ends - time.monotonic()) > 0:
             if not select.select([pipe], [], [], left)[0]:
                 break
@@ -205,6 +232,10 @@ def compax(folder, seconds, program, layout, clients, batch, words, tend=None, a
         ended = time.monotonic()
         spent = sum(processor_time(process) for process in running)
         written = sum(writes_of(process) for process in running)
+        if not read:
+            asking.wait(LONGEST_END)
+        for process in running:
+            process.check(may_end=process is asking)
     count = max(times.count, 1)
     what = f"batch {batch}" if asks == "puts" else f"{asks:>8}"
     figures = times.figures(f"compax in {layout:>4}, {clients:2} clients, {what}", ended, spent, clients)
@@ -224,6 +255,8 @@ def idle(folder, seconds, program, words):
         before, began = [processor_time(process) for process in running], time.monotonic()
         time.sleep(seconds)
         passed = time.monotonic() - began
+        for process in running:
+            process.check()
         return [100 * (processor_time(process) - old) / passed for process, old in zip(running, before)]
 
 
@@ -241,6 +274,8 @@ def starts(folder, program, words):
         with contextlib.suppress(subprocess.TimeoutExpired):
             ran = subprocess.run(node(program, words, roles), cwd=folder, text=True, capture_output=True, timeout=10,
                                  input=f"{head}write client:0 {number} batcher:0 put k v{number}\n")
+            if ran.returncode not in (0, UNANSWERED):
+                sys.exit(f"load.py: start {number} ended with status {ran.returncode}: {line_of(ran.returncode, ran.stderr)}")
             answered += ran.returncode == 0 and ran.stdout.startswith(f"answer client:0 {number} at ")
         longest = max(longest, time.monotonic() - began)
     return answered, longest
@@ -361,8 +396,10 @@ def main():
     if "program" in args:
         args.program = os.path.abspath(args.program)
     with new_folder(args.folder) as folder:
-        print(measured(args, folder), flush=True)
+        figures = measured(args, folder)
+    print(figures, flush=True)
+    return 1 if isinstance(figures, Figures) and not figures.rate else 0
 
 
 if __name__ == "__main__":
-    main()
+    sys.exit(main())

@@ -31,6 +31,7 @@ import load
 sys.path.insert(0, str(pathlib.Path(__file__).resolve().parent.parent / "tools"))
 import headers
 import journals
+import statuses
 
 HEADER = """\
 f = 0
@@ -83,7 +84,7 @@ class Node:
         given = self.header.input + lines
         ran = subprocess.run([self.program, "node", *words], cwd=self.folder, input=given, capture_output=True, text=True)
         if ran.returncode != 0:
-            sys.exit(f"start.py: a node ended with status {ran.returncode}: {ran.stderr.strip()}")
+            sys.exit(f"start.py: a node ended with status {ran.returncode}: {statuses.line_of(ran.returncode, ran.stderr)}")
         return ran.stdout.count("\n")
 
     def put(self, count):

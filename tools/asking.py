@@ -1,6 +1,7 @@
 """Asks a running cluster, as one of its clients, by a node that hosts this client alone."""
 
 import itertools
+import math
 import pathlib
 import random
 import re
@@ -11,9 +12,10 @@ from collections.abc import Iterator, Sequence
 from dataclasses import dataclass
 
 from headers import PORT_TAKEN, Header, Role, Unusable, taken
+from statuses import ending
 
 UNANSWERED = 8                  # a status, of a node and of the tools
-FIRST_WAIT = 1.0                # seconds until it is asked by another way; each further wait is twice as long
+FIRST_WAIT = 1.0                # seconds until it is asked by another way
 TURNS_A_SECOND = 2000           # more than an idle node makes
 PAUSE = 0.1                     # seconds until a taken port is tried again
 ANSWER = re.compile(r"(?:answer|read) client:\d+ \d+ at \d+ (.*)\n")
@@ -37,6 +39,11 @@ class Command:
     text: str = ""
     session: bool = False
 
+    @property
+    def doubt(self) -> str:
+        """What isn't known of it where it has no answer."""
+        return "" if self.verb == "get" else "; the command may act or not"
+
     def line(self, client: int, number: int, way: Way) -> str:
         """The line of a node's input. A session of one node alone has heard of nothing, so any replica answers it at once."""
         if self.session:
@@ -47,11 +54,21 @@ class Command:
 
 
 def ways(header: Header) -> Iterator[Way]:
-    """All ways in turn, from one at random on."""
+    """All ways in turn, from one at random on. Each next one has others of all roles, and in the end each reader was with each replica: so
+    whichever of them are down together, a read comes to two that aren't."""
     counts = [header.count(kind) for kind in ("batcher", "reader", "replica")]
     starts = [random.randrange(count) for count in counts]
-    every = [Way(*[(start + turn) % count for start, count in zip(starts, counts)]) for turn in range(max(counts))]
-    return itertools.cycle(every)
+    _, readers, replicas = counts
+    met = math.lcm(readers, replicas)       # then the same two would meet again
+    for turn in itertools.count():
+        shifts = (turn, turn, turn + turn // met)
+        yield Way(*[(start + shift) % count for start, shift, count in zip(starts, shifts, counts)])
+
+
+def waits(header: Header) -> Iterator[float]:
+    """How long each way is given: a second, until each role was asked, and then each time twice as long."""
+    most = max(header.count(kind) for kind in ("batcher", "reader", "replica"))
+    return (FIRST_WAIT * 2 ** (turn // most) for turn in itertools.count())
 
 
 class Asker:
@@ -110,19 +127,18 @@ class Asker:
         """Asks one way after another until there is an answer."""
         client, holder = self.first_free(clients)
         with holder:
-            number, wait = time.time_ns(), FIRST_WAIT
-            for way in ways(self.header):
+            number = time.time_ns()
+            for way, wait in zip(ways(self.header), waits(self.header)):
                 status, out, said = self.node(client, number, way, min(wait, self.left()))
                 found = ANSWER.fullmatch(out)
                 if found:
                     return found[1]
                 if status not in (PORT_TAKEN, UNANSWERED):
-                    raise Unusable(f"the node ended with status {status}: {said.strip() or 'it said nothing'}")
+                    raise Unusable(f"the node ended with status {status}: {ending(said) or 'it said nothing'}")
                 if not self.left():
                     break
                 time.sleep(PAUSE if status == PORT_TAKEN else 0)
-                wait *= 2
-        raise Unusable(f"nothing answered within {self.seconds:g} s; the command may act or not", UNANSWERED)
+        raise Unusable(f"nothing answered within {self.seconds:g} s{self.command.doubt}", UNANSWERED)
 
 
 def of_clients(clients: Sequence[int]) -> str:

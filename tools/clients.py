@@ -61,13 +61,18 @@ class Client:
 
     def reply_to(self, command: Command) -> str:
         """The answer to a command that acts once, after all that was answered."""
-        text = self.texts.get(command.key, "")
-        match command.verb:
-            case "get":
-                return f"is {text}" if text else "none"
-            case "del":
-                return f"was {self.texts.pop(command.key)}" if text else "none"
-            case "app" if len(text) + len(command.text) > LONGEST_TEXT:
-                return "full"
-        self.texts[command.key] = command.text if command.verb == "put" else text + command.text
-        return "ok" if command.verb == "put" else f"len {len(self.texts[command.key])}"
+        return reply_of(self.texts, command)
+
+
+def reply_of(texts: dict[str, str], command: Command) -> str:
+    """The answer to a command of keys with these texts, which it changes."""
+    text = texts.get(command.key, "")
+    match command.verb:
+        case "get":
+            return f"is {text}" if text else "none"
+        case "del":
+            return f"was {texts.pop(command.key)}" if text else "none"
+        case "app" if len(text) + len(command.text) > LONGEST_TEXT:
+            return "full"
+    texts[command.key] = command.text if command.verb == "put" else text + command.text
+    return "ok" if command.verb == "put" else f"len {len(texts[command.key])}"

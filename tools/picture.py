@@ -7,7 +7,12 @@ from traces import STOPS, stops_of
 
 ROUNDS = {"Leads", "MatchA", "MatchB", "MatchNack", "Phase1A", "Phase1B", "Nack", "Inform", "Informed", "GarbageA", "GarbageB"}
 READS = {"ReadReq", "MatchRead", "MatchReadAck", "PreRead", "PreReadAck", "Read", "ReadAnswer", "SessRead"}
-COLOURS = {"command": "#0072b2", "round": "#b34700", "read": "#007a5a"}     # dark in print, and told apart by the colour-blind
+SETS = {"StopA", "StopB", "StopNack", "NextA", "NextB", "BootA", "BootB", "Sets"}
+ANSWERS = {"Answer", "ReadAnswer"}                                          # to clients
+COLOURS = {"command": "#0072b2", "round": "#b34700", "read": "#007a5a", "set": "#882255"}  # dark in print, and told apart by the colour-blind
+SIGN = 32               # a legend's sign, and the space behind it
+WIDEST = 1.25           # so much wider than usual are the letters of some words, and of some fonts
+APART = 16              # how far its words are from the next sign at least
 
 STYLE = "\n".join([
     'text { font-family: Helvetica, Arial, "Liberation Sans", sans-serif; fill: #111 }',
@@ -23,7 +28,8 @@ STYLE = "\n".join([
 
 def group_of(datagram):
     """What a datagram serves."""
-    return "round" if datagram.name in ROUNDS else "read" if datagram.name in READS else "command"
+    groups = {"round": ROUNDS, "read": READS, "set": SETS}
+    return next((group for group, names in groups.items() if datagram.name in names), "command")
 
 
 def number(value):
@@ -102,9 +108,12 @@ def arrow(page, datagram, arrival):
 
 
 def stub(datagram, line):
-    """The short arrow of a datagram that is never delivered."""
+    """The short arrow of a datagram that no event delivers. An answer to a client is told all the same; what else isn't delivered is lost."""
+    group = group_of(datagram)
+    if datagram.name in ANSWERS:
+        return titled(f"datagram told {group}", str(datagram), path("arrow", line.x1, line.y1, line.x2, line.y2, head(group)))
     drawn = path("arrow", line.x1, line.y1, line.x2, line.y2)
-    return titled(f"datagram lost {group_of(datagram)}", str(datagram), drawn, cross(line.x2, line.y2))
+    return titled(f"datagram lost {group}", str(datagram), drawn, cross(line.x2, line.y2))
 
 
 def arrows(page):
@@ -150,13 +159,13 @@ def name(room, datagram, boxes):
 
 
 def stub_name_boxes(line, side, wide):
-    """Where a name may stand at a short arrow: behind its cross, or below it."""
+    """Where a name may stand at a short arrow: behind its end, or below it."""
     places = [(line.x2 + side * 7, line.y2 - 6), (line.x2 + side * 7, line.y2), (line.x1 + side * 5, line.y2 + 5), (line.x1 + side * 5, line.y2 + 9)]
     return [(min(x, x + side * wide), y, max(x, x + side * wide), y + 12) for x, y in places]
 
 
 def stub_names(page, room, event):
-    """The names of an event's datagrams that are never delivered, each name once on each side."""
+    """The names of an event's datagrams that no event delivers, each name once on each side."""
     drawn, seen = [], set()
     for datagram, line in page.stubs(event):
         side = page.side(datagram)
@@ -224,7 +233,7 @@ def signs(page, stops):
     found = [(f'<g class="{it}">{path("arrow", 0, 0, 26, 0, head(it))}</g>', it + "s") for it in groups]
     if any(arrival != it.arrivals[0] for it, arrival in page.deliveries()):
         found.append((f'<g class="{groups[0]} again">{path("arrow", 0, 0, 26, 0)}</g>', "delivered again"))
-    if any(page.stubs(it) for it in page.events):
+    if any(datagram.name not in ANSWERS for it in page.events for datagram, _ in page.stubs(it)):
         found.append((f'<g class="{groups[0]}">{path("arrow", 2, 0, 22, 0)}</g>{cross(22, 0)}', "never delivered"))
     if any("gap" in it for it in lives(page, stops)):
         found.append(('<path class="gap" d="M5 -5h16M5 5h16"/>', "stopped"))
@@ -236,10 +245,10 @@ def legend(page, stops):
     """The legend, in as many lines as it needs, and the height of the last."""
     drawn, x, y = [], EDGE, 18
     for sign, said in signs(page, stops):
-        wide = 32 + width("row", said) + 16
+        wide = SIGN + WIDEST * width("row", said) + APART
         if x > EDGE and x + wide > page.width:
             x, y = EDGE, y + 20
-        drawn.append(f'<g class="legend" transform="translate({number(x)} {number(y)})">{sign}{text("row", 32, 4, said)}</g>')
+        drawn.append(f'<g class="legend" transform="translate({number(x)} {number(y)})">{sign}{text("row", SIGN, 4, said)}</g>')
         x += wide
     return drawn, y
 

@@ -1,6 +1,7 @@
 """Processes of this machine, so named that a signal never reaches another one."""
 
 import contextlib
+import functools
 import os
 import pathlib
 import signal
@@ -12,6 +13,7 @@ PATIENCE = 5.0                  # seconds that a process has to end by itself
 LOOK = 0.02                     # seconds between looks whether it has
 
 
+@functools.cache
 def boot() -> str:
     """What differs each time that the machine is started."""
     return pathlib.Path("/proc/sys/kernel/random/boot_id").read_text().strip()

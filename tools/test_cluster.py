@@ -17,12 +17,13 @@ import subprocess
 import threading
 import time
 import unittest
+from typing import Any
 from unittest import mock
 
 from asking import Command, ask
 from headers import Role, program
 from processes import Process
-from supervisor import State, read_state
+from states import State, read_state
 from trials import LONGEST, SMALL, Trial, run, until
 
 CLIENTS = 4
@@ -298,6 +299,175 @@ class FoldersTest(ClusterTrial):
         self.assertIn("was not up", self.passes("cluster", "down", self.file))
 
 
+class LossesTest(ClusterTrial):
+    """Folders, headers and states that are lost or are others', while the cluster runs."""
+
+    def started(self) -> list[int]:
+        return [note.starts for note in self.state().notes]
+
+    def test_a_folder_that_is_removed(self) -> None:
+        """Its process isn't started again and keeps its number, and the others go on."""
+        self.up(4)
+        self.assertEqual(self.kv("app", "a", "x"), "len 1")
+        nodes = [self.running(number) for number in range(4)]
+        shutil.rmtree(self.folder / "2")
+        until(lambda: "its folder is gone" in self.status()[1], "it is said")
+        self.assertRegex(self.status()[1], r"(?m)^process 2 runs since .*; its folder is gone\n  acceptor:2: No such file or directory$")
+        self.passes("cluster", "kill", self.file, 2)
+        until(lambda: "process 2 is down, and tried again in" in self.status()[1], "process 2 has ended")
+        status, text = self.status()
+        self.assertEqual((status, re.findall(r"(?m)^process (\d)", text)), (1, ["0", "1", "2", "3"]))
+        self.assertRegex(text, r"(?m)^a read was answered in ")
+        self.assertEqual((self.kv("app", "a", "x"), self.kv("get", "a"), self.started()), ("len 2", "is xx", [1, 1, 1, 1]))
+        self.assertEqual([self.running(number) for number in (0, 1, 3)], [nodes[number] for number in (0, 1, 3)])
+        self.passes("cluster", "kill", self.file, 3)
+        until(lambda: self.running(3) is not None, "process 3 runs again")
+        self.passes("cluster", "down", self.file)
+        self.fails(1, "has no folder with acceptor:2 match:1", "cluster", "up", self.file)
+
+    def test_a_journal_that_is_removed(self) -> None:
+        """Its role isn't started again, and the others of its process are; `up` refuses it."""
+        self.up(4)
+        self.assertEqual(self.kv("app", "a", "x"), "len 1")
+        shutil.move(self.journal("acceptor:2"), self.room / "away")
+        until(lambda: "compax-acceptor-2.journal is gone" in self.status()[1], "it is said")
+        self.passes("cluster", "kill", self.file, 2)
+        until(lambda: "compax-acceptor-2.journal is gone; runs without acceptor:2" in self.status()[1], "it runs without")
+        self.assertEqual((self.kv("app", "a", "x"), self.status()[0]), ("len 2", 1))
+        self.passes("cluster", "down", self.file)
+        self.fails(1, "compax-acceptor-2.journal is missing: its role must not forget", "cluster", "up", self.file)
+        shutil.move(self.room / "away", self.folder / "2/compax-acceptor-2.journal")
+        self.up()
+        self.assertEqual((self.kv("get", "a"), self.status()[0]), ("is xx", 0))
+
+    def test_the_header_of_another_cluster(self) -> None:
+        self.up(4)
+        text = self.file.read_text()
+        port = self.header.numbers["base_port"]
+        others = ((text.replace(f"base_port = {port}", f"base_port = {port - 1}"), f"base_port = {port}, and not {port - 1}"),
+                  (text.replace("readers = 2", "readers = 1"), "readers = 2, and not 1"))
+        for other, why in others:
+            self.file.write_text(other)
+            self.fails(1, f"c.toml.d/0 belongs to a cluster with {why}$", "cluster", "status", self.file)
+            self.fails(1, f"c.toml.d/0 belongs to a cluster with {why}$", "cluster", "status", "--json", self.file)
+            self.fails(1, "c.toml is up, or is just being started", "cluster", "up", self.file)
+            self.fails(1, "File exists", "cluster", "new", self.file)
+        self.assertIn("killed: process 3", self.passes("cluster", "kill", self.file, 3))
+        self.assertEqual(self.passes("cluster", "down", self.file), "down: 4 processes ended\n")
+        self.fails(1, "readers = 2, and not 1", "cluster", "up", self.file)
+        self.fails(1, "readers = 2, and not 1", "cluster", "status", self.file)
+        self.file.write_text(others[0][0])
+        self.fails(1, "c.toml is not up", "cluster", "status", self.file)
+
+    def test_a_state_that_is_cut(self) -> None:
+        """While the supervisor lives it says its state; without it nothing is guessed."""
+        self.up(4)
+        self.assertEqual(self.kv("put", "a", "1"), "ok")
+        text = (self.folder / "state.json").read_bytes()
+        (self.folder / "state.json").write_bytes(text[:100])
+        self.assertEqual(self.status()[0], 0)
+        until(lambda: (self.folder / "state.json").read_bytes() == text, "it is written anew")
+        before = self.state()
+        before.supervisor.send(signal.SIGKILL)
+        until(lambda: not before.supervisor.lives(), "the supervisor has ended")
+        for cut in (text[:100], b"", b"[]", b"{}", b"\xff"):
+            (self.folder / "state.json").write_bytes(cut)
+            for words in (("status", self.file), ("down", self.file), ("kill", self.file, 0)):
+                self.fails(1, "state.json is damaged, and no supervisor answers: what was started can't be told", "cluster", *words)
+            self.fails(6, r"port \d+ of leader:0 can't be had", "cluster", "up", self.file)
+        self.assertRegex(self.status()[1], r"process 0 is down\n  leader:0: \d+ record")
+        self.assertEqual(self.kv("get", "a"), "is 1")
+        (self.folder / "state.json").write_bytes(text)
+        self.assertIn("down: 4 processes ended", self.passes("cluster", "down", self.file))
+        (self.folder / "state.json").write_bytes(text[:100])
+        self.up()
+        self.assertEqual((self.kv("get", "a"), self.status()[0]), ("is 1", 0))
+        self.passes("cluster", "down", self.file)
+        (self.folder / "inventory.json").write_bytes(b"{")
+        self.fails(1, "inventory.json is damaged, so a journal that was lost can't be told", "cluster", "up", self.file)
+
+
+class StatusTest(ClusterTrial):
+    def report(self) -> tuple[int, dict[str, Any]]:
+        status, out, _ = run("cluster", "status", "--json", self.file)
+        return status, json.loads(out)
+
+    def test_as_an_object(self) -> None:
+        self.up(4)
+        self.assertEqual([self.kv("put", "a", "1"), self.kv("get", "a")], ["ok", "is 1"])
+        status, report = self.report()
+        state = self.state()
+        self.assertEqual((status, list(report)), (0, ["cluster", "supervisor", "processes", "journals", "differences", "answered"]))
+        self.assertEqual((report["cluster"], report["supervisor"]), (str(self.file), {"pid": state.supervisor.pid, "runs": True, "condition": ""}))
+        for number, (seen, note) in enumerate(zip(report["processes"], state.notes, strict=True)):
+            roles = (self.folder / str(number) / "roles").read_text().split()
+            self.assertEqual(seen, {"number": number, "roles": roles, "runs": True, "pid": note.process.pid, "starts": 1, "since": note.since,
+                                    "ended": "", "condition": "", "again": None})
+        leader = next(kept for kept in report["journals"] if kept["role"] == "leader:0")
+        rounds = leader["records"]["Round"]
+        self.assertEqual((leader["process"], leader["whole"], leader["bytes"], leader["fault"]), (0, True, 1 + 26 * rounds, ""))
+        self.assertEqual(leader["last"], f"Round round {rounds}.0.0 grid 2x2 0,1,2,3")
+        self.assertEqual(len(report["journals"]), 1 + 4 + 3 + 3 + 2)
+        self.assertLess(report["answered"], LONGEST)
+        self.passes("cluster", "down", self.file)
+        status, report = self.report()
+        self.assertEqual((status, report["answered"], report["supervisor"]["runs"]), (1, None, False))
+        self.assertEqual([(seen["runs"], seen["pid"]) for seen in report["processes"]], [(False, None)] * 4)
+
+    def values(self) -> list[tuple[str, int]]:
+        """How many records with commands each acceptor and each replica has."""
+        return [(kept["role"], kept["records"].get("Vote", 0) + kept["records"].get("Log", 0)) for kept in self.report()[1]["journals"]
+                if kept["role"].startswith(("acceptor", "replica"))]
+
+    def test_it_writes_no_command(self) -> None:
+        self.up(4)
+        self.assertEqual(self.kv("put", "a", "1"), "ok")
+        until(lambda: self.values() == self.values(), "all have what was put")
+        before = self.values()
+        self.assertGreater(sum(count for _, count in before), 0)
+        for _ in range(3):
+            self.assertEqual(self.status()[0], 0)
+        self.assertEqual(self.values(), before)
+
+    def test_while_the_leader_is_stopped(self) -> None:
+        """A read is answered without the leader, so `up` tests by a write."""
+        self.up(4)
+        self.assertEqual(self.kv("put", "a", "1"), "ok")
+        leader = self.running(0)
+        assert leader
+        leader.send(signal.SIGSTOP)
+        try:
+            self.assertEqual((self.report()[0], self.kv("get", "a")), (0, "is 1"))
+            self.fails(8, "nothing answered within 2 s; the command may act or not$", "kv", "--cluster", self.file, "--seconds", 2, "put", "a", "2")
+        finally:
+            leader.send(signal.SIGCONT)
+
+
+class ProgramsTest(ClusterTrial):
+    HEADER = SMALL
+
+    def test_another_program(self) -> None:
+        """It is taken when that is asked for, and then the earlier one is the other."""
+        self.up()
+        self.assertEqual(self.kv("put", "a", "1"), "ok")
+        self.passes("cluster", "down", self.file)
+        other = self.room / "other"
+        other.write_bytes(program().read_bytes() + b"\0")
+        other.chmod(0o755)
+        why = "is another program than the one that ran over .*: --upgrade goes on with this one"
+        with mock.patch.dict(os.environ, COMPAX=str(other)):
+            self.fails(1, f"^cluster: {re.escape(str(other))} {why}", "cluster", "up", self.file)
+            self.assertFalse(self.state().is_up())
+            self.assertEqual(run("cluster", "up", "--upgrade", self.file)[0], 0)
+            self.assertEqual(self.kv("get", "a"), "is 1")
+            self.passes("cluster", "down", self.file)
+            self.up()
+            self.passes("cluster", "down", self.file)
+        self.fails(1, why, "cluster", "up", self.file)
+        self.assertEqual(run("cluster", "up", "--upgrade", self.file)[0], 0)
+        self.assertEqual(self.kv("get", "a"), "is 1")
+
+
 class SupervisorTest(ClusterTrial):
     HEADER = SMALL
 
@@ -313,7 +483,7 @@ class SupervisorTest(ClusterTrial):
         self.assertEqual(self.kv("put", "a", "1"), "ok")
         status, text = self.status()
         self.assertEqual(status, 0, text)
-        for line in (r"^process 0 runs since .*, pid \d+$", r"^  acceptor:0: \d+ records: .* Vote; [\d,]+ bytes; last ", r"^a write was answered in ",
+        for line in (r"^process 0 runs since .*, pid \d+$", r"^  acceptor:0: \d+ records: .* Vote; [\d,]+ bytes; last ", r"^a read was answered in ",
                      r"^  replica:0: \d+ records: .*; [\d,]+ bytes; last ", r"^  reader:0: \d+ records?; [\d,]+ bytes$", r"^  batcher:0 proxy:0 unbatcher:0$"):
             self.assertRegex(text, re.compile(line, re.MULTILINE))
         started = [self.state().supervisor, self.node()]

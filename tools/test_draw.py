@@ -38,7 +38,9 @@ class Told:
         self.sent = {it.split()[0][1:]: it for it in self.lines if it.startswith("+")}
         asked = [it[1] for it, line in zip(schedule_of(run), self.events) if it[0] == "deliver" and not line.endswith(" absent")]
         self.delivered = [str(int(it)) for it in asked]
-        self.lost = [line for at, line in self.sent.items() if at not in self.delivered]
+        undelivered = [line for at, line in self.sent.items() if at not in self.delivered]
+        self.told = [line for line in undelivered if line.split()[3] in ("Answer", "ReadAnswer")]
+        self.lost = [line for line in undelivered if line not in self.told]
 
     def ending(self, *words):
         return [it for it in self.events if it.split()[-1] in words]
@@ -76,12 +78,18 @@ class Counts(unittest.TestCase):
             first, again = drawn.titles("datagram", "delivered"), drawn.titles("datagram", "again")
             self.assertEqual(Counter(first + again), Counter(told.sent[it] for it in told.delivered))
             self.assertEqual(Counter(first), Counter(told.sent[it] for it in {*told.delivered}))
-            self.assertEqual(drawn.count("arrow"), len(told.delivered) + len(told.lost))
+            self.assertEqual(drawn.count("arrow"), len(told.delivered) + len(told.lost) + len(told.told))
 
     def test_a_cross_for_each_that_is_lost(self):
         for told, drawn in self.each():
             self.assertEqual(Counter(drawn.titles("datagram", "lost")), Counter(told.lost))
             self.assertEqual(drawn.count("cross"), len(told.lost))
+
+    def test_no_cross_at_an_answer(self):
+        """A client is told it, whether an event delivers it or not."""
+        for told, drawn in self.each():
+            self.assertEqual(Counter(drawn.titles("datagram", "told")), Counter(told.told))
+        self.assertTrue(any(told.told for told, _ in self.each()))
 
     def test_a_gap_for_each_stop(self):
         for told, drawn in self.each():
@@ -131,7 +139,7 @@ class Places(unittest.TestCase):
             roles, rows = self.columns_and_rows(drawn)
             starts, ends = set(), set()
             for group in drawn.root.iter(SVG + "g"):
-                if {"datagram"} <= {*group.get("class", "").split()} and "lost" not in group.get("class"):
+                if {*group.get("class", "").split()} & {"delivered", "again"}:
                     _, sender, receiver, *_ = group.findtext(SVG + "title").split()
                     line = next(it for it in group if it.get("class") == "arrow")
                     x1, y1, x2, y2 = map(float, re.findall(r"[\d.]+", line.get("d")))
@@ -159,6 +167,48 @@ class Places(unittest.TestCase):
         middle = label.get("class").split()[0] in ("role", "name")
         left = x - wide / 2 if middle else x - wide if label.get("text-anchor") == "end" else x
         return left, left + wide, float(label.get("y")), label.text
+
+
+class Legend(unittest.TestCase):
+    def entries(self, run):
+        """The words of a legend, each with where its sign begins and its line."""
+        root = ElementTree.fromstring(draw(RUNS / run / "stdout").stdout)
+        for it in root:
+            if it.get("class") == "legend":
+                x, y = map(float, re.findall(r"[\d.]+", it.get("transform")))
+                yield it.find(SVG + "text").text, x, y
+
+    def test_words_lie_apart_from_the_next_sign(self):
+        """Also with letters of 0.66 of their height, as some fonts have."""
+        for run in ("torn-vote", "collection", "snapshot-kept", "replacement", "session"):
+            entries = list(self.entries(run))
+            for (said, x, y), (_, following, line) in zip(entries, entries[1:]):
+                if y == line:
+                    self.assertGreaterEqual(following, x + 32 + len(said) * 0.66 * 11 + 12, (run, said))
+
+    def test_what_is_not_there_has_no_sign(self):
+        """Answers alone aren't delivered here."""
+        self.assertNotIn("never delivered", [said for said, *_ in self.entries("read-batches")])
+        self.assertIn("never delivered", [said for said, *_ in self.entries("torn-vote")])
+
+    def test_each_kind_of_datagram_has_its_colour(self):
+        """By the words that docs/ARCHITECTURE.md has of them."""
+        groups = {"Submit": "command", "Phase2A": "command", "Results": "command", "Leads": "round", "MatchA": "round", "Phase1B": "round",
+                  "ReadReq": "read", "PreRead": "read", "StopA": "set", "StopB": "set", "NextA": "set", "NextB": "set", "BootA": "set", "BootB": "set",
+                  "Sets": "set"}
+        seen, colours = set(), set()
+        for run in ("one-put", "torn-vote", "collection", "replacement", "session", "reader-turn-cut"):
+            root = ElementTree.fromstring(draw(RUNS / run / "stdout").stdout)
+            for it in root.iter(SVG + "g"):
+                words = it.get("class", "").split()
+                if "datagram" in words:
+                    name = it.findtext(SVG + "title").split()[3]
+                    if name in groups:
+                        self.assertEqual(words[-1], groups[name], name)
+                        seen.add(name)
+            colours |= set(re.findall(r"\.(\w+) \.arrow \{ stroke: (#\w+) \}", root.find(SVG + "style").text))
+        self.assertLessEqual({*groups} - {"PreRead"}, seen)
+        self.assertEqual((len(colours), len({colour for _, colour in colours})), (4, 4))
 
 
 class Parts(unittest.TestCase):

@@ -2,6 +2,7 @@
 
 import concurrent.futures
 import contextlib
+import itertools
 import os
 import re
 import socket
@@ -9,8 +10,8 @@ import subprocess
 import unittest
 from unittest import mock
 
-from asking import Command, Way, ask
-from headers import Header, Role, program
+from asking import Command, Way, ask, waits, ways
+from headers import Header, Role, header_of, program
 from trials import LONGEST, SMALL, TOOLS, Trial
 
 
@@ -51,6 +52,21 @@ class KvTest(Trial):
         self.assertEqual(lines, ["write client:4 5 batcher:1 put a 1", "write client:4 5 batcher:1 del a",
                                  "read client:4 5 reader:2 replica:3 a", "session client:4 5 replica:3 a"])
 
+    def test_ways(self) -> None:
+        """Each reader comes to be with each replica, so that a read needs no two that are down together."""
+        counted = SMALL.replace("batchers = 1", "batchers = 2")
+        for readers, replicas in ((1, 1), (1, 3), (2, 2), (2, 3), (3, 2), (2, 4), (8, 8)):
+            text = counted.replace("readers = 1", f"readers = {readers}").replace("replicas = 1", f"replicas = {replicas}")
+            header = header_of(f"{text}base_port = 20000\n", "header")
+            tried = list(itertools.islice(ways(header), readers * replicas))
+            with self.subTest(readers=readers, replicas=replicas):
+                self.assertEqual(len({(way.reader, way.replica) for way in tried}), readers * replicas)
+                most = max(2, readers, replicas)
+                first = list(itertools.islice(ways(header), most))
+                counts = [len({getattr(way, name) for way in first}) for name in ("batcher", "reader", "replica")]
+                self.assertEqual(counts, [2, readers, replicas])
+                self.assertEqual(list(itertools.islice(waits(header), 2 * most + 1)), [1.0] * most + [2.0] * most + [4.0])
+
     def test_each_client_in_turn(self) -> None:
         self.up()
         for client in range(self.header.count("client")):
@@ -75,7 +91,8 @@ class KvTest(Trial):
     def test_silence(self) -> None:
         """A port of the cluster is bound, and nobody answers there; or there is no cluster at all."""
         words = ["--cluster", self.file, "--seconds", 1.5, "get", "a"]
-        self.fails(8, "^kv: nothing answered within 1.5 s; the command may act or not$", "kv", *words)
+        self.fails(8, "^kv: nothing answered within 1.5 s$", "kv", *words)
+        self.fails(8, "^kv: nothing answered within 1.5 s; the command may act or not$", "kv", *words[:-2], "del", "a")
         with self.held(Role("reader", 0)):
             self.fails(8, "^kv: nothing answered within 1.5 s", "kv", *words)
 
@@ -84,6 +101,15 @@ class KvTest(Trial):
                       f"put a {'x' * 65}", "--client x get a", "--seconds 0 get a", "--seconds no get a", "--client 8 get a", "--client -1 get a"):
             with self.subTest(words=words):
                 self.fails(2, "^kv( \\w+)?: ", "kv", "--cluster", self.file, *words.split())
+
+    def test_words_that_begin_with_a_minus(self) -> None:
+        self.up()
+        for words in ("put -a 1", "put a -b", "get a -x", "del -k"):
+            self.fails(2, "a key or a text that begins with - goes behind --, as in: put -- -a -1$", "kv", "--cluster", self.file, *words.split())
+        asked = ["put -- -a -b", "get -- -a", "app a -- -", "put -1 2", "get -1"]
+        self.assertEqual([self.kv(*words.split()) for words in asked], ["ok", "is -b", "len 1", "ok", "is 2"])
+        for words in ("put a", "--seconds 0 get a", "--client x get a"):
+            self.fails(2, "(required: TEXT|at most a day|invalid int value: 'x')$", "kv", "--cluster", self.file, *words.split())
 
     def test_what_is_no_cluster(self) -> None:
         for text, why in (("f = 1\n", "needs leaders"), ("not = toml =", "no TOML"), (f"{SMALL}base_port = 80\n", "needs base_port"),

@@ -6,15 +6,20 @@
 //! matchmakers, recovery); a node does exactly what the run of its roles says.
 #![tactic(auto)]
 
+mod further;
 mod line;
 mod roles;
 mod top;
 mod words;
 
+use crate::further::{Further, further_of};
 use crate::line::write_line;
 use crate::top::top;
-use cx_base::{Kind, NoMemory, RoleId, Status};
-use cx_edge::{FileDepot, ReaderSource, Sink, UdpLink, WriterSink};
+use crate::words::said;
+use cx_base::{
+    ACCEPTORS, CLIENTS, Kind, MATCHMAKERS, NoMemory, PROXIES, REPLACERS, ROLES, RoleId, Status,
+};
+use cx_edge::{FileDepot, ReaderSource, RemarkingSink, Sink, Trouble, UdpLink, WriterSink};
 use std::alloc::Global;
 use std::env;
 use std::io::ErrorKind;
@@ -34,16 +39,21 @@ fn arguments(rt: &HostRuntime) -> Result<Vec<String>, Status> {
 
 // How many roles with stores a cluster may have, by their kinds.
 const STORED: [(Kind, u16); 6] = [
-    (Kind::Leader, 8),
-    (Kind::Acceptor, 64),
-    (Kind::Matchmaker, 64),
-    (Kind::Replica, 8),
-    (Kind::Reader, 8),
-    (Kind::Replacer, 4),
+    (Kind::Leader, ROLES),
+    (Kind::Acceptor, ACCEPTORS),
+    (Kind::Matchmaker, MATCHMAKERS),
+    (Kind::Replica, ROLES),
+    (Kind::Reader, ROLES),
+    (Kind::Replacer, REPLACERS),
 ];
 
-/// More roles than a process may host.
-const SOCKETS: usize = 256;
+// All roles of a cluster, which a process may host. Leaders, replicas, readers, batchers and unbatchers are as many.
+const SOCKETS: usize = 5 * ROLES as usize
+    + PROXIES as usize
+    + ACCEPTORS as usize
+    + MATCHMAKERS as usize
+    + REPLACERS as usize
+    + CLIENTS;
 
 // All roles with stores that a cluster may have.
 fn stored_roles(alloc: Global) -> Result<Vec<RoleId>, NoMemory> {
@@ -56,13 +66,37 @@ fn stored_roles(alloc: Global) -> Result<Vec<RoleId>, NoMemory> {
     Ok(roles)
 }
 
+// Says on standard error what the system said, where that is wanted.
+fn say_further<N, R>(
+    rt: &HostRuntime,
+    words: &[String],
+    status: &Status,
+    link: &UdpLink<N>,
+    depot: &FileDepot<R>,
+) {
+    let Ok(asked) = said(rt.alloc(), words) else {
+        return;
+    };
+    match further_of(status, &asked) {
+        Some(Further::Link) => say(rt, link.trouble()),
+        Some(Further::Store { role }) => say(rt, depot.trouble(role)),
+        None => {}
+    }
+}
+
+fn say(rt: &HostRuntime, trouble: Option<Trouble<'_>>) {
+    if let Some(trouble) = trouble {
+        let _ = rt.eprintln(trouble);
+    }
+}
+
 // Does what the words say, over sockets, files, and the standard streams.
 fn run<E: Sink>(rt: &HostRuntime, words: &[String], err: &mut E) -> Result<Status, NoMemory> {
     let mut link = UdpLink::new(rt.alloc(), rt, SOCKETS)?;
     let mut depot = FileDepot::new(rt.alloc(), rt, &stored_roles(rt.alloc())?)?;
     let mut input = ReaderSource::new(rt.stdin());
-    let mut out = WriterSink::new(rt.stdout());
-    Ok(top(
+    let mut out = RemarkingSink::new(WriterSink::new(rt.stdout()), rt.stderr());
+    let status = top(
         rt.alloc(),
         words,
         &mut input,
@@ -70,7 +104,9 @@ fn run<E: Sink>(rt: &HostRuntime, words: &[String], err: &mut E) -> Result<Statu
         err,
         &mut link,
         &mut depot,
-    ))
+    );
+    say_further(rt, words, &status, &link, &depot);
+    Ok(status)
 }
 
 fn main(rt: HostRuntime) -> ExitCode {

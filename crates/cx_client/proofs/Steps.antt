@@ -1,5 +1,5 @@
 -- What each step of a client sends and completes.
-use Rattle.std.proofs.Common.{◌≡◌, ◌⊎◌, ◌≤◌, ◌<◌, ◌+◌, ◌-◌, ◌&&◌, get_or, inl, inr, ℕ, suc, Bool, true, false, not, nat_lt, List, [], ◌∷◌, ◌++◌, append_assoc, drop, filter, length, max, take, Option, None, Some, refl, sym, subst, ap, ◌∙◌, eqb-true, arith}
+use Rattle.std.proofs.Common.{◌≡◌, ◌⊎◌, ◌≤◌, ◌<◌, ◌+◌, ◌-◌, ◌&&◌, get_or, inl, inr, ℕ, suc, Bool, true, false, not, nat_lt, List, [], ◌∷◌, ◌++◌, append_assoc, drop, filter, length, map, max, min, take, Option, None, Some, refl, sym, subst, ap, ◌∙◌, eqb-true, arith}
 use Rattle.std.specs.List.{list_all, position}
 use Rattle.std.proofs.lemmas.Bool.{and_from, and_parts, cases_Bool}
 use Rattle.std.proofs.lemmas.Bool.Decides.{nat_tests}
@@ -11,7 +11,7 @@ use Rattle.cx_base.specs.declared.event.Event.TheVariants as event
 use Rattle.cx_base.specs.declared.role.Kind.TheVariants.{Client}
 use Rattle.cx_base.specs.declared.why.Why.{Why}
 use Rattle.cx_base.specs.Role.{role, same_role}
-use Rattle.cx_inv_run.proofs.Members.{Member-all, Member-any, Member-filter, Member-first, Member-second, all-Member, any-Member, filter-Member}
+use Rattle.cx_inv_run.proofs.Members.{Member-all, Member-any, Member-filter, Member-first, Member-map, Member-second, all-Member, any-Member, filter-Member}
 use Rattle.cx_wire.specs.Format.{u64}
 use Rattle.cx_field.specs.Fields.{at, mark}
 use Rattle.cx_model.specs.Heard.{mark_told}
@@ -25,9 +25,12 @@ use Rattle.cx_letter.specs.declared.message.Msg.{Msg}
 use Rattle.cx_letter.specs.declared.message.Msg.TheVariants as msg
 use Rattle.cx_script.specs.Names.{names_event}
 use Rattle.cx_script.specs.Requests.{IsScript, asks, number_of, rise_above}
-use Rattle.cx_client.specs.Client.{ClientMoved, ClientState, IsClient, Moves, answer_number, client_completes, client_hears, client_opened, client_start, client_takes, client_ticks, client_told, client_waits, after_completion, hearing, is_finished, left, client_stays}
+use Rattle.cx_client.specs.Asking.{one_further, set_back, shifted}
+use Rattle.cx_client.specs.declared.asking.Asking.{Asking}
+use Rattle.cx_client.specs.Client.{ClientMoved, ClientState, IsClient, Moves, again, again_letters, answer_number, client_completes, client_hears, client_opened, client_start, client_takes, client_ticks, client_told, client_waits, after_completion, hearing, is_finished, left, client_stays}
 use Rattle.cx_client.specs.Completes.{IsAnswerToRequest, CompletesRequest, AreFromClient, IsSent, TellsFloor, TellsHeard, heard_after, msg_has_floor, tells_heard}
 use Rattle.cx_client.specs.Window.{floor_for, has_number, is_outstanding, newly, outstanding, request_letters, event_with_floor, without_request}
+use Rattle.cx_client.proofs.Shifted.{all_itself, asks_shifted, named_shifted}
 use Rattle.cx_client.proofs.Windows.{all_above, all_below, at_place, filter_rises, first_is, is_left, last_or, newly_is, none_found, one_number, only_one, some_of, without_at}
 use Rattle.cx_base.specs.declared.why.Why.TheVariants.{Heard, Idle, Resent, Stranger}
 
@@ -97,13 +100,26 @@ all_told heard floor es = each_pass (λ (d : Letter). msg_has_floor floor d.msg)
 all_marked : (s : ClientState) (floor : ℕ) (es : List Event) → TellsHeard s (request_letters s.heard floor es)
 all_marked s floor es = each_pass (λ (d : Letter). tells_heard s.heard d.msg) s.heard floor es (λ e m. request_marked s.heard floor e)
 
-all_own : (s : ClientState) → IsClient s → (heard floor : ℕ) (es : List Event) → ((e : Event) → Member e es → Member e (left s)) → AreFromClient s (request_letters heard floor es)
+-- a request of this client that may be sent
+record IsOwn (s : ClientState) (e : Event) : Type 0 where
+  own : asks s.me.index e ≡ true
+  named : names_event s.cluster e ≡ true
+
+left_own : (s : ClientState) → IsClient s → (e : Event) → Member e (left s) → IsOwn s e
+left_own s is e m = record { own = all-Member (asks s.me.index) (left s) is.script.own e m; named = all-Member (names_event s.cluster) (left s) is.script.named e m }
+
+-- also where it goes to others
+shifted_own : (s : ClientState) → IsClient s → (o : Option ℕ) (es : List Event) → ((e : Event) → Member e es → Member e (left s)) → (e : Event) → Member e (map (shifted s.cluster o) es) → IsOwn s e
+shifted_own s is o es here e m =
+    let l = Member-map (shifted s.cluster o) e es m in
+    let own = left_own s is l.0 (here l.0 l.1) in
+    subst (IsOwn s) (sym l.2) (record { own = asks_shifted s.cluster o s.me.index l.0 ∙ own.own; named = named_shifted s.cluster o l.0 own.named })
+
+all_own : (s : ClientState) → IsClient s → (heard floor : ℕ) (es : List Event) → ((e : Event) → Member e es → IsOwn s e) → AreFromClient s (request_letters heard floor es)
 all_own s is heard floor es here = record {
   own = rw is.me
-      (each_pass (λ (d : Letter). same_role d.from (role Client s.me.index)) heard floor es
-      (λ e m. request_own s.me.index heard floor e (all-Member (asks s.me.index) (left s) is.script.own e (here e m))));
-  named = each_pass (names s.cluster) heard floor es
-      (λ e m. request_named s.cluster heard floor e (all-Member (names_event s.cluster) (left s) is.script.named e (here e m)));
+      (each_pass (λ (d : Letter). same_role d.from (role Client s.me.index)) heard floor es (λ e m. request_own s.me.index heard floor e (here e m).own));
+  named = each_pass (names s.cluster) heard floor es (λ e m. request_named s.cluster heard floor e (here e m).named);
 }
 
 nothing_own : (s : ClientState) → AreFromClient s []
@@ -184,7 +200,7 @@ takes_by P s d stay hear complete =
         (λ out. each n is out) (λ out. hear heard)
 
 -- what holds of a client that waits for nothing, and of one that sends what is outstanding, holds of a tick
-ticks_by : (P : ClientMoved → Type 0) (s : ClientState) → ((w : Why) → P (client_stays w s)) → ((w : Why) (es : List Event) → es ≡ outstanding s.window (left s) → P (record { why = w; state = s; sends = request_letters s.heard (floor_for (left s)) es; completes = false }))
+ticks_by : (P : ClientMoved → Type 0) (s : ClientState) → ((w : Why) → P (client_stays w s)) → ((w : Why) (es : List Event) → es ≡ outstanding s.window (left s) → P (record { why = w; state = again s; sends = again_letters (again s) es; completes = false }))
     → P (client_ticks s)
 ticks_by P s stay send = go (outstanding s.window (left s)) refl
   where
@@ -243,8 +259,21 @@ hearing_is_client s at fits is = record {
   heard = max_fits s.heard at is.heard fits;
 }
 
-pub opened_is_client : (c : Cluster) (index : ℕ) (script : List Event) (window : ℕ) → IsScript c index script → 1 ≤ window → window ≤ 64 → IsClient (client_opened c (role Client index) script window)
-opened_is_client c index script window is some fits = record { me = refl; completed = refl; script = is; done = omega arith; some_window = some; window_fits = fits; heard = zero_fits }
+-- however many places further it asks
+pub further_is_client : (s : ClientState) (o : Option ℕ) → IsClient s → IsClient (record s { shift = o })
+further_is_client s o is = record {
+  me = is.me;
+  completed = is.completed;
+  script = is.script;
+  done = is.done;
+  some_window = is.some_window;
+  window_fits = is.window_fits;
+  heard = is.heard;
+}
+
+pub opened_is_client : (c : Cluster) (index : ℕ) (script : List Event) (asking : Asking) → IsScript c index script → 1 ≤ asking.window → asking.window ≤ 64
+    → IsClient (client_opened c (role Client index) script asking)
+opened_is_client c index script asking is some fits = record { me = refl; completed = refl; script = is; done = omega arith; some_window = some; window_fits = fits; heard = zero_fits }
 
 pub completed_is_client : (s : ClientState) (n : ℕ) (e : Event) → IsClient s → Member e (left s) → number_of e ≡ n → IsClient (after_completion n s)
 completed_is_client s n e is here number = go (is_completed s n e is here number)
@@ -287,18 +316,24 @@ takes_stays s d fits is =
     let after : IsClient t = hearing_is_client s (mark_told d.msg) fits is in
     takes_by (λ (m : ClientMoved). IsClient m.state) s d (λ h. is) (λ h. after) (λ n mine known number out. heard_is_client t n after out)
 
+pub ticks_stays : (s : ClientState) → IsClient s → IsClient (client_ticks s).state
+ticks_stays s is = ticks_by (λ (m : ClientMoved). IsClient m.state) s (λ w. is) (λ w es same. further_is_client s (one_further s.shift) is)
+
 -- ---- a client sends requests of its own, with their names in the cluster
 
 pub starts_own : (s : ClientState) → IsClient s → AreFromClient s (client_start s)
-starts_own s is = all_own s is s.heard (floor_for (left s)) (outstanding s.window (left s)) (is_left s.window (left s))
+starts_own s is = all_own s is s.heard (floor_for (left s)) (outstanding s.window (left s)) (λ e m. left_own s is e (is_left s.window (left s) e m))
 
 pub ticks_own : (s : ClientState) → IsClient s → AreFromClient s (client_ticks s).sends
-ticks_own s is = ticks_by (λ (m : ClientMoved). AreFromClient s m.sends) s (λ w. nothing_own s) (λ w es same. subst (λ (xs : List Event). AreFromClient s (request_letters s.heard (floor_for (left s)) xs)) (sym same) (starts_own s is))
+ticks_own s is =
+    ticks_by (λ (m : ClientMoved). AreFromClient s m.sends) s (λ w. nothing_own s)
+    (λ w es same. all_own s is s.heard (floor_for (left s)) (map (shifted s.cluster (one_further s.shift)) es)
+    (shifted_own s is (one_further s.shift) es (λ e m. is_left s.window (left s) e (subst (λ (xs : List Event). Member e xs) same m))))
 
 pub takes_own : (s : ClientState) (d : Letter) → IsClient s → AreFromClient s (client_takes s d).sends
 takes_own s d is =
     takes_by (λ (m : ClientMoved). AreFromClient s m.sends) s d (λ h. nothing_own s) (λ h. nothing_own s)
-    (λ n mine known number out. all_own s is (max s.heard (mark_told d.msg)) (floor_for (without_request n (left s))) (newly s.window n (left s)) (λ e m. newly_left n e m))
+    (λ n mine known number out. all_own s is (max s.heard (mark_told d.msg)) (floor_for (without_request n (left s))) (newly s.window n (left s)) (λ e m. left_own s is e (newly_left n e m)))
   where
     newly_left : (n : ℕ) (e : Event) → Member e (newly s.window n (left s)) → Member e (left s)
     newly_left n e m =
@@ -320,7 +355,7 @@ takes_one s d is =
         subst (λ (k : ℕ). (after_completion n s).script ≡ take s.done s.script ++ e ∷ without_request k (left s)) (sym of_number) i.script in
         record {
           answers = record { request = e; outstanding = here; number = number ∙ ap (λ (k : ℕ). Some k) (sym of_number); received = mine; named = known };
-          state = λ j. record s { script = script j; done = s.done + 1; heard = heard j };
+          state = λ j. record s { script = script j; done = s.done + 1; heard = heard j; shift = set_back s.shift };
         }
 
 pub takes_none : (s : ClientState) (d : Letter) → (client_takes s d).completes ≡ false → (client_takes s d).state ≡ record s { heard = heard_after s d }
@@ -334,8 +369,41 @@ answer_completes s d a =
     Member-any (has_number (number_of a.request)) a.request (outstanding s.window (left s)) a.outstanding (number_itself (number_of a.request)) in
     rw (a.received, a.named, a.number, out) refl
 
-pub ticks_same : (s : ClientState) → (client_ticks s).state ≡ s
-ticks_same s = ticks_by (λ (m : ClientMoved). m.state ≡ s) s (λ w. refl) (λ w es same. refl)
+pub ticks_none : (s : ClientState) → (client_ticks s).completes ≡ false
+ticks_none s = ticks_by (λ (m : ClientMoved). m.completes ≡ false) s (λ w. refl) (λ w es same. refl)
+
+pub ticks_same : (s : ClientState) → (client_ticks s).state ≡ record s { shift = (client_ticks s).state.shift }
+ticks_same s = ticks_by (λ (m : ClientMoved). m.state ≡ record s { shift = m.state.shift }) s (λ w. refl) (λ w es same. refl)
+
+-- ---- whom a tick asks
+
+-- a client that asks no others asks as it began
+pub ticks_alone : (s : ClientState) → s.shift ≡ None → ((client_ticks s).state ≡ s) × ((client_ticks s).sends ≡ client_start s)
+ticks_alone s alone = go (outstanding s.window (left s)) refl
+  where
+    further : one_further s.shift ≡ s.shift
+    further = ap one_further alone ∙ sym alone
+
+    go : (es : List Event) → es ≡ outstanding s.window (left s)
+        → ((client_waits s es).state ≡ s) × ((client_waits s es).sends ≡ request_letters s.heard (floor_for (left s)) (outstanding s.window (left s)))
+    go [] is = (refl, ap (request_letters s.heard (floor_for (left s))) is)
+    go (e ∷ es) is = (
+      ap (λ (o : Option ℕ). record s { shift = o }) further,
+      ap (λ (o : Option ℕ). request_letters s.heard (floor_for (left s)) (map (shifted s.cluster o) (e ∷ es))) (further ∙ alone)
+          ∙ ap (request_letters s.heard (floor_for (left s))) (all_itself s.cluster (e ∷ es) ∙ is),
+    )
+
+-- a client that asks others asks those one place further than the last time
+pub ticks_further : (s : ClientState) (n : ℕ) → s.shift ≡ Some n
+    → (client_ticks s).sends ≡ request_letters s.heard (floor_for (left s)) (map (shifted s.cluster (Some (min (n + 1) 4294967295))) (outstanding s.window (left s)))
+ticks_further s n is = go (outstanding s.window (left s)) refl
+  where
+    go : (es : List Event) → es ≡ outstanding s.window (left s)
+        → (client_waits s es).sends ≡ request_letters s.heard (floor_for (left s)) (map (shifted s.cluster (Some (min (n + 1) 4294967295))) (outstanding s.window (left s)))
+    go [] same = ap (λ (xs : List Event). request_letters s.heard (floor_for (left s)) (map (shifted s.cluster (Some (min (n + 1) 4294967295))) xs)) same
+    go (e ∷ es) same =
+        ap (λ (o : Option ℕ). request_letters s.heard (floor_for (left s)) (map (shifted s.cluster (one_further o)) (e ∷ es))) is
+        ∙ ap (λ (xs : List Event). request_letters s.heard (floor_for (left s)) (map (shifted s.cluster (Some (min (n + 1) 4294967295))) xs)) same
 
 -- ---- the floors that are sent
 
@@ -350,7 +418,7 @@ starts_tell s is = tells_of s is.script.rising s.heard (outstanding s.window (le
 
 pub ticks_tell : (s : ClientState) → IsClient s → TellsFloor s (client_ticks s).sends
 ticks_tell s is =
-    ticks_by (λ (m : ClientMoved). TellsFloor s m.sends) s (λ w. nothing_tells s is.script.rising) (λ w es same. tells_of s is.script.rising s.heard es)
+    ticks_by (λ (m : ClientMoved). TellsFloor s m.sends) s (λ w. nothing_tells s is.script.rising) (λ w es same. tells_of s is.script.rising s.heard (map (shifted s.cluster (one_further s.shift)) es))
 
 pub takes_tell : (s : ClientState) (d : Letter) → IsClient s → TellsFloor (client_takes s d).state (client_takes s d).sends
 takes_tell s d is =
@@ -374,7 +442,7 @@ pub starts_marked : (s : ClientState) → TellsHeard s (client_start s)
 starts_marked s = all_marked s (floor_for (left s)) (outstanding s.window (left s))
 
 pub ticks_marked : (s : ClientState) → TellsHeard s (client_ticks s).sends
-ticks_marked s = ticks_by (λ (m : ClientMoved). TellsHeard s m.sends) s (λ w. refl) (λ w es same. all_marked s (floor_for (left s)) es)
+ticks_marked s = ticks_by (λ (m : ClientMoved). TellsHeard s m.sends) s (λ w. refl) (λ w es same. all_marked s (floor_for (left s)) (map (shifted s.cluster (one_further s.shift)) es))
 
 pub takes_marked : (s : ClientState) (d : Letter) → TellsHeard (client_takes s d).state (client_takes s d).sends
 takes_marked s d =
@@ -416,22 +484,32 @@ takes_sent s d e is =
 -- ---- the steps of the code
 
 -- all outstanding requests went out
-pub sent_all : (s : ClientState) (before sent : List Letter) → IsClient s → before ≡ []
-    → sent ≡ before ++ request_letters s.heard (floor_for (left s)) (filter (λ (e : Event). nat_lt 0 (number_of e)) (outstanding s.window (left s))) → sent ≡ client_start s
-sent_all s before sent is none sends =
-    sends ∙ ap (λ (ds : List Letter). ds ++ request_letters s.heard (floor_for (left s)) (filter (λ (e : Event). nat_lt 0 (number_of e)) (outstanding s.window (left s)))) none
-    ∙ ap (request_letters s.heard (floor_for (left s))) (all_above s.window (left s) is.script.rising)
+pub sent_all : (s : ClientState) (o : Option ℕ) (before sent : List Letter) → IsClient s → before ≡ []
+    → sent ≡ before ++ request_letters s.heard (floor_for (left s)) (map (shifted s.cluster o) (filter (λ (e : Event). nat_lt 0 (number_of e)) (outstanding s.window (left s))))
+    → sent ≡ request_letters s.heard (floor_for (left s)) (map (shifted s.cluster o) (outstanding s.window (left s)))
+sent_all s o before sent is none sends =
+    sends
+    ∙ ap (λ (ds : List Letter). ds ++ request_letters s.heard (floor_for (left s)) (map (shifted s.cluster o) (filter (λ (e : Event). nat_lt 0 (number_of e)) (outstanding s.window (left s))))) none
+    ∙ ap (λ (es : List Event). request_letters s.heard (floor_for (left s)) (map (shifted s.cluster o) es)) (all_above s.window (left s) is.script.rising)
 
-waits_again : (s : ClientState) (es : List Event) (e : Event) (sent : List Letter) → Member e es → sent ≡ request_letters s.heard (floor_for (left s)) es
-    → Moves (client_waits s es) Resent false s sent
-waits_again s [] e sent m is = absurd m
-waits_again s (x ∷ es) e sent m is = record { why = refl; completes = refl; state = refl; sends = is }
+-- a client begins with those of its lines
+pub sent_first : (s : ClientState) (before sent : List Letter) → IsClient s → before ≡ []
+    → sent ≡ before ++ request_letters s.heard (floor_for (left s)) (map (shifted s.cluster None) (filter (λ (e : Event). nat_lt 0 (number_of e)) (outstanding s.window (left s))))
+    → sent ≡ client_start s
+sent_first s before sent is none sends =
+    sent_all s None before sent is none sends ∙ ap (request_letters s.heard (floor_for (left s))) (all_itself s.cluster (outstanding s.window (left s)))
+
+waits_again : (s : ClientState) (es : List Event) (e : Event) (after : ClientState) (sent : List Letter) → Member e es → after ≡ again s → sent ≡ again_letters (again s) es
+    → Moves (client_waits s es) Resent false after sent
+waits_again s [] e after sent m state is = absurd m
+waits_again s (x ∷ es) e after sent m state is = record { why = refl; completes = refl; state = state; sends = is }
 
 -- a tick of a client that hasn't finished sends what is outstanding
-pub ticks_again : (s : ClientState) (sent : List Letter) → IsClient s → is_finished s ≡ false → sent ≡ client_start s → Moves (client_ticks s) Resent false s sent
-ticks_again s sent is unfinished sends = go (left s) refl
+pub ticks_again : (s after : ClientState) (sent : List Letter) → IsClient s → is_finished s ≡ false → after ≡ again s → sent ≡ again_letters after (outstanding after.window (left after))
+    → Moves (client_ticks s) Resent false after sent
+ticks_again s after sent is unfinished state sends = go (left s) refl
   where
-    go : (es : List Event) → left s ≡ es → Moves (client_ticks s) Resent false s sent
+    go : (es : List Event) → left s ≡ es → Moves (client_ticks s) Resent false after sent
     go [] none =
         let long : length (left s) ≡ length s.script - s.done = length-drop s.done s.script in
         let empty : length (left s) ≡ 0 = ap length none in
@@ -439,7 +517,9 @@ ticks_again s sent is unfinished sends = go (left s) refl
         let room : s.done < length s.script = grind (most, arith, nat_tests) in
         absurd (omega (arith, long, empty, room))
     go (e ∷ es) here =
-        waits_again s (outstanding s.window (left s)) e sent (subst (λ (xs : List Event). Member e (outstanding s.window xs)) (sym here) (first_is s.window e es is.some_window)) sends
+        waits_again s (outstanding s.window (left s)) e after sent
+        (subst (λ (xs : List Event). Member e (outstanding s.window xs)) (sym here) (first_is s.window e es is.some_window)) state
+        (sends ∙ ap (λ (t : ClientState). again_letters t (outstanding t.window (left t))) state)
 
 -- no outstanding request has the number that was heard
 pub hears_none : (s : ClientState) (n : ℕ) (after : ClientState) (sent : List Letter) → after ≡ s → position (has_number n) (outstanding s.window (left s)) ≡ None → sent ≡ []
@@ -451,13 +531,14 @@ hears_none s n after sent state is none =
 -- one has it
 pub hears_one : (s : ClientState) (n last : ℕ) (after : ClientState) (before sent : List Letter) → IsClient s → is_outstanding s.window (left s) n ≡ true → after ≡ after_completion n s
     → last ≡ last_or 0 (outstanding s.window (left s)) → before ≡ []
-    → sent ≡ before ++ request_letters after.heard (floor_for (left after)) (filter (λ (e : Event). nat_lt last (number_of e)) (outstanding after.window (left after)))
+    → sent ≡ before ++ request_letters after.heard (floor_for (left after)) (map (shifted after.cluster None) (filter (λ (e : Event). nat_lt last (number_of e)) (outstanding after.window (left after))))
     → Moves (client_hears s n) Heard true after sent
 hears_one s n last after before sent is out state end none sends =
     let gone : left (after_completion n s) ≡ without_request n (left s) = (found s n is out).3.left in
     let news : filter (λ (e : Event). nat_lt last (number_of e)) (outstanding s.window (without_request n (left s))) ≡ newly s.window n (left s) = newly_is s.window n (left s) last is.script.rising end in
     let all : sent ≡ (client_completes n s).sends =
     sends
+    ∙ ap (λ (es : List Event). before ++ request_letters after.heard (floor_for (left after)) es) (all_itself after.cluster (filter (λ (e : Event). nat_lt last (number_of e)) (outstanding after.window (left after))))
     ∙ ap (λ (ds : List Letter). ds ++ request_letters after.heard (floor_for (left after)) (filter (λ (e : Event). nat_lt last (number_of e)) (outstanding after.window (left after)))) none
     ∙ ap (λ (t : ClientState). request_letters t.heard (floor_for (left t)) (filter (λ (e : Event). nat_lt last (number_of e)) (outstanding t.window (left t)))) state
     ∙ ap (λ (es : List Event). request_letters s.heard (floor_for es) (filter (λ (e : Event). nat_lt last (number_of e)) (outstanding s.window es))) gone
@@ -476,15 +557,17 @@ brought_is s place d script is inside brought =
     let others : without_request (number_of e) (left s) ≡ take place (left s) ++ drop (suc place) (left s) = without_at 0 (left s) is.script.rising place d inside in
     rw brought (rw (here, rest, one, others) refl)
 
-pub completed_state : (s : ClientState) (place : ℕ) (d : Event) (script : List Event) → IsClient s → place < length (left s)
+pub completed_state : (s : ClientState) (place : ℕ) (d : Event) (script : List Event) (shift : Option ℕ) → IsClient s → place < length (left s) → shift ≡ set_back s.shift
     → script ≡ take s.done s.script ++ get_or s.script (s.done + place) d ∷ (take place (left s) ++ drop (s.done + place + 1) s.script)
-    → record s { script = script; done = s.done + 1 } ≡ after_completion (number_of (get_or (left s) place d)) s
-completed_state s place d script is inside brought = ap (λ (es : List Event). record s { script = es; done = s.done + 1 }) (brought_is s place d script is inside brought)
+    → record s { script = script; done = s.done + 1; shift = shift } ≡ after_completion (number_of (get_or (left s) place d)) s
+completed_state s place d script shift is inside back brought =
+    let all = brought_is s place d script is inside brought in
+    λ j. record s { script = all j; done = s.done + 1; shift = back j }
 
-pub completed_client : (s : ClientState) (place : ℕ) (script : List Event) → IsClient s → place < length (left s)
+pub completed_client : (s : ClientState) (place : ℕ) (script : List Event) (shift : Option ℕ) → IsClient s → place < length (left s) → shift ≡ set_back s.shift
     → ((d : Event) → script ≡ take s.done s.script ++ get_or s.script (s.done + place) d ∷ (take place (left s) ++ drop (s.done + place + 1) s.script))
-    → IsClient (record s { script = script; done = s.done + 1 })
-completed_client s place script is inside brought =
+    → IsClient (record s { script = script; done = s.done + 1; shift = shift })
+completed_client s place script shift is inside back brought =
     let d = some_of (left s) place inside in
     let e = get_or (left s) place d in
-    subst IsClient (sym (completed_state s place d script is inside (brought d))) (completed_is_client s (number_of e) e is (at_place place (left s) d inside) refl)
+    subst IsClient (sym (completed_state s place d script shift is inside back (brought d))) (completed_is_client s (number_of e) e is (at_place place (left s) d inside) refl)

@@ -1,5 +1,5 @@
 -- A client with its script: up to a window of requests outstanding at a time.
-use Rattle.std.specs.Prelude.{◌≡◌, ◌≤◌, ℕ, ◌+◌, Bool, true, false, ◌==◌, ◌&&◌, max, List, [], ◌∷◌, ◌++◌, drop, filter, length, take, Option, None, Some, IsTrue, if◌then◌else◌}
+use Rattle.std.specs.Prelude.{◌≡◌, ◌≤◌, ℕ, ◌+◌, Bool, true, false, ◌==◌, ◌&&◌, max, List, [], ◌∷◌, ◌++◌, drop, filter, length, map, take, Option, None, Some, IsTrue, if◌then◌else◌}
 use Rattle.std.specs.List.{list_all}
 use Rattle.cx_base.specs.declared.cluster.Cluster.{Cluster}
 use Rattle.cx_base.specs.declared.event.Event.{Event}
@@ -8,6 +8,8 @@ use Rattle.cx_base.specs.declared.role.RoleId.{RoleId}
 use Rattle.cx_base.specs.declared.why.Why.{Why}
 use Rattle.cx_base.specs.declared.why.Why.TheVariants.{Heard, Idle, Resent, Stranger}
 use Rattle.cx_base.specs.Role.{role, same_role}
+use Rattle.cx_client.specs.Asking.{one_further, set_back, shifted}
+use Rattle.cx_client.specs.declared.asking.Asking.{Asking}
 use Rattle.cx_client.specs.Window.{floor_for, has_number, is_outstanding, newly, outstanding, request_letters, without_request}
 use Rattle.cx_field.specs.Fields.{mark}
 use Rattle.cx_model.specs.Heard.{mark_told}
@@ -19,7 +21,8 @@ use Rattle.cx_script.specs.Requests.{IsScript, asks}
 
 -- A client, its requests, how many of them are completed, how many of the others may be outstanding at a time, and the greatest number
 -- that an answer told it: of so many values it has heard. The completed requests come first, in the order in which they were completed;
--- then the others, in the order of their numbers.
+-- then the others, in the order of their numbers. Where it asks others when it asks again, `shift` is how often it has done so since a
+-- request of its was completed.
 pub record ClientState : Type 0 where
   pub cluster : Cluster
   pub me : RoleId
@@ -27,6 +30,7 @@ pub record ClientState : Type 0 where
   pub done : ℕ
   pub window : ℕ
   pub heard : ℕ
+  pub shift : Option ℕ
 
 -- the uncompleted requests
 abbrev pub left : ClientState → List Event
@@ -43,8 +47,9 @@ pub record IsClient (s : ClientState) : Type 0 where
   pub heard : IsTrue (mark.fits s.heard)
 
 -- a client at its beginning
-abbrev pub client_opened : Cluster → RoleId → List Event → ℕ → ClientState
-client_opened c me script window = record { cluster = c; me = me; script = script; done = 0; window = window; heard = 0 }
+abbrev pub client_opened : Cluster → RoleId → List Event → Asking → ClientState
+client_opened c me script asking =
+    record { cluster = c; me = me; script = script; done = 0; window = asking.window; heard = 0; shift = if asking.others then Some 0 else None }
 
 abbrev pub is_finished : ClientState → Bool
 is_finished s = s.done == length s.script
@@ -66,7 +71,12 @@ client_start s = request_letters s.heard (floor_for (left s)) (outstanding s.win
 
 -- the client once the request of this number is completed
 abbrev pub after_completion : ℕ → ClientState → ClientState
-after_completion n s = record s { script = take s.done s.script ++ (filter (has_number n) (left s) ++ without_request n (left s)); done = s.done + 1 }
+after_completion n s =
+    record s {
+      script = take s.done s.script ++ (filter (has_number n) (left s) ++ without_request n (left s));
+      done = s.done + 1;
+      shift = set_back s.shift;
+    }
 
 -- the request of this number is completed, and those that become outstanding are sent
 abbrev pub client_completes : ℕ → ClientState → ClientMoved
@@ -101,10 +111,18 @@ client_told s at (Some n) = client_hears (hearing at s) n
 abbrev pub client_takes : ClientState → Letter → ClientMoved
 client_takes s d = if same_role d.to s.me && names s.cluster d then client_told s (mark_told d.msg) (answer_number d.msg) else client_stays Stranger s
 
+-- the client once it asks again
+abbrev pub again : ClientState → ClientState
+again s = record s { shift = one_further s.shift }
+
+-- these requests are sent again
+abbrev pub again_letters : ClientState → List Event → List Letter
+again_letters s es = request_letters s.heard (floor_for (left s)) (map (shifted s.cluster s.shift) es)
+
 -- a tick sends the outstanding requests again
 abbrev pub client_waits : ClientState → List Event → ClientMoved
 client_waits s [] = client_stays Idle s
-client_waits s (e ∷ es) = record { why = Resent; state = s; sends = request_letters s.heard (floor_for (left s)) (e ∷ es); completes = false }
+client_waits s (e ∷ es) = record { why = Resent; state = again s; sends = again_letters (again s) (e ∷ es); completes = false }
 
 abbrev pub client_ticks : ClientState → ClientMoved
 client_ticks s = client_waits s (outstanding s.window (left s))

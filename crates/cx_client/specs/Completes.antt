@@ -3,6 +3,7 @@ use Rattle.std.specs.Prelude.{◌≡◌, ℕ, ◌+◌, ◌==◌, ◌&&◌, max, 
 use Rattle.std.specs.List.{list_all}
 use Rattle.cx_base.specs.declared.event.Event.{Event}
 use Rattle.cx_base.specs.Role.{same_role}
+use Rattle.cx_client.specs.Asking.{set_back}
 use Rattle.cx_client.specs.Client.{ClientState, answer_number, left}
 use Rattle.cx_client.specs.Window.{floor_for, outstanding, event_with_floor, without_request}
 use Rattle.cx_model.specs.Heard.{mark_told}
@@ -32,10 +33,11 @@ pub record IsAnswerToRequest (s : ClientState) (d : Letter) : Type 0 where
 abbrev pub heard_after : ClientState → Letter → ℕ
 heard_after s d = if same_role d.to s.me && names s.cluster d then max s.heard (mark_told d.msg) else s.heard
 
--- a datagram answers an outstanding request, which then is behind those completed before it; the others stay as they are
+-- a datagram answers an outstanding request, which then is behind those completed before it; the others stay as they are, and the client
+-- asks those of its lines again
 pub record CompletesRequest (s : ClientState) (d : Letter) (after : ClientState) : Type 0 where
   pub answers : IsAnswerToRequest s d
-  pub state : after ≡ record s { script = take s.done s.script ++ answers.request ∷ without_request (number_of answers.request) (left s); done = s.done + 1; heard = heard_after s d }
+  pub state : after ≡ record s { script = take s.done s.script ++ answers.request ∷ without_request (number_of answers.request) (left s); done = s.done + 1; heard = heard_after s d; shift = set_back s.shift }
 
 -- whether a command, if it is one, tells this floor
 abbrev pub msg_has_floor : ℕ → Msg → Bool

@@ -1,3 +1,4 @@
+pub mod Asking
 pub mod Client
 pub mod Completes
 pub mod Examples

@@ -1,14 +1,16 @@
 //! The client.
 
-ghost use Rattle.std.specs.Prelude.{◌≡◌, ◌≤◌, ◌<◌, ◌+◌, ◌-◌, ◌++◌, ◌∷◌, [], drop, filter, get_or, length, nat_lt, slice_get, take, IfOk, IfSome, OnErr, OnOk, IsTrue, false};
+ghost use Rattle.std.specs.Prelude.{◌≡◌, ◌≤◌, ◌<◌, ◌+◌, ◌-◌, ◌++◌, ◌∷◌, [], drop, filter, get_or, length, map, nat_lt, slice_get, take, IfOk, IfSome, OnErr, OnOk, IsTrue, false};
 ghost use Rattle.cx_base.specs.declared.event.Event.{Event as Happening};
 ghost use Rattle.cx_base.specs.declared.role.Kind.TheVariants as kind;
-ghost use Rattle.cx_client.specs.Client.{Moves, after_completion, client_hears, client_opened, client_start, client_takes, client_ticks, hearing, is_finished, left};
+ghost use Rattle.cx_client.specs.Client.{Moves, after_completion, again, client_hears, client_opened, client_start, client_takes, client_ticks, hearing, is_finished, left};
+ghost use Rattle.cx_client.specs.Asking.{shifted};
 ghost use Rattle.cx_client.specs.Window.{floor_for, outstanding, request_letters};
 ghost use Rattle.cx_field.specs.Fields as field;
 ghost use Rattle.cx_model.specs.Names.{names_role};
 ghost use Rattle.cx_script.specs.Requests.{IsScript, number_of};
 
+use crate::asking::{Asking, one_further, set_back};
 use crate::sending::send_outstanding;
 use crate::window::{first_of, number_of, outstanding, request_place};
 use cx_base::{Cluster, Event, Kind, NoMemory, RoleId, Why};
@@ -26,7 +28,8 @@ pub struct ClientOutcome {
 /// A client and its script. Of its uncompleted requests the first ones are outstanding, as many as its window has room for, but none whose
 /// number is more than 63 above the first (this project's own). Each is sent when it becomes so and at each tick, until an answer has its
 /// number; its floor is the number just below the first uncompleted one, as of that sending. A session tells the greatest number that an
-/// answer told the client, as of that sending.
+/// answer told the client, as of that sending. A client that asks others sends each first to the batcher, reader and replica of its line,
+/// and at each tick since a request was last completed to those one place further.
 #[derive(Drop)]
 pub struct Client {
     cluster: Cluster,
@@ -37,6 +40,8 @@ pub struct Client {
     window: u8,
     // The greatest number that an answer told it.
     heard: u64,
+    // Where it asks others when it asks again, how often it has done so since a request of its was completed.
+    shift: Option<u32>,
 }
 
 impl Model for Client {
@@ -53,6 +58,7 @@ impl Model for Client {
       done = c.done;
       window = c.window;
       heard = c.heard;
+      shift = c.shift;
     } };
 
     ghost invariant = { λ c. IsClient
@@ -63,6 +69,7 @@ impl Model for Client {
           done = c.done;
           window = c.window;
           heard = c.heard;
+          shift = c.shift;
         }) };
 }
 
@@ -93,21 +100,22 @@ fn last_number(requests: &[Event]) -> u64
 impl Client {
     /// A client of the cluster and its script, nothing sent. The script has requests of this client alone, with their names in the
     /// cluster and rising numbers from 1 on; 1 to 64 of them may be outstanding at a time.
-    pub fn open(cluster: &Cluster, me: RoleId, script: Vec<Event>, window: u8) -> Self
+    pub fn open(cluster: &Cluster, me: RoleId, script: Vec<Event>, asking: Asking) -> Self
         requires kind { me.kind ≡ kind.Client }
         requires named { IsTrue (names_role cluster.now me) }
         requires script { IsScript cluster.now me.index script.items }
-        requires some_window { 1 ≤ window }
-        requires window { window ≤ 64 }
-        ensures { result ≡ client_opened cluster.now me script.items window }
+        requires some_window { 1 ≤ asking.window }
+        requires window { asking.window ≤ 64 }
+        ensures { result ≡ client_opened cluster.now me script.items asking }
     {
         Client {
             cluster: *cluster,
             index: me.index,
             script,
             done: 0,
-            window,
+            window: asking.window,
             heard: 0,
+            shift: if asking.others { Some(0) } else { None },
         }
     }
 
@@ -118,40 +126,43 @@ impl Client {
         outstanding(&self.script[self.done..], self.window as usize)
     }
 
-    // The outstanding requests whose numbers are above `sent` go out.
-    fn send_above(&self, sent: u64, out: &mut Outbox)
+    // The outstanding requests whose numbers are above `sent` go out, so many places further.
+    fn send_above(&self, sent: u64, shift: Option<u32>, out: &mut Outbox)
         requires room { self.now.window ≤ out.old.spare }
         ensures { out.new.list ≡ out.old.list ++ request_letters self.now.heard (floor_for (left self.now))
-            (filter (λ (e : Happening). nat_lt sent (number_of e))
-            (outstanding self.now.window (left self.now))) }
+            (map (shifted self.now.cluster shift) (filter (λ (e : Happening). nat_lt sent (number_of e))
+            (outstanding self.now.window (left self.now)))) }
     {
         send_outstanding(
             &self.script[self.done..],
             self.window as usize,
             sent,
+            &self.cluster,
+            shift,
             self.heard,
             out,
         );
     }
 
-    /// The outstanding requests are sent: the first ones of the script.
+    /// The outstanding requests are sent, as their lines name roles: the first ones of the script.
     pub fn start(&self, out: &mut Outbox) -> Result<(), NoMemory>
         requires empty { out.old.list ≡ [] }
         ensures sends { OnOk result (out.new.list ≡ client_start self.now) }
         ensures nothing { OnErr result (out.new.list ≡ []) }
     {
         out.room(self.window as usize)?;
-        self.send_above(0, out);
+        self.send_above(0, None, out);
         Ok(())
     }
 
-    // The request at this place of those that are left is completed.
+    // The request at this place of those that are left is completed, and the client asks those of its lines again.
     fn complete(&mut self, place: usize)
         requires { place < length (left self.old) }
         ensures { (d : Happening) → self.new ≡ after_completion (number_of (get_or (left self.old) place d)) self.old }
     {
         bring_forward(&mut self.script, self.done, place);
         self.done += 1;
+        self.shift = set_back(self.shift);
     }
 
     // An answer told it this number.
@@ -160,6 +171,13 @@ impl Client {
         ensures { self.new ≡ hearing at self.old }
     {
         self.heard = self.heard.max(at);
+    }
+
+    // It asks again.
+    fn ask_again(&mut self)
+        ensures { self.new ≡ again self.old }
+    {
+        self.shift = one_further(self.shift);
     }
 
     // An answer to the request of this number tells the number `at`.
@@ -185,7 +203,7 @@ impl Client {
         out.room(self.window as usize)?;
         self.raise(at);
         self.complete(place);
-        self.send_above(sent, out);
+        self.send_above(sent, None, out);
         Ok(ClientOutcome {
             why,
             completes: true,
@@ -218,17 +236,20 @@ impl Client {
         }
     }
 
-    /// One tick: the outstanding requests are sent again, or there is nothing to do where all are completed.
-    pub fn tick(&self, out: &mut Outbox) -> Result<Why, NoMemory>
+    /// One tick: the outstanding requests are sent again, where the client asks others one place further than the last time, or there is
+    /// nothing to do where all are completed. Out of memory, nothing changes.
+    pub fn tick(&mut self, out: &mut Outbox) -> Result<Why, NoMemory>
         requires empty { out.old.list ≡ [] }
-        ensures ok { IfOk result (λ why. Moves (client_ticks self.now) why false self.now out.new.list) }
+        ensures ok { IfOk result (λ why. Moves (client_ticks self.old) why false self.new out.new.list) }
+        ensures no_memory { OnErr result (self.new ≡ self.old) }
         ensures nothing { OnErr result (out.new.list ≡ []) }
     {
         if self.finished() {
             return Ok(Why::Idle);
         }
         out.room(self.window as usize)?;
-        self.send_above(0, out);
+        self.ask_again();
+        self.send_above(0, self.shift, out);
         Ok(Why::Resent)
     }
 

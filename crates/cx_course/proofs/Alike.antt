@@ -3,7 +3,7 @@ use Rattle.std.proofs.Common.{◌≡◌, true, false, List, ◌++◌, Option, ap
 use Rattle.cx_base.specs.declared.role.Kind.TheVariants as kind
 use Rattle.cx_base.specs.declared.role.RoleId.{RoleId}
 use Rattle.cx_base.specs.Role.{same_role}
-use Rattle.cx_inv_run.specs.States.{State, BatcherIn, LeaderIn, ProxyIn, ReplicaIn, ReaderIn, ReplacerIn, plain, states_of}
+use Rattle.cx_inv_run.specs.States.{State, BatcherIn, LeaderIn, ProxyIn, ReplicaIn, ReaderIn, ReplacerIn, plain}
 use Rattle.cx_model.specs.Acceptor.{acceptor_rules}
 use Rattle.cx_model.specs.Batcher.{batcher_rules}
 use Rattle.cx_model.specs.Leader.{leader_rules}
@@ -28,7 +28,7 @@ pub record IsRole {D V : Type 0} (rules : Rules D V) (make : V → State) (w : W
   pub kind_is : s.me.kind ≡ rules.kind
   pub named : names_role w.cluster s.me ≡ true
   pub durable : s.durable ≡ durable_part rules s.me w.kept
-  pub volatile : states_of w.roles s.me ≡ make s.volatile
+  pub volatile : w.roles s.me ≡ make s.volatile
 
 abbrev pub IsAlike : World → Hosted → Type 0
 IsAlike w (ClientAt s) = IsAsker w s
@@ -46,7 +46,7 @@ IsAlike w (ReplacerAt s) = IsRole replacer_rules ReplacerIn w s
 
 -- a role that takes no part in them is spared: its state stays, and, of a client, what it asked for and what it has heard
 pub record Spares (w after : World) (a : RoleId) : Type 0 where
-  pub state : states_of after.roles a ≡ states_of w.roles a
+  pub state : after.roles a ≡ w.roles a
   pub client : a.kind ≡ kind.Client → SparesClient w after a.index
 
 -- what this role writes in its store, if anything, and what is sent; other roles are spared

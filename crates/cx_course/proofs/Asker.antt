@@ -1,11 +1,12 @@
 -- How a hosted client stands beside the model's run of what was recorded.
-use Rattle.std.proofs.Common.{◌≡◌, ◌<◌, ℕ, true, Some, ap, sym, ◌∙◌, subst}
+use Rattle.std.proofs.Common.{◌≡◌, ◌<◌, ℕ, true, Option, Some, ap, sym, ◌∙◌, subst}
 use Rattle.std.specs.Prelude.{drop, length}
 use Rattle.cx_base.specs.declared.cluster.Cluster.{Cluster}
 use Rattle.cx_base.specs.declared.event.Cut.{Cut}
 use Rattle.cx_base.specs.declared.event.Event.{Event}
 use Rattle.cx_base.specs.declared.event.Event.TheVariants as event
 use Rattle.cx_base.specs.declared.event.Happened.{Happened}
+use Rattle.cx_client.specs.Asking.{shifted}
 use Rattle.cx_client.specs.Client.{ClientState, IsClient, left}
 use Rattle.cx_client.proofs.Windows.{one_number}
 use Rattle.cx_client.specs.Window.{event_with_floor}
@@ -26,12 +27,13 @@ pub record IsTraced (w : World) : Type 0 where
   pub named : (d : Letter) → Member d w.sent → names_role w.cluster d.from ≡ true
   pub there : (h : Happened) (n : ℕ) (cut : Cut) → Member h w.events → is_heard h.why ≡ true → h.event ≡ event.Deliver n cut → n < length w.sent
 
--- a request that went out is a line of the script with a floor that is below the number of each line that is left
+-- a request that went out is a line of the script, perhaps to others, with a floor that is below the number of each line that is left
 pub record IsTold (s : ClientState) (e : Event) : Type 0 where
   pub line : Event
   pub floor : ℕ
+  pub shift : Option ℕ
   pub own : Member line s.script
-  pub is : e ≡ event_with_floor floor line
+  pub is : e ≡ event_with_floor floor (shifted s.cluster shift line)
   pub below : (l : Event) → Member l (left s) → floor < number_of l
 
 -- a client that has heard nothing, and else is as this one

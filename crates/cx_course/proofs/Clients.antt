@@ -1,5 +1,5 @@
 -- A step of a hosted client is events of the model.
-use Rattle.std.proofs.Common.{◌≡◌, ◌⊎◌, ℕ, Bool, true, false, List, [], ◌∷◌, ◌++◌, Some, map, ap, sym, ◌∙◌, subst, refl, inl, inr}
+use Rattle.std.proofs.Common.{◌≡◌, ◌⊎◌, ℕ, Bool, true, false, List, [], ◌∷◌, ◌++◌, None, Some, map, ap, sym, ◌∙◌, subst, refl, inl, inr}
 use Rattle.std.specs.Prelude.{slice_get, if◌then◌else◌}
 use Rattle.std.specs.List.{flat_map}
 use Rattle.cx_base.specs.Asked.{floor_fits}
@@ -11,8 +11,10 @@ use Rattle.cx_base.specs.declared.role.Kind.TheVariants as kind
 use Rattle.cx_base.specs.declared.role.RoleId.{RoleId}
 use Rattle.cx_base.specs.declared.why.Why.TheVariants as why
 use Rattle.cx_base.specs.Role.{role}
+use Rattle.cx_client.specs.Asking.{shifted}
 use Rattle.cx_client.specs.Client.{ClientMoved, ClientState, client_start, client_takes, client_ticks, hearing, left, client_stays}
 use Rattle.cx_client.specs.Window.{floor_for, outstanding, request_letters, event_with_floor}
+use Rattle.cx_client.proofs.Shifted.{all_itself, asks_shifted}
 use Rattle.cx_client.proofs.Windows.{fits, is_left}
 use Rattle.cx_inv_run.proofs.Members.{Member-at, Member-cases, Member-map, all-Member}
 use Rattle.cx_model.specs.Heard.{mark_told}
@@ -31,7 +33,7 @@ use Rattle.cx_course.specs.Course.{is_a, own_event, request_by, requests_by, ste
 use Rattle.cx_course.specs.Hosted.{ClientAt, Step, answer_in, does, printed}
 use Rattle.cx_course.proofs.Asker.{IsAsker, IsTraced}
 use Rattle.cx_course.proofs.Requests.{Sends, all_go_out, nothing_sends, sends_on}
-use Rattle.cx_course.proofs.Scripts.{dropped, recordable_telling}
+use Rattle.cx_course.proofs.Scripts.{dropped, recordable_telling, sent_as}
 use Rattle.cx_course.proofs.Takes.{Asks, hears, stays_so, takes_so, ticks_so}
 
 -- ---- what is recorded of a client
@@ -87,24 +89,35 @@ module _ (w : World) (s : ClientState) (m : ClientMoved) (moves : Asks w s m) (t
   abbrev Requests : List Event
   Requests = requests_in Floor m.sends
 
-  its_own : (e : Event) → Member e moves.lines → asks m.state.me.index e ≡ true
-  its_own e here = all-Member (asks m.state.me.index) (left m.state) moves.asker.client.script.own e (is_left m.state.window (left m.state) e (moves.out e here))
+  -- to whom the lines go
+  abbrev Lines : List Event
+  Lines = map (shifted m.state.cluster moves.shift) moves.lines
 
-  pub requests_are : Requests ≡ map (event_with_floor Floor) moves.lines
-  requests_are = ap (requests_in Floor) moves.sends ∙ requests_back m.state.me.index m.state.heard Floor moves.lines its_own
+  its_own : (e : Event) → Member e Lines → asks m.state.me.index e ≡ true
+  its_own e here =
+      let l = Member-map (shifted m.state.cluster moves.shift) e moves.lines here in
+      let own : asks m.state.me.index l.0 ≡ true =
+      all-Member (asks m.state.me.index) (left m.state) moves.asker.client.script.own l.0 (is_left m.state.window (left m.state) l.0 (moves.out l.0 l.1)) in
+      ap (asks m.state.me.index) l.2 ∙ asks_shifted m.state.cluster moves.shift m.state.me.index l.0 ∙ own
 
-  each_recordable : (e : Event) → Member e (map (event_with_floor Floor) moves.lines) → IsRecordable w.cluster e
+  pub requests_are : Requests ≡ map (event_with_floor Floor) Lines
+  requests_are = ap (requests_in Floor) moves.sends ∙ requests_back m.state.me.index m.state.heard Floor Lines its_own
+
+  each_recordable : (e : Event) → Member e (map (event_with_floor Floor) Lines) → IsRecordable w.cluster e
   each_recordable e here =
-      let l = Member-map (event_with_floor Floor) e moves.lines here in
+      let x = Member-map (event_with_floor Floor) e Lines here in
+      let l = Member-map (shifted m.state.cluster moves.shift) x.0 moves.lines x.1 in
       let own : Member l.0 m.state.script = dropped m.state.done l.0 m.state.script (is_left m.state.window (left m.state) l.0 (moves.out l.0 l.1)) in
       let fit : floor_fits (number_of l.0) Floor ≡ true = fits m.state.window (left m.state) moves.asker.client.script.rising l.0 (moves.out l.0 l.1) in
-      subst (IsRecordable w.cluster) (sym l.2) (recordable_telling w.cluster Floor l.0 (moves.asker.lines l.0 own) fit)
+      let line : IsRecordable m.state.cluster l.0 = subst (λ c. IsRecordable c l.0) (sym moves.asker.cluster) (moves.asker.lines l.0 own) in
+      subst (IsRecordable w.cluster) (sym (x.2 ∙ ap (event_with_floor Floor) l.2))
+      (subst (λ c. IsRecordable c (sent_as m.state.cluster moves.shift Floor l.0)) moves.asker.cluster (recordable_telling m.state.cluster moves.shift Floor l.0 line fit))
 
   pub moved_out : Sends w (run_from w Requests) m.state m.sends × IsAsker (run_from w Requests) m.state × IsTraced (run_from w Requests)
   moved_out =
-      let out = all_go_out w m.state moves.asker traced moves.lines (λ e here. is_left m.state.window (left m.state) e (moves.out e here)) in (
+      let out = all_go_out w m.state moves.asker traced moves.shift moves.lines (λ e here. is_left m.state.window (left m.state) e (moves.out e here)) in (
         subst (λ es. Sends w (run_from w es) m.state m.sends) (sym requests_are)
-            (subst (λ ds. Sends w (run_from w (map (event_with_floor Floor) moves.lines)) m.state ds) (sym moves.sends) out.0),
+            (subst (λ ds. Sends w (run_from w (map (event_with_floor Floor) Lines)) m.state ds) (sym moves.sends) out.0),
         subst (λ es. IsAsker (run_from w es) m.state) (sym requests_are) out.1,
         subst (λ es. IsTraced (run_from w es)) (sym requests_are) out.2,
       )
@@ -184,7 +197,14 @@ module _ (w : World) (s : ClientState) (is : IsAsker w s) (traced : IsTraced w) 
   none_delivered es d m = absurd m
 
   starts_so : Asks w s (record { why = why.Resent; state = s; sends = client_start s; completes = false })
-  starts_so = record { asker = is; me = refl; lines = outstanding s.window (left s); out = λ e m. m; sends = refl }
+  starts_so = record {
+    asker = is;
+    me = refl;
+    lines = outstanding s.window (left s);
+    shift = None;
+    out = λ e m. m;
+    sends = ap (request_letters s.heard (floor_for (left s))) (sym (all_itself s.cluster (outstanding s.window (left s))));
+  }
 
   rests_so : Asks w s (client_stays why.Idle s)
   rests_so = stays_so w s s why.Idle is refl

@@ -16,7 +16,7 @@ use Rattle.cx_base.specs.declared.role.RoleId.{RoleId}
 use Rattle.cx_base.specs.Cluster.{count_of}
 use Rattle.cx_base.specs.Role.{code_of, role, same_role}
 use Rattle.cx_client.specs.Client.{ClientState}
-use Rattle.cx_inv_run.specs.States.{states_of}
+use Rattle.cx_inv_run.specs.States.{State}
 use Rattle.cx_model.specs.Lists.{number_itself, role_from_parts, same_role-itself}
 use Rattle.cx_model.specs.Member.{Member}
 use Rattle.cx_model.specs.Names.{names_role}
@@ -104,7 +104,7 @@ moves_client w after s ds client sends traced = record {
   sent = sends.sent;
   traced = traced;
   others = λ a differs. record {
-    state = ap (λ r. states_of r a) sends.roles;
+    state = ap (λ (r : RoleId → State). r a) sends.roles;
     client = λ is. sends.others a.index (λ same. true≢false
         (sym (ap (λ x. same_role x s.me) (role_from_parts a.kind s.me.kind a.index s.me.index (is ∙ sym client) same) ∙ same_role-itself s.me) ∙ differs));
   };

@@ -1,5 +1,5 @@
 -- Requests of a hosted client go out: each is an event of the model that sends exactly the client's datagram.
-use Rattle.std.proofs.Common.{◌≡◌, ℕ, List, [], ◌∷◌, ◌++◌, Some, map, ap, sym, ◌∙◌, subst, refl, inl, inr, append-nil, append_assoc}
+use Rattle.std.proofs.Common.{◌≡◌, ℕ, List, [], ◌∷◌, ◌++◌, Option, Some, map, ap, sym, ◌∙◌, subst, refl, inl, inr, append-nil, append_assoc}
 use Rattle.std.proofs.lemmas.Bool.{true≢false}
 use Rattle.std.proofs.lemmas.Option.{none-some, same_Some}
 use Rattle.cx_base.specs.declared.event.Event.{Event}
@@ -8,6 +8,7 @@ use Rattle.cx_base.specs.declared.event.Happened.{Happened}
 use Rattle.cx_base.specs.declared.role.Kind.TheVariants as kind
 use Rattle.cx_base.specs.declared.why.Why.TheVariants as why
 use Rattle.cx_base.specs.Role.{role}
+use Rattle.cx_client.specs.Asking.{shifted}
 use Rattle.cx_client.specs.Client.{ClientState, left}
 use Rattle.cx_client.specs.Window.{floor_for, request_letters, event_with_floor}
 use Rattle.cx_client.proofs.Windows.{above, rise_above_floor}
@@ -21,7 +22,7 @@ use Rattle.cx_model.specs.World.{World, Change, ask, change, world_after, run_fr
 use Rattle.cx_letter.specs.Letter.{Letter}
 use Rattle.cx_course.proofs.Asker.{IsAsker, IsTold, IsTraced, SparesClient}
 use Rattle.cx_course.proofs.Hearing.{heard_still, traced_behind}
-use Rattle.cx_course.proofs.Scripts.{Mine, Out, dropped, its_token, not_stale}
+use Rattle.cx_course.proofs.Scripts.{Mine, Out, dropped, its_token, not_stale, sent_as}
 
 -- Some events of a client come to this: what is sent besides. No role acts, and nothing changes for another client.
 pub record Sends (w after : World) (s : ClientState) (sends : List Letter) : Type 0 where
@@ -52,18 +53,18 @@ from_it n (event.Crash r) t is d m = absurd m
 from_it n (event.Restart r) t is d m = absurd m
 
 -- a line that is left goes out
-module _ (w : World) (s : ClientState) (is : IsAsker w s) (traced : IsTraced w) (e : Event) (here : Member e (left s)) where
+module _ (w : World) (s : ClientState) (is : IsAsker w s) (traced : IsTraced w) (o : Option ℕ) (e : Event) (here : Member e (left s)) where
   abbrev Request : Event
-  Request = Out w s is e here
+  Request = Out w s is o e here
 
   abbrev Goes : Change
   Goes = record { who = Some (role kind.Client s.me.index); why = why.Sent; roles = w.roles; kept = []; sends = request (heard_by s.me.index w.sent w.events) Request }
 
   asks_so : ask w Request (token_of Request) ≡ Goes
-  asks_so = rw (its_token w s is e here, not_stale w s is e here) refl
+  asks_so = rw (its_token w s is o e here, not_stale w s is o e here) refl
 
   -- only requests have tokens
-  by_event : (x : Event) → ask w x (token_of x) ≡ Goes → token_of x ≡ Some (Mine w s is e here) → change w x ≡ Goes
+  by_event : (x : Event) → ask w x (token_of x) ≡ Goes → token_of x ≡ Some (Mine w s is o e here) → change w x ≡ Goes
   by_event (event.Write command batcher) so token = so
   by_event (event.Read client seq floor reader replica key) so token = so
   by_event (event.Session client seq floor replica key) so token = so
@@ -76,7 +77,7 @@ module _ (w : World) (s : ClientState) (is : IsAsker w s) (traced : IsTraced w) 
   by_event (event.Restart r) so token = absurd (none-some _ token)
 
   changes_so : change w Request ≡ Goes
-  changes_so = by_event Request asks_so (its_token w s is e here)
+  changes_so = by_event Request asks_so (its_token w s is o e here)
 
   abbrev Asked : World
   Asked = world_after w Request Goes
@@ -91,6 +92,7 @@ module _ (w : World) (s : ClientState) (is : IsAsker w s) (traced : IsTraced w) 
   told_so = record {
     line = e;
     floor = floor_for (left s);
+    shift = o;
     own = dropped s.done e s.script here;
     is = refl;
     below = λ l m. above (floor_for (left s)) (left s) (rise_above_floor (left s) is.client.script.rising) l m;
@@ -123,12 +125,12 @@ module _ (w : World) (s : ClientState) (is : IsAsker w s) (traced : IsTraced w) 
     where
       other : (h : Happened) (t : Token) → h ≡ New → token_of h.event ≡ Some t → t.client ≡ index → index ≡ s.me.index
       other h t new token mine =
-          let same : t ≡ Mine w s is e here = same_Some _ _ (sym token ∙ ap (λ (x : Happened). token_of x.event) new ∙ its_token w s is e here) in
+          let same : t ≡ Mine w s is o e here = same_Some _ _ (sym token ∙ ap (λ (x : Happened). token_of x.event) new ∙ its_token w s is o e here) in
           sym mine ∙ ap (λ (x : Token). x.client) same
 
   traced_so : IsTraced Asked
   traced_so = traced_behind w Request Goes traced (λ n cut never is. absurd (true≢false (sym never)))
-      (λ d m. ap (names_role w.cluster) (from_it (heard_by s.me.index w.sent w.events) Request (Mine w s is e here) (its_token w s is e here) d m ∙ sym is.client.me) ∙ is.named)
+      (λ d m. ap (names_role w.cluster) (from_it (heard_by s.me.index w.sent w.events) Request (Mine w s is o e here) (its_token w s is o e here) d m ∙ sym is.client.me) ∙ is.named)
 
   pub goes_out : Sends w (step w Request) s (request s.heard Request) × IsAsker (step w Request) s × IsTraced (step w Request)
   goes_out =
@@ -165,14 +167,15 @@ sends_on w mid after s sends rest one two = record {
       };
 }
 
--- lines that are left go out, one after the other
-pub all_go_out : (w : World) (s : ClientState) → IsAsker w s → IsTraced w → (es : List Event) → ((e : Event) → Member e es → Member e (left s))
-    → Sends w (run_from w (map (event_with_floor (floor_for (left s))) es)) s (request_letters s.heard (floor_for (left s)) es)
-    × IsAsker (run_from w (map (event_with_floor (floor_for (left s))) es)) s
-    × IsTraced (run_from w (map (event_with_floor (floor_for (left s))) es))
-all_go_out w s is traced [] here = (nothing_sends w s, is, traced)
-all_go_out w s is traced (e ∷ es) here =
-    let one = goes_out w s is traced e (here e (inl refl)) in
-    let first = event_with_floor (floor_for (left s)) e in
-    let rest = all_go_out (step w first) s one.1 one.2 es (λ x m. here x (inr m)) in
-    (sends_on w (step w first) (run_from w (map (event_with_floor (floor_for (left s))) (e ∷ es))) s (request s.heard first) (request_letters s.heard (floor_for (left s)) es) one.0 rest.0, rest.1, rest.2)
+-- lines that are left go out, perhaps to others, one after the other
+pub all_go_out : (w : World) (s : ClientState) → IsAsker w s → IsTraced w → (o : Option ℕ) (es : List Event) → ((e : Event) → Member e es → Member e (left s))
+    → Sends w (run_from w (map (event_with_floor (floor_for (left s))) (map (shifted s.cluster o) es))) s (request_letters s.heard (floor_for (left s)) (map (shifted s.cluster o) es))
+    × IsAsker (run_from w (map (event_with_floor (floor_for (left s))) (map (shifted s.cluster o) es))) s
+    × IsTraced (run_from w (map (event_with_floor (floor_for (left s))) (map (shifted s.cluster o) es)))
+all_go_out w s is traced o [] here = (nothing_sends w s, is, traced)
+all_go_out w s is traced o (e ∷ es) here =
+    let one = goes_out w s is traced o e (here e (inl refl)) in
+    let first = sent_as s.cluster o (floor_for (left s)) e in
+    let rest = all_go_out (step w first) s one.1 one.2 o es (λ x m. here x (inr m)) in
+    let after = run_from w (map (event_with_floor (floor_for (left s))) (map (shifted s.cluster o) (e ∷ es))) in
+    (sends_on w (step w first) after s (request s.heard first) (request_letters s.heard (floor_for (left s)) (map (shifted s.cluster o) es)) one.0 rest.0, rest.1, rest.2)

@@ -10,10 +10,9 @@ use Rattle.cx_base.specs.declared.role.RoleId.{RoleId}
 use Rattle.cx_base.specs.Role.{same_role}
 use Rattle.cx_inv_open.specs.Reopened.{stored_as}
 use Rattle.cx_inv_run.specs.Kinds.{OfKind}
-use Rattle.cx_inv_run.specs.States.{State, BatcherIn, LeaderIn, ProxyIn, ReplicaIn, ReaderIn, ReplacerIn, plain, state_found, states_of}
+use Rattle.cx_inv_run.specs.States.{State, BatcherIn, LeaderIn, ProxyIn, ReplicaIn, ReaderIn, ReplacerIn, plain, plain_volatile, batcher_volatile, leader_volatile, proxy_volatile, replica_volatile, reader_volatile, replacer_volatile}
 use Rattle.cx_inv_run.proofs.Senders.{acceptor_kinds, batcher_kinds, matchmaker_kinds, proxy_kinds, reader_kinds, replica_kinds, unbatcher_kinds}
 use Rattle.cx_inv_run.proofs.LeaderSenders.{leader_kinds, replacer_kinds}
-use Rattle.cx_inv_run.proofs.Steps.{Place, batchers, leaders, proxies, acceptors, matchmakers, replicas, unbatchers, readers, replacers}
 use Rattle.cx_keep.specs.Keeper.{Append, Renewal}
 use Rattle.cx_model.specs.Acceptor.{acceptor_rules}
 use Rattle.cx_model.specs.Batcher.{batcher_rules}
@@ -28,8 +27,9 @@ use Rattle.cx_model.specs.Reader.{reader_rules}
 use Rattle.cx_model.specs.Replacer.{replacer_rules}
 use Rattle.cx_model.specs.Replica.{ReplicaDurable, ReplicaVolatile, replica_renewed, replica_rules}
 use Rattle.cx_model.specs.Rules.{Rules, Running, folded, folded_from, outcome_of, running_after, with_kept}
+use Rattle.cx_model.specs.Turn.{turn}
 use Rattle.cx_model.specs.Unbatcher.{unbatcher_rules}
-use Rattle.cx_model.specs.World.{World, Roles, act_at, act_of, change, changed, durable_part, kept_by, list_of, run_from, step, turn_at}
+use Rattle.cx_model.specs.World.{World, act_at, act_of, change, changed, durable_part, kept_by, list_of, run_from, step}
 use Rattle.cx_letter.specs.Letter.{Letter}
 use Rattle.cx_letter.specs.declared.input.Act.{Act}
 use Rattle.cx_letter.specs.declared.input.Act.TheVariants as act
@@ -62,46 +62,6 @@ pub record Lands (w : World) (events : List Event) (me : RoleId) (x : Step) : Ty
   pub may : MayWrite me.kind what
   pub next : (y : Written) → what ≡ Some y → (e : Event) × ((change w e).kept ≡ kept_by me (Some y))
   pub answers : (d : Letter) → Member d x.answers → DeliversOneOf w events d
-
--- ---- a role that runs stands in the list of its kind
-
-abbrev Stands : {V : Type 0} → (V → State) → Type 0
-Stands {V} make = (o : Option (Option V)) (v : V) → state_found make o ≡ make v → o ≡ Some (Some v)
-
-has_batcher : Stands BatcherIn
-has_batcher None v e = cc
-has_batcher (Some None) v e = cc
-has_batcher (Some (Some u)) v e = cc
-
-has_leader : Stands LeaderIn
-has_leader None v e = cc
-has_leader (Some None) v e = cc
-has_leader (Some (Some u)) v e = cc
-
-has_proxy : Stands ProxyIn
-has_proxy None v e = cc
-has_proxy (Some None) v e = cc
-has_proxy (Some (Some u)) v e = cc
-
-has_replica : Stands ReplicaIn
-has_replica None v e = cc
-has_replica (Some None) v e = cc
-has_replica (Some (Some u)) v e = cc
-
-has_reader : Stands ReaderIn
-has_reader None v e = cc
-has_reader (Some None) v e = cc
-has_reader (Some (Some u)) v e = cc
-
-has_replacer : Stands ReplacerIn
-has_replacer None v e = cc
-has_replacer (Some None) v e = cc
-has_replacer (Some (Some u)) v e = cc
-
-has_plain : Stands plain
-has_plain None v e = cc
-has_plain (Some None) v e = cc
-has_plain (Some (Some u)) v e = refl
 
 -- ---- the list in the store
 
@@ -138,16 +98,15 @@ pub record IsAct (w : World) (e : Event) (a : Act) (me : RoleId) : Type 0 where
   pub change : change w e ≡ act_at w a me
   pub plain : IsPlain w e
 
-module _ {D V : Type 0} (k : Kind) (make : V → State) (at : Place V k make) (rules : Rules D V) (kind_is : rules.kind ≡ k) (other : k ≡ kind.Client → ⊥)
-    (has : Stands make)
-    (acts : (c : Cluster) (roles : Roles) (kept : List KeptRecord) (a : Act) (me : RoleId)
-    → act_of c roles kept a me k ≡ changed me (at.put roles ((turn_at rules c me kept a (at.of roles)).roles)) (turn_at rules c me kept a (at.of roles)))
+module _ {D V : Type 0} (k : Kind) (make : V → State) (get : State → Option V) (got : (v : V) → get (make v) ≡ Some v) (rules : Rules D V) (kind_is : rules.kind ≡ k) (other : k ≡ kind.Client → ⊥)
+    (acts : (c : Cluster) (roles : RoleId → State) (kept : List KeptRecord) (a : Act) (me : RoleId)
+    → act_of c roles kept a me k ≡ changed make me roles (turn rules c me (durable_part rules me kept) a (get (roles me))))
     (wrap : Running D V → Hosted) (alike : (w : World) (s : Running D V) → IsRole rules make w s → IsAlike w (wrap s)) (name : (s : Running D V) → name_of (wrap s) ≡ s.me) where
   row_lands : (w : World) (s : Running D V) (i : Input) (e : Event) → IsTraced w → IsRole rules make w s → IsAct w e (act.Give i Whole) s.me → OfKind s.me (outcome_of rules s i)
       → Lands w (e ∷ []) s.me (by_row rules wrap s i)
   row_lands w s i e traced is this kinds =
       let o = outcome_of rules s i in
-      let m = act_moves k make at rules kind_is has acts w traced s is (act.Give i Whole) (made_by o) (whole_kept o o.kept) e this.plain (λ d m. (kinds.sends d m).0) this.change in
+      let m = act_moves k make get got rules kind_is acts w traced s is (act.Give i Whole) (made_by o) (whole_kept o o.kept) e this.plain (λ d m. (kinds.sends d m).0) this.change in
       record {
         what = option_map written.Record o.kept;
         moves = m.0;
@@ -171,31 +130,31 @@ pub role_lands : (w : World) (h : Hosted) (i : Input) (e : Event) → is_client 
 role_lands w (ClientAt s) i e off traced is this =
     absurd (true≢false (sym (subst (λ r. same_role s.me r ≡ true) is.client.me (same_role-itself s.me)) ∙ off))
 role_lands w (BatcherAt s) i e off traced is this =
-    row_lands kind.Batcher BatcherIn batchers batcher_rules refl (by_code kind.Batcher refl) has_batcher (λ c roles kept a me. refl) BatcherAt (λ w s is. is) (λ s. refl) w s i e traced is this
+    row_lands kind.Batcher BatcherIn batcher_volatile (λ v. refl) batcher_rules refl (by_code kind.Batcher refl) (λ c roles kept a me. refl) BatcherAt (λ w s is. is) (λ s. refl) w s i e traced is this
     (batcher_kinds s.cluster s.me is.kind_is s.volatile i)
 role_lands w (LeaderAt s) i e off traced is this =
-    row_lands kind.Leader LeaderIn leaders leader_rules refl (by_code kind.Leader refl) has_leader (λ c roles kept a me. refl) LeaderAt (λ w s is. is) (λ s. refl) w s i e traced is this
+    row_lands kind.Leader LeaderIn leader_volatile (λ v. refl) leader_rules refl (by_code kind.Leader refl) (λ c roles kept a me. refl) LeaderAt (λ w s is. is) (λ s. refl) w s i e traced is this
     (leader_kinds s.cluster s.me is.kind_is s.durable s.volatile i)
 role_lands w (ProxyAt s) i e off traced is this =
-    row_lands kind.Proxy ProxyIn proxies proxy_rules refl (by_code kind.Proxy refl) has_proxy (λ c roles kept a me. refl) ProxyAt (λ w s is. is) (λ s. refl) w s i e traced is this
+    row_lands kind.Proxy ProxyIn proxy_volatile (λ v. refl) proxy_rules refl (by_code kind.Proxy refl) (λ c roles kept a me. refl) ProxyAt (λ w s is. is) (λ s. refl) w s i e traced is this
     (proxy_kinds s.cluster s.me is.kind_is s.volatile i)
 role_lands w (AcceptorAt s) i e off traced is this =
-    row_lands kind.Acceptor plain acceptors acceptor_rules refl (by_code kind.Acceptor refl) has_plain (λ c roles kept a me. refl) AcceptorAt (λ w s is. is) (λ s. refl) w s i e traced is this
+    row_lands kind.Acceptor plain plain_volatile (λ v. refl) acceptor_rules refl (by_code kind.Acceptor refl) (λ c roles kept a me. refl) AcceptorAt (λ w s is. is) (λ s. refl) w s i e traced is this
     (acceptor_kinds s.cluster s.me is.kind_is s.durable i)
 role_lands w (MatchmakerAt s) i e off traced is this =
-    row_lands kind.Matchmaker plain matchmakers matchmaker_rules refl (by_code kind.Matchmaker refl) has_plain (λ c roles kept a me. refl) MatchmakerAt (λ w s is. is) (λ s. refl) w s i e traced is this
+    row_lands kind.Matchmaker plain plain_volatile (λ v. refl) matchmaker_rules refl (by_code kind.Matchmaker refl) (λ c roles kept a me. refl) MatchmakerAt (λ w s is. is) (λ s. refl) w s i e traced is this
     (matchmaker_kinds s.cluster s.me is.kind_is s.durable i)
 role_lands w (ReplicaAt s) i e off traced is this =
-    row_lands kind.Replica ReplicaIn replicas replica_rules refl (by_code kind.Replica refl) has_replica (λ c roles kept a me. refl) ReplicaAt (λ w s is. is) (λ s. refl) w s i e traced is this
+    row_lands kind.Replica ReplicaIn replica_volatile (λ v. refl) replica_rules refl (by_code kind.Replica refl) (λ c roles kept a me. refl) ReplicaAt (λ w s is. is) (λ s. refl) w s i e traced is this
     (replica_kinds s.cluster s.me is.kind_is s.durable s.volatile i)
 role_lands w (UnbatcherAt s) i e off traced is this =
-    row_lands kind.Unbatcher plain unbatchers unbatcher_rules refl (by_code kind.Unbatcher refl) has_plain (λ c roles kept a me. refl) UnbatcherAt (λ w s is. is) (λ s. refl) w s i e traced is this
+    row_lands kind.Unbatcher plain plain_volatile (λ v. refl) unbatcher_rules refl (by_code kind.Unbatcher refl) (λ c roles kept a me. refl) UnbatcherAt (λ w s is. is) (λ s. refl) w s i e traced is this
     (unbatcher_kinds s.cluster s.me is.kind_is i)
 role_lands w (ReaderAt s) i e off traced is this =
-    row_lands kind.Reader ReaderIn readers reader_rules refl (by_code kind.Reader refl) has_reader (λ c roles kept a me. refl) ReaderAt (λ w s is. is) (λ s. refl) w s i e traced is this
+    row_lands kind.Reader ReaderIn reader_volatile (λ v. refl) reader_rules refl (by_code kind.Reader refl) (λ c roles kept a me. refl) ReaderAt (λ w s is. is) (λ s. refl) w s i e traced is this
     (reader_kinds s.cluster s.me is.kind_is s.durable s.volatile i)
 role_lands w (ReplacerAt s) i e off traced is this =
-    row_lands kind.Replacer ReplacerIn replacers replacer_rules refl (by_code kind.Replacer refl) has_replacer (λ c roles kept a me. refl) ReplacerAt (λ w s is. is) (λ s. refl) w s i e traced is this
+    row_lands kind.Replacer ReplacerIn replacer_volatile (λ v. refl) replacer_rules refl (by_code kind.Replacer refl) (λ c roles kept a me. refl) ReplacerAt (λ w s is. is) (λ s. refl) w s i e traced is this
     (replacer_kinds s.cluster s.me is.kind_is s.durable s.volatile i)
 
 -- ---- a snap
@@ -225,7 +184,7 @@ module _ (w : World) (s : Running ReplicaDurable ReplicaVolatile) (traced : IsTr
   name_snap (Some b) = refl
 
   snapped_alike : (after : World) (first : Option ℕ) → after.cluster ≡ w.cluster → after.kept ≡ w.kept ++ kept_by s.me (option_map written.Snap first)
-      → states_of after.roles s.me ≡ ReplicaIn s.volatile → IsRole replica_rules ReplicaIn after (snapped_by replica_rules s first)
+      → after.roles s.me ≡ ReplicaIn s.volatile → IsRole replica_rules ReplicaIn after (snapped_by replica_rules s first)
   snapped_alike after None cluster kept state = record {
     cluster = is.cluster ∙ sym cluster;
     kind_is = is.kind_is;
@@ -244,7 +203,7 @@ module _ (w : World) (s : Running ReplicaDurable ReplicaVolatile) (traced : IsTr
   pub snap_lands : (e : Event) → IsAct w e (act.Snap Whole) s.me → Lands w (e ∷ []) s.me (by_snap s (snap_of s))
   snap_lands e this =
       let first = snap_of s in
-      let m = act_moves kind.Replica ReplicaIn replicas replica_rules refl has_replica (λ c roles kept a me. refl) w traced s is (act.Snap Whole) (made_snap s.volatile first) (whole_snap s.volatile first) e
+      let m = act_moves kind.Replica ReplicaIn replica_volatile (λ v. refl) replica_rules refl (λ c roles kept a me. refl) w traced s is (act.Snap Whole) (made_snap s.volatile first) (whole_snap s.volatile first) e
       this.plain (λ d m. absurd m) this.change in
       record {
         what = option_map written.Snap first;

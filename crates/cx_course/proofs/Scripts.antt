@@ -13,8 +13,10 @@ use Rattle.cx_base.specs.declared.event.Event.TheVariants as event
 use Rattle.cx_base.specs.declared.event.Happened.{Happened}
 use Rattle.cx_base.specs.Asked.{floor_fits, is_valid_event}
 use Rattle.cx_base.specs.Same.{same_op}
+use Rattle.cx_client.specs.Asking.{shifted}
 use Rattle.cx_client.specs.Client.{ClientState, left}
 use Rattle.cx_client.specs.Window.{floor_for, event_with_floor}
+use Rattle.cx_client.proofs.Shifted.{named_shifted}
 use Rattle.cx_field.specs.declared.parts.Token.{Token}
 use Rattle.cx_inv_run.proofs.Members.{all-Member}
 use Rattle.cx_model.specs.Lists.{same_number, number_itself}
@@ -35,43 +37,46 @@ op_itself (Put k t) = and_from _ _ (bytes_itself k) (bytes_itself t)
 op_itself (Del k) = bytes_itself k
 op_itself (App k t) = and_from _ _ (bytes_itself k) (bytes_itself t)
 
--- ---- a line with a floor
+-- ---- a line with a floor, perhaps to others
+
+abbrev pub sent_as : Cluster → Option ℕ → ℕ → Event → Event
+sent_as c o floor e = event_with_floor floor (shifted c o e)
 
 abbrev pub token_by : ℕ → ℕ → Token
 token_by client seq = record { client = client; seq = seq }
 
 -- a client's own request has its token
-pub own_token : (client floor : ℕ) (e : Event) → asks client e ≡ true → token_of (event_with_floor floor e) ≡ Some (token_by client (number_of e))
-own_token client floor (event.Write command batcher) is = ap (λ n. Some (token_by n command.seq)) (same_number command.client client is)
-own_token client floor (event.Read other seq before reader replica key) is = ap (λ n. Some (token_by n seq)) (same_number other client is)
-own_token client floor (event.Session other seq before replica key) is = ap (λ n. Some (token_by n seq)) (same_number other client is)
-own_token client floor (event.Deliver number cut) is = cc
-own_token client floor (event.Tick r) is = cc
-own_token client floor (event.Order l order cut) is = cc
-own_token client floor (event.Replace replacer set cut) is = cc
-own_token client floor (event.Snap p cut) is = cc
-own_token client floor (event.Crash r) is = cc
-own_token client floor (event.Restart r) is = cc
+pub own_token : (c : Cluster) (o : Option ℕ) (client floor : ℕ) (e : Event) → asks client e ≡ true → token_of (sent_as c o floor e) ≡ Some (token_by client (number_of e))
+own_token c o client floor (event.Write command batcher) is = ap (λ n. Some (token_by n command.seq)) (same_number command.client client is)
+own_token c o client floor (event.Read other seq before reader replica key) is = ap (λ n. Some (token_by n seq)) (same_number other client is)
+own_token c o client floor (event.Session other seq before replica key) is = ap (λ n. Some (token_by n seq)) (same_number other client is)
+own_token c o client floor (event.Deliver number cut) is = cc
+own_token c o client floor (event.Tick r) is = cc
+own_token c o client floor (event.Order l order cut) is = cc
+own_token c o client floor (event.Replace replacer set cut) is = cc
+own_token c o client floor (event.Snap p cut) is = cc
+own_token c o client floor (event.Crash r) is = cc
+own_token c o client floor (event.Restart r) is = cc
 
--- of a line that has a token, a request that tells a floor has its number, and asks the same with each other floor
-pub record IsLine (line : Event) (floor : ℕ) (t : Token) : Type 0 where
+-- of a line that has a token, a request that tells a floor has its number, and asks the same with each other floor, whoever is asked
+pub record IsLine (c : Cluster) (o : Option ℕ) (line : Event) (floor : ℕ) (t : Token) : Type 0 where
   pub seq : t.seq ≡ number_of line
-  pub floor_is : floor_in (event_with_floor floor line) ≡ floor
-  pub same : (other : ℕ) → same_request (event_with_floor other line) (event_with_floor floor line) ≡ true
+  pub floor_is : floor_in (sent_as c o floor line) ≡ floor
+  pub same : (other : ℕ) (p : Option ℕ) → same_request (sent_as c p other line) (sent_as c o floor line) ≡ true
 
-line_of : (line : Event) (floor : ℕ) (t : Token) → token_of (event_with_floor floor line) ≡ Some t → IsLine line floor t
-line_of (event.Write command batcher) floor t is = record { seq = ap (λ (u : Token). u.seq) (sym (same_Some _ _ is)); floor_is = refl; same = λ other. op_itself command.op }
-line_of (event.Read client seq before reader replica key) floor t is = record { seq = ap (λ (u : Token). u.seq) (sym (same_Some _ _ is)); floor_is = refl; same = λ other. bytes_itself key }
-line_of (event.Session client seq before replica key) floor t is = record { seq = ap (λ (u : Token). u.seq) (sym (same_Some _ _ is)); floor_is = refl; same = λ other. bytes_itself key }
-line_of (event.Deliver number cut) floor t is = absurd (none-some t is)
-line_of (event.Tick r) floor t is = absurd (none-some t is)
-line_of (event.Order l order cut) floor t is = absurd (none-some t is)
-line_of (event.Replace replacer set cut) floor t is = absurd (none-some t is)
-line_of (event.Snap p cut) floor t is = absurd (none-some t is)
-line_of (event.Crash r) floor t is = absurd (none-some t is)
-line_of (event.Restart r) floor t is = absurd (none-some t is)
+line_of : (c : Cluster) (o : Option ℕ) (line : Event) (floor : ℕ) (t : Token) → token_of (sent_as c o floor line) ≡ Some t → IsLine c o line floor t
+line_of c o (event.Write command batcher) floor t is = record { seq = ap (λ (u : Token). u.seq) (sym (same_Some _ _ is)); floor_is = refl; same = λ other p. op_itself command.op }
+line_of c o (event.Read client seq before reader replica key) floor t is = record { seq = ap (λ (u : Token). u.seq) (sym (same_Some _ _ is)); floor_is = refl; same = λ other p. bytes_itself key }
+line_of c o (event.Session client seq before replica key) floor t is = record { seq = ap (λ (u : Token). u.seq) (sym (same_Some _ _ is)); floor_is = refl; same = λ other p. bytes_itself key }
+line_of c o (event.Deliver number cut) floor t is = absurd (none-some t is)
+line_of c o (event.Tick r) floor t is = absurd (none-some t is)
+line_of c o (event.Order l order cut) floor t is = absurd (none-some t is)
+line_of c o (event.Replace replacer set cut) floor t is = absurd (none-some t is)
+line_of c o (event.Snap p cut) floor t is = absurd (none-some t is)
+line_of c o (event.Crash r) floor t is = absurd (none-some t is)
+line_of c o (event.Restart r) floor t is = absurd (none-some t is)
 
--- it names what the line names
+-- it names what it named without the floor
 pub names_telling : (c : Cluster) (floor : ℕ) (e : Event) → names_event c (event_with_floor floor e) ≡ names_event c e
 names_telling c floor (event.Write command batcher) = refl
 names_telling c floor (event.Read client seq before reader replica key) = refl
@@ -85,24 +90,28 @@ names_telling c floor (event.Crash r) = refl
 names_telling c floor (event.Restart r) = refl
 
 -- and is valid where the floor fits its number
-pub valid_telling : (floor : ℕ) (e : Event) → floor_fits (number_of e) floor ≡ true → is_valid_event (event_with_floor floor e) ≡ true
-valid_telling floor (event.Write command batcher) fits = fits
-valid_telling floor (event.Read client seq before reader replica key) fits = fits
-valid_telling floor (event.Session client seq before replica key) fits = fits
-valid_telling floor (event.Deliver number cut) fits = refl
-valid_telling floor (event.Tick r) fits = refl
-valid_telling floor (event.Order l order cut) fits = refl
-valid_telling floor (event.Replace replacer set cut) fits = refl
-valid_telling floor (event.Snap p cut) fits = refl
-valid_telling floor (event.Crash r) fits = refl
-valid_telling floor (event.Restart r) fits = refl
+valid_telling : (c : Cluster) (o : Option ℕ) (floor : ℕ) (e : Event) → floor_fits (number_of e) floor ≡ true → is_valid_event (sent_as c o floor e) ≡ true
+valid_telling c o floor (event.Write command batcher) fits = fits
+valid_telling c o floor (event.Read client seq before reader replica key) fits = fits
+valid_telling c o floor (event.Session client seq before replica key) fits = fits
+valid_telling c o floor (event.Deliver number cut) fits = refl
+valid_telling c o floor (event.Tick r) fits = refl
+valid_telling c o floor (event.Order l order cut) fits = refl
+valid_telling c o floor (event.Replace replacer set cut) fits = refl
+valid_telling c o floor (event.Snap p cut) fits = refl
+valid_telling c o floor (event.Crash r) fits = refl
+valid_telling c o floor (event.Restart r) fits = refl
 
 -- and can be recorded as the line can
-pub recordable_telling : (c : Cluster) (floor : ℕ) (e : Event) → IsRecordable c e → floor_fits (number_of e) floor ≡ true → IsRecordable c (event_with_floor floor e)
-recordable_telling c floor e line fits =
-    record { ranges = ranges e line.ranges; valid = valid_telling floor e fits; named = names_telling c floor e ∙ line.named; complete = stays_complete e line.complete }
+pub recordable_telling : (c : Cluster) (o : Option ℕ) (floor : ℕ) (e : Event) → IsRecordable c e → floor_fits (number_of e) floor ≡ true → IsRecordable c (sent_as c o floor e)
+recordable_telling c o floor e line fits = record {
+  ranges = ranges e line.ranges;
+  valid = valid_telling c o floor e fits;
+  named = names_telling c floor (shifted c o e) ∙ named_shifted c o e line.named;
+  complete = stays_complete e line.complete;
+}
   where
-    ranges : (e : Event) → HasRanges e → HasRanges (event_with_floor floor e)
+    ranges : (e : Event) → HasRanges e → HasRanges (sent_as c o floor e)
     ranges (event.Write command batcher) is = is
     ranges (event.Read client seq before reader replica key) is = is
     ranges (event.Session client seq before replica key) is = is
@@ -114,7 +123,7 @@ recordable_telling c floor e line fits =
     ranges (event.Crash r) is = is
     ranges (event.Restart r) is = is
 
-    stays_complete : (e : Event) → tells_all e ≡ true → tells_all (event_with_floor floor e) ≡ true
+    stays_complete : (e : Event) → tells_all e ≡ true → tells_all (sent_as c o floor e) ≡ true
     stays_complete (event.Write command batcher) is = is
     stays_complete (event.Read client seq before reader replica key) is = is
     stays_complete (event.Session client seq before replica key) is = is
@@ -158,18 +167,18 @@ token_past t (Some u) floor is =
 
 -- ---- no line that is left is stale
 
-module _ (w : World) (s : ClientState) (is : IsAsker w s) (e : Event) (here : Member e (left s)) where
+module _ (w : World) (s : ClientState) (is : IsAsker w s) (o : Option ℕ) (e : Event) (here : Member e (left s)) where
   abbrev pub Mine : Token
   Mine = token_by s.me.index (number_of e)
 
   abbrev pub Out : Event
-  Out = event_with_floor (floor_for (left s)) e
+  Out = sent_as s.cluster o (floor_for (left s)) e
 
   pub its_own : asks s.me.index e ≡ true
   its_own = all-Member (asks s.me.index) (left s) is.client.script.own e here
 
   pub its_token : token_of Out ≡ Some Mine
-  its_token = own_token s.me.index (floor_for (left s)) e its_own
+  its_token = own_token s.cluster o s.me.index (floor_for (left s)) e its_own
 
   its_line : Member e s.script
   its_line = dropped s.done e s.script here
@@ -178,15 +187,16 @@ module _ (w : World) (s : ClientState) (is : IsAsker w s) (e : Event) (here : Me
   asks_same : (h : Happened) (u : Token) → Member h w.events → was_sent h ≡ true → token_of h.event ≡ Some u → u.client ≡ s.me.index → u.seq ≡ number_of e → same_request Out h.event ≡ true
   asks_same h u m sent token client seq =
       let told = is.asked h u m sent token client in
-      let line = line_of told.line told.floor u (ap token_of (sym told.is) ∙ token) in
+      let line = line_of s.cluster told.shift told.line told.floor u (ap token_of (sym told.is) ∙ token) in
       let same : told.line ≡ e = is.one_line told.line e told.own its_line (sym line.seq ∙ seq) in
-      ap (same_request Out) told.is ∙ subst (λ (x : Event). same_request (event_with_floor (floor_for (left s)) x) (event_with_floor told.floor told.line) ≡ true) same (line.same (floor_for (left s)))
+      ap (same_request Out) told.is
+      ∙ subst (λ (x : Event). same_request (sent_as s.cluster o (floor_for (left s)) x) (sent_as s.cluster told.shift told.floor told.line) ≡ true) same (line.same (floor_for (left s)) o)
 
   -- and each tells a floor below its number
   tells_below : (h : Happened) (u : Token) → Member h w.events → was_sent h ≡ true → token_of h.event ≡ Some u → u.client ≡ s.me.index → floor_in h.event < number_of e
   tells_below h u m sent token client =
       let told = is.asked h u m sent token client in
-      let line = line_of told.line told.floor u (ap token_of (sym told.is) ∙ token) in
+      let line = line_of s.cluster told.shift told.line told.floor u (ap token_of (sym told.is) ∙ token) in
       subst (λ (n : ℕ). n < number_of e) (sym (ap floor_in told.is ∙ line.floor_is)) (told.below e here)
 
   never_other : list_any (λ (h : Happened). was_sent h && same_token Mine (token_of h.event) && not (same_request Out h.event)) w.events ≡ false

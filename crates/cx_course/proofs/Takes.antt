@@ -1,5 +1,5 @@
 -- What a datagram does to a hosted client, beside its delivery in the model.
-use Rattle.std.proofs.Common.{◌≡◌, ◌+◌, ◌&&◌, ℕ, zero, suc, Bool, true, false, not, ◌⊎◌, List, [], ◌∷◌, ◌++◌, append_assoc, drop, filter, length, max, take, Option, None, Some, ap, sym, ◌∙◌, subst, refl, inl, inr, arith, append-nil, eqb-true}
+use Rattle.std.proofs.Common.{◌≡◌, ◌+◌, ◌&&◌, ℕ, zero, suc, Bool, true, false, not, ◌⊎◌, List, [], ◌∷◌, ◌++◌, append_assoc, drop, filter, length, map, max, take, Option, None, Some, ap, sym, ◌∙◌, subst, refl, inl, inr, arith, append-nil, eqb-true}
 use Rattle.std.specs.Prelude.{slice_get, if◌then◌else◌}
 use Rattle.std.proofs.lemmas.Bool.{cases_Bool}
 use Rattle.std.proofs.lemmas.List.{drop_at, length-take-le, length_push}
@@ -15,9 +15,11 @@ use Rattle.cx_base.specs.declared.role.RoleId.{RoleId}
 use Rattle.cx_base.specs.declared.why.Why.{Why}
 use Rattle.cx_base.specs.declared.why.Why.TheVariants as why
 use Rattle.cx_base.specs.Role.{role, same_role}
-use Rattle.cx_client.specs.Client.{ClientMoved, ClientState, answer_number, client_completes, client_hears, client_takes, client_ticks, client_told, client_waits, after_completion, hearing, left, client_stays}
-use Rattle.cx_client.specs.Window.{floor_for, has_number, is_outstanding, newly, outstanding, request_letters, without_request}
-use Rattle.cx_client.proofs.Steps.{completed_is_client}
+use Rattle.cx_client.specs.Asking.{one_further, shifted}
+use Rattle.cx_client.specs.Client.{ClientMoved, ClientState, again, answer_number, client_completes, client_hears, client_takes, client_ticks, client_told, client_waits, after_completion, hearing, left, client_stays}
+use Rattle.cx_client.specs.Window.{event_with_floor, floor_for, has_number, is_outstanding, newly, outstanding, request_letters, without_request}
+use Rattle.cx_client.proofs.Shifted.{all_itself}
+use Rattle.cx_client.proofs.Steps.{completed_is_client, further_is_client}
 use Rattle.cx_client.proofs.Windows.{is_left, only_one, taken}
 use Rattle.cx_inv_run.proofs.Members.{Member-cases, Member-filter, Member-first, Member-second, any-Member, filter-Member}
 use Rattle.cx_model.specs.Heard.{heard_at, heard_by, mark_told, told_to}
@@ -38,9 +40,16 @@ use Rattle.cx_course.proofs.Hearing.{IsThere, heard_then, is_there, spares, told
 use Rattle.cx_course.proofs.Requests.{Sends, step_is}
 use Rattle.cx_course.proofs.Scripts.{dropped}
 
--- a request that was told is told by a client whose script has the same lines, and of which no more are left
-told_on : (s t : ClientState) (e : Event) → IsTold s e → ((l : Event) → Member l s.script → Member l t.script) → ((l : Event) → Member l (left t) → Member l (left s)) → IsTold t e
-told_on s t e told lines fewer = record { line = told.line; floor = told.floor; own = lines told.line told.own; is = told.is; below = λ l m. told.below l (fewer l m) }
+-- a request that was told is told by a client of the same cluster whose script has the same lines, and of which no more are left
+told_on : (s t : ClientState) (e : Event) → IsTold s e → t.cluster ≡ s.cluster → ((l : Event) → Member l s.script → Member l t.script) → ((l : Event) → Member l (left t) → Member l (left s)) → IsTold t e
+told_on s t e told same lines fewer = record {
+  line = told.line;
+  floor = told.floor;
+  shift = told.shift;
+  own = lines told.line told.own;
+  is = told.is ∙ ap (λ c. event_with_floor told.floor (shifted c told.shift told.line)) (sym same);
+  below = λ l m. told.below l (fewer l m);
+}
 
 -- a line is in front, or left
 parted : (n : ℕ) (e : Event) (es : List Event) → Member e es → Member e (take n es) ⊎ Member e (drop n es)
@@ -105,7 +114,7 @@ module _ (w : World) (s : ClientState) (is : IsAsker w s) (traced : IsTraced w) 
     named = is.named;
     lines = is.lines;
     one_line = is.one_line;
-    asked = λ h t m sent token mine. told_on s Then h.event (is.asked h t (asks_none h t m token) sent token mine) (λ l m. m) (λ l m. m);
+    asked = λ h t m sent token mine. told_on s Then h.event (is.asked h t (asks_none h t m token) sent token mine) refl (λ l m. m) (λ l m. m);
     heard = heard_so;
   }
 
@@ -219,30 +228,34 @@ module _ (w : World) (s : ClientState) (is : IsAsker w s) (n : ℕ) (out : is_ou
     named = is.named;
     lines = λ l m. is.lines l (lines_before l m);
     one_line = λ a b m o same. is.one_line a b (lines_before a m) (lines_before b o) same;
-    asked = λ h t m sent token mine. told_on s (after_completion n s) h.event (is.asked h t m sent token mine) lines_then still_left;
+    asked = λ h t m sent token mine. told_on s (after_completion n s) h.event (is.asked h t m sent token mine) refl lines_then still_left;
     heard = is.heard;
   }
 
--- What a move of a client comes to: some of its outstanding lines go out, with the floor that it then tells.
+-- What a move of a client comes to: some of its outstanding lines go out, perhaps to others, with the floor that it then tells.
 pub record Asks (w : World) (s : ClientState) (m : ClientMoved) : Type 0 where
   pub asker : IsAsker w m.state
   pub me : m.state.me ≡ s.me
   pub lines : List Event
+  pub shift : Option ℕ
   pub out : (e : Event) → Member e lines → Member e (outstanding m.state.window (left m.state))
-  pub sends : m.sends ≡ request_letters m.state.heard (floor_for (left m.state)) lines
+  pub sends : m.sends ≡ request_letters m.state.heard (floor_for (left m.state)) (map (shifted m.state.cluster shift) lines)
 
 pub stays_so : (w : World) (s t : ClientState) (y : Why) → IsAsker w t → t.me ≡ s.me → Asks w s (client_stays y t)
-stays_so w s t y is me = record { asker = is; me = me; lines = []; out = λ e m. absurd m; sends = refl }
+stays_so w s t y is me = record { asker = is; me = me; lines = []; shift = None; out = λ e m. absurd m; sends = refl }
 
 completes_so : (w : World) (t : ClientState) (n : ℕ) → IsAsker w t → is_outstanding t.window (left t) n ≡ true → Asks w t (client_completes n t)
 completes_so w t n is out = record {
   asker = asks_then w t is n out;
   me = refl;
   lines = newly t.window n (left t);
+  shift = None;
   out = λ e m.
       subst (λ (es : List Event). Member e (outstanding t.window es)) (sym (left_then w t is n out))
       (Member-filter (λ (x : Event). not (is_outstanding t.window (left t) (number_of x))) e (outstanding t.window (without_request n (left t))) m).0;
-  sends = ap (λ (es : List Event). request_letters t.heard (floor_for es) (newly t.window n (left t))) (sym (left_then w t is n out));
+  sends =
+      ap (λ (es : List Event). request_letters t.heard (floor_for es) (newly t.window n (left t))) (sym (left_then w t is n out))
+      ∙ ap (request_letters t.heard (floor_for (left (after_completion n t)))) (sym (all_itself t.cluster (newly t.window n (left t))));
 }
 
 hears_so_far : (w : World) (t : ClientState) (n : ℕ) → IsAsker w t → Asks w t (client_hears t n)
@@ -288,18 +301,31 @@ module _ (w : World) (s : ClientState) (d : Letter) (from : names_role s.cluster
       told : (answer : IsAnswer d.msg) → Asks w s (client_hears (hearing (mark_told d.msg) s) answer.number)
       told answer =
           let a = hears_so_far w (hearing (mark_told d.msg) s) answer.number is in
-          record { asker = a.asker; me = a.me; lines = a.lines; out = a.out; sends = a.sends }
+          record { asker = a.asker; me = a.me; lines = a.lines; shift = a.shift; out = a.out; sends = a.sends }
 
--- a tick sends what is outstanding, if something is
+-- a client that asks again stands as before
+asks_again : (w : World) (s : ClientState) → IsAsker w s → IsAsker w (again s)
+asks_again w s is = record {
+  client = further_is_client (unheard s) (one_further s.shift) is.client;
+  cluster = is.cluster;
+  named = is.named;
+  lines = is.lines;
+  one_line = is.one_line;
+  asked = λ h t m sent token mine. told_on s (again s) h.event (is.asked h t m sent token mine) refl (λ l m. m) (λ l m. m);
+  heard = is.heard;
+}
+
+-- a tick sends what is outstanding, if something is, where the client asks others to the next ones
 pub ticks_so : (w : World) (s : ClientState) → IsAsker w s → Asks w s (client_ticks s)
 ticks_so w s is = go (outstanding s.window (left s)) refl
   where
     go : (es : List Event) → outstanding s.window (left s) ≡ es → Asks w s (client_waits s es)
     go [] none = stays_so w s s why.Idle is refl
     go (e ∷ es) some = record {
-      asker = is;
+      asker = asks_again w s is;
       me = refl;
       lines = e ∷ es;
+      shift = one_further s.shift;
       out = λ x m. subst (λ (xs : List Event). Member x xs) (sym some) m;
       sends = refl;
     }

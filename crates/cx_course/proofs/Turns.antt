@@ -30,7 +30,7 @@ use Rattle.cx_course.specs.Action.{Action, noted_in, sent_in}
 use Rattle.cx_course.specs.Course.{Course, Moved, does_at, stays, then_do}
 use Rattle.cx_course.specs.Hosted.{Hosted, name_of}
 use Rattle.cx_course.specs.Run.{TakeResults, all_do, at_place, brings, brought, comes, first_do, grid_of, idle_at, is_client, lead_at, ordered, hosted_place, prepared, snaps, ticked, node_turn, turns_from, untended_run}
-use Rattle.cx_course.specs.Tending.{Care, Tended, all_completed, asks_again, beat, beat_over, brings_heeded, clients_noted, clients_tended, collected, care_after_turn, first_leader, flushed, gets, heeded, held_by_role, in_turn, is_beat, is_of_kind, is_overtaken, is_so, is_time, kind_ticks, leader_asked, leader_cared, leader_tended, next_pass, node_run, others_tick, passes, reported, standing_of, tend_comes, tend_ordered, tend_prepared, tended_run, tended_turn, those_tick, ticks_if, turn_ended, untended, within}
+use Rattle.cx_course.specs.Tending.{Care, Tended, all_completed, asks_again, awaits_votes_at, beat, beat_over, brings_heeded, clients_noted, clients_tended, collected, care_after_turn, first_leader, gets, heeded, held_by_role, in_turn, is_beat, is_of_kind, is_overtaken, is_so, is_time, kind_ticks, leader_asked, leader_cared, leader_tended, next_pass, node_run, others_tick, passes, paused, reported, standing_of, tend_comes, tend_ordered, tend_prepared, tended_run, tended_turn, those_tick, ticks_behind, ticks_if, turn_ended, untended, within}
 use Rattle.cx_course.proofs.Doings.{IsFair, IsOrder}
 use Rattle.cx_course.proofs.Following.{Stands}
 use Rattle.cx_course.proofs.Grids.{change_is_order, collect_is_order, lead_is_order}
@@ -228,10 +228,10 @@ module _ (c : Cluster) where
   unfolding tend_prepared
   tend_prepared_go n p s st = then_go self self c p (tend_ordered c n s) (λ led. snaps n led) (tend_ordered_go n p s st) (λ q now. snaps_go n q ((tend_ordered c n s).next) now)
 
-  reported_go : (who : RoleId) (before : ℕ) → Keeps c (reported who before)
+  reported_go : (from who : RoleId) (before : ℕ) → Keeps c (reported from who before)
   unfolding reported
-  reported_go who before p s st =
-      pick self p (nat_lt (before / 8) (held_by_role who s.hosted / 8)) (at_place (hosted_place who s.hosted) (Give 0 input.Tick) s) (stays s)
+  reported_go from who before p s st =
+      pick self p (ticks_behind from before (held_by_role who s.hosted)) (at_place (hosted_place who s.hosted) (Give 0 input.Tick) s) (stays s)
       (place_go (hosted_place who s.hosted) (Give 0 input.Tick) ticks_free p s st) (stays_go self c p s st)
 
   given_if : (b : Bool) (o : Order) → IsGiven o → AreGiven (if b then Some o else None)
@@ -248,11 +248,11 @@ module _ (c : Cluster) where
   unfolding heeded
   heeded_go x p s st sent =
       let a = at_place (hosted_place x.letter.to s.hosted) (Give x.number (input.Take x.letter)) s in
-      let b = reported x.letter.to (held_by_role x.letter.to s.hosted) a.next in
+      let b = reported x.letter.from x.letter.to (held_by_role x.letter.to s.hosted) a.next in
       let own = same_role x.letter.to (role kind.Leader 0) in
-      then_go self self c p a (λ after. then_do (reported x.letter.to (held_by_role x.letter.to s.hosted) after) (λ last. if own then collected last else stays last))
+      then_go self self c p a (λ after. then_do (reported x.letter.from x.letter.to (held_by_role x.letter.to s.hosted) after) (λ last. if own then collected last else stays last))
       (take_go x p s st sent (hosted_place x.letter.to s.hosted) refl) (λ q now.
-      then_go self self c q b (λ last. if own then collected last else stays last) (reported_go x.letter.to (held_by_role x.letter.to s.hosted) q a.next now) (λ r last.
+      then_go self self c q b (λ last. if own then collected last else stays last) (reported_go x.letter.from x.letter.to (held_by_role x.letter.to s.hosted) q a.next now) (λ r last.
       pick self r own (collected b.next) (stays b.next) (collected_go r b.next last) (stays_go self c r b.next last)))
 
   heeds_go : (p : List Action) (s : Course) (bytes : List ℕ) → Stands c (past_of p) s → (o : Option Numbered) → last_sent bytes (sent_in p) ≡ o → Goes self c p (brings_heeded o s)
@@ -265,9 +265,12 @@ module _ (c : Cluster) where
   tend_comes_go (Some bytes) p s st =
       took_go c p s (Some bytes) (brings_heeded (brought s.recorded bytes) s) st (λ q same now. heeds_go q s bytes now (brought s.recorded bytes) (sym (brought_so q s bytes now)))
 
-  flushed_go : (k : Care) (came : Bool) → Keeps c (flushed k came)
-  unfolding flushed
-  flushed_go k came p s st = pick self p (k.came && not came) (kind_ticks kind.Batcher s) (stays s) (kind_go kind.Batcher p s st) (stays_go self c p s st)
+  paused_go : (k : Care) (came : Bool) → Keeps c (paused k came)
+  unfolding paused
+  paused_go k came p s st =
+      let waited = (k.calm == 7) && not came in
+      pick self p (k.came && not came) (kind_ticks kind.Batcher s) (if waited then those_tick (λ i h. awaits_votes_at h) s else stays s) (kind_go kind.Batcher p s st)
+      (pick self p waited (those_tick (λ i h. awaits_votes_at h) s) (stays s) (those_go (λ i h. awaits_votes_at h) p s st) (stays_go self c p s st))
 
   others_go : Keeps c others_tick
   unfolding others_tick
@@ -325,11 +328,11 @@ module _ (c : Cluster) where
   tended_turn_go m n what p t st =
       let a = within (tend_prepared c n) t in
       let b = within (tend_comes what) a.next in
-      let d = within (flushed b.next.care (is_some what)) b.next in
+      let d = within (paused b.next.care (is_some what)) b.next in
       then_go at at c p a
-      (λ a. then_do (within (tend_comes what) a) (λ b. then_do (within (flushed b.care (is_some what)) b) (λ d. turn_ended c m (is_some what) d))) (tend_prepared_go n p t.course st) (λ q now.
-      then_go at at c q b (λ b. then_do (within (flushed b.care (is_some what)) b) (λ d. turn_ended c m (is_some what) d)) (tend_comes_go what q a.next.course now) (λ r mid.
-      then_go at at c r d (λ d. turn_ended c m (is_some what) d) (flushed_go b.next.care (is_some what) r b.next.course mid) (λ v last. ended_go m (is_some what) v d.next last)))
+      (λ a. then_do (within (tend_comes what) a) (λ b. then_do (within (paused b.care (is_some what)) b) (λ d. turn_ended c m (is_some what) d))) (tend_prepared_go n p t.course st) (λ q now.
+      then_go at at c q b (λ b. then_do (within (paused b.care (is_some what)) b) (λ d. turn_ended c m (is_some what) d)) (tend_comes_go what q a.next.course now) (λ r mid.
+      then_go at at c r d (λ d. turn_ended c m (is_some what) d) (paused_go b.next.care (is_some what) r b.next.course mid) (λ v last. ended_go m (is_some what) v d.next last)))
 
   tended_go : (m : ℕ) (takes : TakeResults) (p : List Action) (s : Course) → Stands c (past_of p) s → Goes at c p (tended_run c m takes s)
   tended_go m takes p s st =

@@ -14,20 +14,23 @@ use Rattle.cx_leader.specs.Tending.{can_collect, has_heard, has_open, is_new_lea
 use Rattle.cx_model.specs.Leader.{LeaderDurable, LeaderVolatile, is_idle}
 use Rattle.cx_model.specs.Replica.{held}
 use Rattle.cx_model.specs.Rules.{Running}
+use Rattle.cx_proxy.specs.Tending.{awaits_votes}
 use Rattle.cx_letter.specs.declared.input.Input.TheVariants as input
 use Rattle.cx_course.specs.declared.doing.Doing.TheVariants.{Begin, Give}
 use Rattle.cx_course.specs.declared.standing.Standing.{Standing}
-use Rattle.cx_course.specs.Hosted.{Hosted, ClientAt, LeaderAt, ReplicaAt, name_of}
-use Rattle.cx_course.specs.Course.{Course, Moved, does_at, stays, then_do, took}
+use Rattle.cx_course.specs.Hosted.{Hosted, ClientAt, LeaderAt, ProxyAt, ReplicaAt, name_of}
+use Rattle.cx_course.specs.Course.{Course, Moved, does_at, is_a, stays, then_do, took}
 use Rattle.cx_course.specs.Run.{all_do, at_place, brought, grid_of, is_client, ordered, hosted_place, snaps, TakeResults, node_turn, turns_from, untended_run}
 use Rattle.cx_record.specs.Numbers.{Numbered}
 
 -- What a tended node has counted. Counts of turns and beats stop at 2 ^ 32 - 1.
 pub record Care : Type 0 where
-  -- the turns since the last beat; of their takes, those that gave nothing after one that gave nothing; whether the last take gave something
+  -- the turns since the last beat; of their takes, those that gave nothing after one that gave nothing; whether the last take gave
+  -- something; and how many takes in a row up to the last one gave nothing
   pub turns : ℕ
   pub empty : ℕ
   pub came : Bool
+  pub calm : ℕ
   -- how many requests the hosted clients had completed at the last beat, and for how many beats they have completed none
   pub done : ℕ
   pub still : ℕ
@@ -46,7 +49,7 @@ pub record Tended : Type 0 where
 
 -- nothing is counted yet
 abbrev pub no_care : List Hosted → Care
-no_care hs = record { turns = 0; empty = 0; came = false; done = 0; still = 0; counts = map (λ (h : Hosted). 0) hs; queue = below (length hs); cw = 0; stuck = 0 }
+no_care hs = record { turns = 0; empty = 0; came = false; calm = 0; done = 0; still = 0; counts = map (λ (h : Hosted). 0) hs; queue = below (length hs); cw = 0; stuck = 0 }
 
 -- one more turn or beat
 abbrev pub one_more : ℕ → ℕ
@@ -85,6 +88,11 @@ leader_in (Some h) = leader_of h
 -- leader 0, where it is hosted
 unfoldable pub first_leader : List Hosted → Option (Running LeaderDurable LeaderVolatile)
 first_leader hs = leader_in (hosted_as (role kind.Leader 0) hs)
+
+-- whether a proxy leader waits for votes
+abbrev pub awaits_votes_at : Hosted → Bool
+awaits_votes_at (ProxyAt s) = awaits_votes s.volatile
+awaits_votes_at other = false
 
 -- how many slots a replica holds
 abbrev pub held_of : Hosted → ℕ
@@ -148,10 +156,15 @@ tend_ordered c n s =
 unfoldable pub tend_prepared : Cluster → ℕ → Course → Moved Course
 tend_prepared c n s = then_do (tend_ordered c n s) (λ led. snaps n led)
 
--- a replica whose log has come to a further multiple of 8 slots ticks
-unfoldable pub reported : RoleId → ℕ → Course → Moved Course
-reported who before s =
-    if nat_lt (before / 8) (held_by_role who s.hosted / 8) then at_place (hosted_place who s.hosted) (Give 0 input.Tick) s else stays s
+-- Whether a replica that held this many slots, and now holds so many, ticks behind a datagram of this role: where its log has come to a
+-- further multiple of 8 slots, of which it tells leaders; and where another replica sent the value that it lacked, so that it asks for the
+-- next one at once, and not at a beat.
+abbrev pub ticks_behind : RoleId → ℕ → ℕ → Bool
+ticks_behind from before now = nat_lt (before / 8) (now / 8) || (is_a kind.Replica from && nat_lt before now)
+
+unfoldable pub reported : RoleId → RoleId → ℕ → Course → Moved Course
+reported from who before s =
+    if ticks_behind from before (held_by_role who s.hosted) then at_place (hosted_place who s.hosted) (Give 0 input.Tick) s else stays s
 
 -- leader 0 is ordered to collect, where that would begin
 unfoldable pub collected : Course → Moved Course
@@ -162,7 +175,7 @@ collected s =
 unfoldable pub heeded : Numbered → Course → Moved Course
 heeded x s =
     then_do (at_place (hosted_place x.letter.to s.hosted) (Give x.number (input.Take x.letter)) s) (λ after.
-    then_do (reported x.letter.to (held_by_role x.letter.to s.hosted) after) (λ last.
+    then_do (reported x.letter.from x.letter.to (held_by_role x.letter.to s.hosted) after) (λ last.
     if same_role x.letter.to (role kind.Leader 0) then collected last else stays last))
 
 abbrev pub brings_heeded : Option Numbered → Course → Moved Course
@@ -174,13 +187,23 @@ unfoldable pub tend_comes : Option (List ℕ) → Course → Moved Course
 tend_comes None s = took None (stays s)
 tend_comes (Some bytes) s = took (Some bytes) (brings_heeded (brought s.recorded bytes) s)
 
--- batchers tick where something came before, and nothing now
-unfoldable pub flushed : Care → Bool → Course → Moved Course
-flushed k came s = if k.came && not came then kind_ticks kind.Batcher s else stays s
+-- What is done in a pause: batchers tick at the first take that gives nothing; proxy leaders that wait for votes at the 8th in a row, so
+-- that a slot whose column has an acceptor that is down waits for no beat.
+unfoldable pub paused : Care → Bool → Course → Moved Course
+paused k came s =
+    if k.came && not came then kind_ticks kind.Batcher s
+    else if (k.calm == 7) && not came then those_tick (λ i h. awaits_votes_at h) s
+    else stays s
 
 -- a turn is counted; bytes that are no datagram are something that came
 unfoldable pub care_after_turn : Bool → Care → Care
-care_after_turn came k = record k { turns = one_more k.turns; empty = if came || k.came then k.empty else one_more k.empty; came = came }
+care_after_turn came k =
+    record k {
+      turns = one_more k.turns;
+      empty = if came || k.came then k.empty else one_more k.empty;
+      came = came;
+      calm = if came then 0 else one_more k.calm;
+    }
 
 -- a turn ends with a beat where 64 takes gave nothing after one that gave nothing, and at the m-th turn since the last one
 unfoldable pub is_beat : ℕ → Care → Bool
@@ -299,7 +322,7 @@ unfoldable pub tended_turn : Cluster → ℕ → ℕ → Option (List ℕ) → T
 tended_turn c m n what t =
     then_do (within (tend_prepared c n) t) (λ a.
     then_do (within (tend_comes what) a) (λ b.
-    then_do (within (flushed b.care (is_some what)) b) (λ d.
+    then_do (within (paused b.care (is_some what)) b) (λ d.
     turn_ended c m (is_some what) d)))
 
 abbrev pub untended : Course → Tended

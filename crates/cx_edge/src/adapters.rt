@@ -2,7 +2,7 @@
 
 ghost use Rattle.std.specs.Prelude.{◌≡◌};
 
-use crate::{ReadEnd, Sink, Source, WriteEnd};
+use crate::{ReadEnd, Remark, Sink, Source, WriteEnd};
 use cx_base::Faults;
 use std::io::{Read, Write};
 use std::marker::Model;
@@ -90,5 +90,46 @@ impl<W: Write> Sink for WriterSink<W> {
                 WriteEnd::Failed
             }
         }
+    }
+}
+
+/// A sink with a writer beside it, which gets each remark as a line. Errors of that writer are passed over.
+#[derive(Drop)]
+pub struct RemarkingSink<S, E> {
+    sink: S,
+    remarks: E,
+}
+
+impl<S, E> Model for RemarkingSink<S, E> {
+    ghost Value = { S };
+
+    ghost view = { λ s. s.sink };
+}
+
+impl<S, E> RemarkingSink<S, E> {
+    /// The sink, with this writer for remarks.
+    pub fn new(sink: S, remarks: E) -> Self
+        ensures { result ≡ sink }
+    {
+        RemarkingSink { sink, remarks }
+    }
+
+    /// What the remarks were written to.
+    pub fn remarks(&self) -> &E {
+        &self.remarks
+    }
+}
+
+impl<S: Sink, E: Write> Sink for RemarkingSink<S, E> {
+    ghost taken = { S.taken };
+
+    ghost faults = { S.faults };
+
+    fn write(&mut self, piece: &[u8]) -> WriteEnd {
+        self.sink.write(piece)
+    }
+
+    fn remark(&mut self, remark: Remark) {
+        let _ = writeln!(self.remarks, "{remark}");
     }
 }

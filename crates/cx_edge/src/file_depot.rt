@@ -7,11 +7,13 @@ ghost use Rattle.cx_edge.specs.FileDepot.{file_extension, file_name, files_out, 
 ghost use Rattle.cx_edge.specs.FileDisk.{faults_of};
 
 use crate::desk::Desk;
-use crate::{Depot, FileDisk, Shelf};
+use crate::{Depot, FileDisk, Shelf, Trouble};
 use cx_base::{Kind, MAX_RECORD_LENGTH, NoMemory, RoleId};
 use cx_disk::{Disk, Failed};
 use std::alloc::Global;
 use std::fs::File;
+use std::io;
+use std::io::ErrorKind;
 use std::marker::Model;
 use std::rt::Files;
 
@@ -20,6 +22,8 @@ use std::rt::Files;
 struct StoreName {
     place: Shelf,
     name: String,
+    // What the last call on the file that failed said.
+    trouble: Option<io::Error>,
 }
 
 /// Keeps each store in a file of its own, which is named after its role. A replica has two, each other role one.
@@ -63,7 +67,11 @@ fn file_name(alloc: Global, place: Shelf) -> Result<String, NoMemory>
 
 fn add_name(alloc: Global, names: &mut Vec<StoreName>, place: Shelf) -> Result<(), NoMemory> {
     let name = file_name(alloc, place)?;
-    names.push(StoreName { place, name })?;
+    names.push(StoreName {
+        place,
+        name,
+        trouble: None,
+    })?;
     Ok(())
 }
 
@@ -112,23 +120,56 @@ fn could_be_journal(disk: &mut FileDisk, kind: Kind) -> bool
     }
 }
 
+// Why a file isn't taken for a journal.
+fn refusal(disk: &FileDisk) -> io::Error {
+    match disk.trouble() {
+        Some(error) => error,
+        None => io::Error::new(
+            ErrorKind::InvalidData,
+            "by its first bytes it is no journal",
+        ),
+    }
+}
+
 fn opened<R: Files<File = File>>(
     files: &R,
     names: &[StoreName],
     place: Shelf,
-) -> Result<FileDisk, Failed>
+) -> io::Result<FileDisk>
     ensures { IfOk result (λ disk. faults_of disk ≡ 0) }
 {
     for store in names {
         if place.is(store.place) {
             let mut disk = FileDisk::open(files, store.name.as_str())?;
             if !could_be_journal(&mut disk, place.role.kind) {
-                return Err(Failed);
+                return Err(refusal(&disk));
             }
             return Ok(disk);
         }
     }
-    Err(Failed)
+    Err(io::Error::from(ErrorKind::NotFound))
+}
+
+// Keeps what a call on a file said that failed.
+fn note(names: &mut Vec<StoreName>, place: Shelf, error: io::Error) {
+    for store in names.iter_mut() {
+        if place.is(store.place) {
+            store.trouble = Some(error);
+        }
+    }
+}
+
+// What the last call that failed on a file of the role said.
+fn trouble_of(names: &[StoreName], role: RoleId) -> Option<Trouble<'_>> {
+    for store in names {
+        if role.is(store.place.role) {
+            if let Some(error) = store.trouble {
+                let name = store.name.as_str();
+                return Some(Trouble::File { name, error });
+            }
+        }
+    }
+    None
 }
 
 impl<R> FileDepot<R> {
@@ -145,6 +186,11 @@ impl<R> FileDepot<R> {
         let names = names_of(alloc, roles)?;
         let desk = Desk::new(alloc, roles, names.len())?;
         Ok(FileDepot { files, names, desk })
+    }
+
+    /// What the last opening or call that failed said of a file of the role, once its stores are back.
+    pub fn trouble(&self, role: RoleId) -> Option<Trouble<'_>> {
+        trouble_of(&self.names, role)
     }
 }
 
@@ -163,9 +209,12 @@ impl<R: Files<File = File>> Depot for FileDepot<R> {
     fn open(&mut self, role: RoleId, side: u8) -> Result<FileDisk, Failed> {
         let place = Shelf::new(role, side);
         if self.desk.can_hand_out(place) {
-            if let Ok(store) = opened(&self.files, &self.names, place) {
-                self.desk.hand_out(place);
-                return Ok(store);
+            match opened(&self.files, &self.names, place) {
+                Ok(store) => {
+                    self.desk.hand_out(place);
+                    return Ok(store);
+                }
+                Err(error) => note(&mut self.names, place, error),
             }
         }
         self.desk.fail(role);
@@ -174,7 +223,10 @@ impl<R: Files<File = File>> Depot for FileDepot<R> {
 
     #[tactic(auto, using(crate::proofs::DeskLaws::count_rises, crate::proofs::DeskLaws::count_later, crate::proofs::DeskLaws::count_other, crate::proofs::DeskLaws::count_none))]
     fn close(&mut self, role: RoleId, side: u8, store: FileDisk) {
-        let faults = store.faults();
-        self.desk.take_back(Shelf::new(role, side), faults);
+        let place = Shelf::new(role, side);
+        if let Some(error) = store.trouble() {
+            note(&mut self.names, place, error);
+        }
+        self.desk.take_back(place, store.faults());
     }
 }

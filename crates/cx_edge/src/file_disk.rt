@@ -1,10 +1,12 @@
 //! A disk over a file of the operating system. What the file holds is not known to any clause.
 
-ghost use Rattle.std.specs.Prelude.{◌≡◌, ◌<◌, ◌^◌, ℕ, None, IfOk, ⊤};
+ghost use Rattle.std.specs.Prelude.{◌≡◌, ◌≤◌, ◌<◌, ◌^◌, ℕ, None, IfOk, ⊤};
+ghost use Rattle.cx_base.specs.Faults.{Rises};
 
 use cx_disk::{Disk, Failed};
-use std::fs::{File, OpenOptions};
+use std::fs::{File, OpenOptions, TryLockError};
 use std::io;
+use std::io::ErrorKind;
 use std::os::unix::fs::FileExt;
 use std::rt::Files;
 
@@ -17,7 +19,19 @@ pub struct FileDisk {
     file: File,
     size: u64,
     faults: u64,
+    // What the last call that failed said.
+    trouble: Option<io::Error>,
     ghost fits: { size < 2 ^ 63 },
+}
+
+// What is said of a file that could not be locked.
+fn unlocked(error: TryLockError) -> io::Error {
+    match error {
+        TryLockError::Error(error) => error,
+        TryLockError::WouldBlock => {
+            io::Error::new(ErrorKind::WouldBlock, "another process has it open")
+        }
+    }
 }
 
 /// The file of this name with its length. It is made where it isn't there, and locked until it is closed.
@@ -27,7 +41,7 @@ fn opened<R: Files<File = File>>(files: &R, name: &str) -> io::Result<(File, u64
         .write(true)
         .create(true)
         .open(files, name)?;
-    file.try_lock()?;
+    file.try_lock().map_err(unlocked)?;
     let size = file.metadata()?.len();
     Ok((file, size))
 }
@@ -35,19 +49,21 @@ fn opened<R: Files<File = File>>(files: &R, name: &str) -> io::Result<(File, u64
 impl FileDisk {
     ghost use Rattle.cx_edge.specs.FileDisk.{faults_of};
 
-    /// The disk over the file of this name, which is made where it isn't there. `Failed` where the file
+    /// The disk over the file of this name, which is made where it isn't there. An error where the file
     /// can't be opened, is open as a disk already, here or in another process, or is of 2^63 bytes or more.
-    pub fn open<R: Files<File = File>>(files: &R, name: &str) -> Result<Self, Failed>
+    pub fn open<R: Files<File = File>>(files: &R, name: &str) -> io::Result<Self>
         ensures { IfOk result (λ disk. faults_of disk ≡ 0) }
     {
-        match opened(files, name) {
-            Ok((file, size)) if size < TOO_LONG => Ok(FileDisk {
-                file,
-                size,
-                faults: 0,
-            }),
-            _ => Err(Failed),
+        let (file, size) = opened(files, name)?;
+        if size >= TOO_LONG {
+            return Err(io::Error::from(ErrorKind::FileTooLarge));
         }
+        Ok(FileDisk {
+            file,
+            size,
+            faults: 0,
+            trouble: None,
+        })
     }
 
     /// How often its calls have failed.
@@ -55,6 +71,21 @@ impl FileDisk {
         ensures { result ≡ faults_of self.now }
     {
         self.faults
+    }
+
+    /// What the last of these calls said.
+    pub fn trouble(&self) -> Option<io::Error> {
+        self.trouble
+    }
+
+    // Counts a call that failed, and keeps what it said.
+    fn fail(&mut self, error: io::Error)
+        ensures cause { Rises self.old.faults self.new.faults }
+        ensures later { self.old.faults ≤ self.new.faults }
+        ensures size { self.new.size ≡ self.old.size }
+    {
+        self.faults = self.faults.saturating_add(1);
+        self.trouble = Some(error);
     }
 }
 
@@ -88,8 +119,8 @@ impl Disk for FileDisk {
     fn read(&mut self, at: u64, buf: &mut [u8]) -> Result<(), Failed> {
         match self.file.read_exact_at(buf, at) {
             Ok(()) => Ok(()),
-            Err(_) => {
-                self.faults = self.faults.saturating_add(1);
+            Err(error) => {
+                self.fail(error);
                 Err(Failed)
             }
         }
@@ -97,14 +128,20 @@ impl Disk for FileDisk {
 
     fn write_at(&mut self, at: u64, bytes: &[u8]) -> Result<(), Failed> {
         let end = at.saturating_add(bytes.len() as u64);
-        if end < TOO_LONG {
-            if let Ok(()) = self.file.write_all_at(bytes, at) {
+        if end >= TOO_LONG {
+            self.fail(io::Error::from(ErrorKind::FileTooLarge));
+            return Err(Failed);
+        }
+        match self.file.write_all_at(bytes, at) {
+            Ok(()) => {
                 self.size = self.size.max(end);
-                return Ok(());
+                Ok(())
+            }
+            Err(error) => {
+                self.fail(error);
+                Err(Failed)
             }
         }
-        self.faults = self.faults.saturating_add(1);
-        Err(Failed)
     }
 
     fn cut(&mut self, at: u64) -> Result<(), Failed> {
@@ -113,8 +150,8 @@ impl Disk for FileDisk {
                 self.size = at;
                 Ok(())
             }
-            Err(_) => {
-                self.faults = self.faults.saturating_add(1);
+            Err(error) => {
+                self.fail(error);
                 Err(Failed)
             }
         }
@@ -123,8 +160,8 @@ impl Disk for FileDisk {
     fn sync(&mut self) -> Result<(), Failed> {
         match self.file.sync_all() {
             Ok(()) => Ok(()),
-            Err(_) => {
-                self.faults = self.faults.saturating_add(1);
+            Err(error) => {
+                self.fail(error);
                 Err(Failed)
             }
         }

@@ -5,6 +5,8 @@ ghost use Rattle.cx_base.specs.Faults.{Rises};
 ghost use Rattle.cx_edge.specs.declared.sink.WriteEnd.TheVariants.{Failed};
 ghost use Rattle.cx_edge.specs.Sink.{Writes, WriteKeepsCount, WritesAll};
 
+use crate::Remark;
+
 /// This many bytes were taken, or the write failed.
 #[derive(Clone, Copy, Debug, PartialEq, Eq)]
 pub enum WriteEnd {
@@ -29,6 +31,12 @@ pub trait Sink {
         ensures cause { result ≡ Failed → Rises (faults self.old) (faults self.new) }
         ensures still { WriteKeepsCount result (faults self.old) (faults self.new) }
         ensures later { faults self.old ≤ faults self.new };
+
+    /// Hears what isn't for its reader but for whoever watches, and takes no byte of it. Without a body of its own it forgets it.
+    fn remark(&mut self, _remark: Remark)
+        ensures taken { taken self.new ≡ taken self.old }
+        ensures still { faults self.new ≡ faults self.old }
+    {}
 }
 
 /// Writes all bytes, and returns whether no write failed. Where one failed, a prefix of the bytes is written and the count

@@ -3,7 +3,7 @@
 ghost use Rattle.std.specs.Prelude.{◌≡◌, None, IfOk};
 ghost use Rattle.cx_edge.specs.UdpLink.{EndsAs, TakenFits};
 
-use crate::{Link, TakeEnd};
+use crate::{Link, TakeEnd, Trouble};
 use cx_base::{Faults, NoMemory, RoleId};
 use cx_disk::Failed;
 use mio::net::UdpSocket;
@@ -17,11 +17,19 @@ use std::rt::Clock;
 use std::thread::sleep;
 use std::time::Duration;
 
-/// A role and its socket.
+/// A role, its port and its socket.
 #[derive(Drop)]
 struct Bound {
     role: RoleId,
+    port: u16,
     socket: UdpSocket,
+}
+
+/// What failed at a port.
+#[derive(Clone, Copy)]
+struct PortTrouble {
+    port: u16,
+    error: io::Error,
 }
 
 /// Carries datagrams over one socket of 127.0.0.1 for each bound role. While datagrams come, a take doesn't wait. Where none
@@ -29,7 +37,8 @@ struct Bound {
 #[derive(Drop)]
 pub struct UdpLink<N> {
     net: N,
-    poll: Option<Poll>,
+    // Or why there is none, as where the system has no more file descriptors. Without a poll each bind fails.
+    poll: io::Result<Poll>,
     events: Events<Global>,
     sockets: Vec<Bound>,
     first: usize,
@@ -38,6 +47,8 @@ pub struct UdpLink<N> {
     unasked: u32,
     faults: Faults,
     losses: Faults,
+    // The last fault.
+    trouble: Option<PortTrouble>,
 }
 
 impl<N> Model for UdpLink<N> {
@@ -55,10 +66,8 @@ impl<N: Net> UdpLink<N> {
         N: Drop,
         ensures { IfOk result (λ link. link ≡ record { faults = 0; losses = 0 }) }
     {
-        // Without a poll, as where the system has no more file descriptors, each bind fails.
-        let poll = Poll::new(&net).ok();
         Ok(UdpLink {
-            poll,
+            poll: Poll::new(&net),
             events: Events::with_capacity(alloc, 64)?,
             net,
             sockets: Vec::with_capacity(alloc, room)?,
@@ -67,7 +76,18 @@ impl<N: Net> UdpLink<N> {
             unasked: 0,
             faults: Faults::none(),
             losses: Faults::none(),
+            trouble: None,
         })
+    }
+}
+
+impl<N> UdpLink<N> {
+    /// What the last bind or take that failed said.
+    pub fn trouble(&self) -> Option<Trouble<'_>> {
+        match self.trouble {
+            Some(PortTrouble { port, error }) => Some(Trouble::Port { port, error }),
+            None => None,
+        }
     }
 }
 
@@ -80,14 +100,13 @@ fn opened<N: Net>(net: &N, port: u16) -> io::Result<UdpSocket> {
     UdpSocket::bind(net, local(port))
 }
 
-/// Has a datagram that comes to the socket end a wait, and says whether that succeeded.
-fn is_registered(poll: &Option<Poll>, socket: &mut UdpSocket) -> bool {
+/// Has a datagram that comes to the socket end a wait.
+fn register(poll: &io::Result<Poll>, socket: &mut UdpSocket) -> io::Result<()> {
     match poll {
-        Some(poll) => poll
+        Ok(poll) => poll
             .registry()
-            .register(socket, Token(0), Interest::READABLE)
-            .is_ok(),
-        None => false,
+            .register(socket, Token(0), Interest::READABLE),
+        Err(error) => Err(*error),
     }
 }
 
@@ -123,18 +142,34 @@ fn end_of(kind: ErrorKind) -> TakeEnd
     }
 }
 
+/// What is to be remembered of an error that a take gave.
+fn noted(end: TakeEnd, port: u16, error: io::Error, trouble: &mut Option<PortTrouble>) {
+    if let TakeEnd::Failed = end {
+        *trouble = Some(PortTrouble { port, error });
+    }
+}
+
 /// Takes a datagram from one socket.
-fn received(socket: &UdpSocket, buffer: &mut [u8]) -> TakeEnd
+fn received(bound: &Bound, buffer: &mut [u8], trouble: &mut Option<PortTrouble>) -> TakeEnd
     ensures { TakenFits buffer.new result }
 {
-    match socket.recv_from(buffer) {
+    match bound.socket.recv_from(buffer) {
         Ok((count, _)) => TakeEnd::Got(count),
-        Err(error) => end_of(error.kind()),
+        Err(error) => {
+            let end = end_of(error.kind());
+            noted(end, bound.port, error, trouble);
+            end
+        }
     }
 }
 
 /// Asks each socket once, from one on, and says which comes first at the next take.
-fn asked_in_turn(sockets: &[Bound], first: usize, buffer: &mut [u8]) -> (usize, TakeEnd)
+fn asked_in_turn(
+    sockets: &[Bound],
+    first: usize,
+    buffer: &mut [u8],
+    trouble: &mut Option<PortTrouble>,
+) -> (usize, TakeEnd)
     ensures { TakenFits buffer.new result.1 }
 {
     let mut at = first;
@@ -142,7 +177,7 @@ fn asked_in_turn(sockets: &[Bound], first: usize, buffer: &mut [u8]) -> (usize, 
         if at >= sockets.len() {
             at = 0;
         }
-        let end = received(&sockets[at].socket, buffer);
+        let end = received(&sockets[at], buffer, trouble);
         at += 1;
         if !matches!(end, TakeEnd::Nothing) {
             return (at, end);
@@ -163,8 +198,8 @@ const UNASKED: u32 = 16;
 /// Waits for a datagram, for at most this time, and says whether one may have come; without a poll it can't tell. An event only
 /// ends the wait, since the poll reports each one once: which sockets have a datagram is asked of the sockets. A failure ends it
 /// too, and drops no event.
-fn wait<A: Allocator>(poll: &mut Option<Poll>, events: &mut Events<A>, micros: u64) -> bool {
-    let Some(poll) = poll else {
+fn wait<A: Allocator>(poll: &mut io::Result<Poll>, events: &mut Events<A>, micros: u64) -> bool {
+    let Ok(poll) = poll else {
         return true;
     };
     let _ = poll.poll(events, Some(Duration::from_micros(micros)));
@@ -187,6 +222,24 @@ impl<N> UdpLink<N> {
     }
 }
 
+impl<N: Net> UdpLink<N> {
+    // Binds the role, or says why it can't.
+    fn bound(&mut self, role: RoleId, port: u16) -> io::Result<()>
+        ensures { self.new ≡ self.old }
+    {
+        if is_bound(&self.sockets, role) {
+            return Err(io::Error::other("the role has a port already"));
+        }
+        if self.sockets.len() >= self.sockets.capacity() {
+            return Err(io::Error::other("no room for a further role"));
+        }
+        let mut socket = opened(&self.net, port)?;
+        register(&self.poll, &mut socket)?;
+        self.sockets.push_reserved(Bound { role, port, socket });
+        Ok(())
+    }
+}
+
 impl<N: Net + Clock> Link for UdpLink<N> {
     ghost history = { λ l. None };
 
@@ -195,16 +248,14 @@ impl<N: Net + Clock> Link for UdpLink<N> {
     ghost losses = { λ l. l.losses };
 
     fn bind(&mut self, role: RoleId, port: u16) -> Result<(), Failed> {
-        if self.sockets.len() < self.sockets.capacity() && !is_bound(&self.sockets, role) {
-            if let Ok(mut socket) = opened(&self.net, port) {
-                if is_registered(&self.poll, &mut socket) {
-                    self.sockets.push_reserved(Bound { role, socket });
-                    return Ok(());
-                }
+        match self.bound(role, port) {
+            Ok(()) => Ok(()),
+            Err(error) => {
+                self.trouble = Some(PortTrouble { port, error });
+                self.faults.add();
+                Err(Failed)
             }
         }
-        self.faults.add();
-        Err(Failed)
     }
 
     fn send(&mut self, from: RoleId, port: u16, bytes: &[u8]) -> Result<(), Failed> {
@@ -222,7 +273,7 @@ impl<N: Net + Clock> Link for UdpLink<N> {
                 return TakeEnd::Nothing;
             }
         } else {
-            (first, end) = asked_in_turn(&self.sockets, first, buffer);
+            (first, end) = asked_in_turn(&self.sockets, first, buffer, &mut self.trouble);
             if let TakeEnd::Nothing = end {
                 // What is on its way to a batcher may fill a batch. The wait drops the events of what was already taken.
                 sleep(&self.net, Duration::from_micros(GATHER));
@@ -230,7 +281,7 @@ impl<N: Net + Clock> Link for UdpLink<N> {
             }
         }
         if let TakeEnd::Nothing = end {
-            (first, end) = asked_in_turn(&self.sockets, first, buffer);
+            (first, end) = asked_in_turn(&self.sockets, first, buffer, &mut self.trouble);
         }
         self.first = first;
         self.is_calm = matches!(end, TakeEnd::Nothing);

@@ -34,18 +34,18 @@ use Rattle.cx_model.specs.Facts.{IsProposed}
 use Rattle.cx_model.specs.Heard.{heard_by}
 use Rattle.cx_model.specs.History.{finish_with, finish_by}
 use Rattle.cx_model.specs.Leader.{LeaderDurable, LeaderVolatile, leader_rules, leader_row, round_of, bypass, leads_to, propose_to}
-use Rattle.cx_model.specs.Lists.{get_set_same}
 use Rattle.cx_model.specs.Member.{Member}
+use Rattle.cx_model.specs.Names.{names_role}
 use Rattle.cx_model.specs.Outcome.{Outcome, either_way}
 use Rattle.cx_model.specs.Promises.{OfEveryRun}
 use Rattle.cx_model.specs.Request.{is_stale, request}
-use Rattle.cx_model.specs.Turn.{turn, turn_with, whole_turn}
-use Rattle.cx_model.specs.World.{World, Change, Turns, change, come, ask, nothing, act_at, act_of, of_leader, turn_found, turn_done, durable_part, run}
-use Rattle.cx_inv_run.specs.States.{State, LeaderIn, state_found, HoldsIn}
-use Rattle.cx_inv_run.proofs.Histories.{durable_by_time}
+use Rattle.cx_model.specs.Turn.{Turn, turn, turn_with, whole_turn, still}
+use Rattle.cx_model.specs.World.{World, Change, change, changed, come, ask, nothing, act_at, act_of, durable_part, run}
+use Rattle.cx_inv_run.specs.States.{State, LeaderIn, leader_volatile, HoldsIn}
+use Rattle.cx_inv_run.proofs.Histories.{durable_by_time, state_own}
 use Rattle.cx_inv_run.proofs.Members.{Member-cases, Member-first, Member-map, map-Member, Member-numbers, numbers-Member}
 use Rattle.cx_inv_run.proofs.Sends.{named}
-use Rattle.cx_inv_run.proofs.Steps.{run_cluster}
+use Rattle.cx_inv_run.proofs.Steps.{only_leader, run_cluster}
 use Rattle.cx_inv_bypass.specs.Bypassed.{Bypasses, GoesOn, BypassedRounds}
 use Rattle.cx_inv_bypass.specs.Full.{IsFull, FullIn, FullState, Full}
 use Rattle.cx_inv_bypass.proofs.Keep.{full_runs}
@@ -110,7 +110,7 @@ module _ (c : Cluster) (w : World) (is_c : w.cluster ≡ c) (full : HoldsIn Full
   last_round a = round_of (durable_part leader_rules a w.kept).own
 
   -- a row of a leader
-  module _ (l : ℕ) (v : LeaderVolatile) (running : slice_get w.roles.leaders l ≡ Some (Some v)) where
+  module _ (l : ℕ) (v : LeaderVolatile) (running : w.roles (role kind.Leader l) ≡ LeaderIn v) where
     abbrev me : RoleId
     me = role kind.Leader l
 
@@ -120,10 +120,10 @@ module _ (c : Cluster) (w : World) (is_c : w.cluster ≡ c) (full : HoldsIn Full
     its_window : FullIn w.sent (round_of d.own) v.cw v.next v.proposed v.mode
     its_window =
         subst (λ (x : LeaderDurable). FullIn w.sent (round_of x.own) v.cw v.next v.proposed v.mode) (sym (durable_by_time leader_rules me w.kept))
-        (subst (λ (s : State). FullState (reverse w.kept) w.sent me s) (ap (λ x. state_found LeaderIn x) running) (full me))
+        (subst (λ (s : State). FullState (reverse w.kept) w.sent me s) running (full me))
 
     abbrev left_by : Outcome LeaderVolatile → Change
-    left_by o = of_leader me w.roles (turn_done me w.roles.leaders (whole_turn o))
+    left_by o = changed LeaderIn me w.roles (whole_turn o)
 
     row_did : (own : Entry) (last : LeaderVolatile) (j : Round) → d.own ≡ Some own → change_after j ≡ Some own.round → IsFull w.sent j last.cw last.next last.proposed
         → Did w (left_by (bypass c me own last)) (round_of d.own)
@@ -135,8 +135,7 @@ module _ (c : Cluster) (w : World) (is_c : w.cluster ≡ c) (full : HoldsIn Full
           follows = follows ∙ ap (λ (x : Round). Some x) same;
           cw = last.cw;
           end = last.next;
-          finish = ap (λ (o : Option (Option LeaderVolatile)). finish_with (length w.events + 1) (round_of d.own) o)
-              (get_set_same w.roles.leaders l (Some v) (Some ((bypass c me own last).volatile)) running);
+          finish = ap (λ (s : State). finish_with (length w.events + 1) (round_of d.own) s) (state_own me (LeaderIn ((bypass c me own last).volatile)) w.roles);
           proposes = λ s low high.
               let there = Member-map (λ (p : Placed). p.slot) s last.proposed
               (subst (λ (ns : List ℕ). Member s ns) (sym window.slots)
@@ -167,7 +166,7 @@ module _ (c : Cluster) (w : World) (is_c : w.cluster ≡ c) (full : HoldsIn Full
 
     cut_did : (i : Input) (cut : Cut) (r : Option Record)
         → (turn_with cut r (leader_row c me d v i)).why ≡ why.Bypassed
-        → Did w (of_leader me w.roles (turn_done me w.roles.leaders (turn_with cut r (leader_row c me d v i)))) (round_of d.own)
+        → Did w (changed LeaderIn me w.roles (turn_with cut r (leader_row c me d v i))) (round_of d.own)
     cut_did i cut None word = whole_did i word
     cut_did i Whole (Some r) word = whole_did i word
     cut_did i Torn (Some r) word = other_word refl word
@@ -175,24 +174,24 @@ module _ (c : Cluster) (w : World) (is_c : w.cluster ≡ c) (full : HoldsIn Full
 
   -- an act at a leader
   module _ (l : ℕ) (act : Act) where
-    abbrev DoneBy : Turns LeaderVolatile → Type 0
-    DoneBy t = t.why ≡ why.Bypassed → Did w (of_leader (role kind.Leader l) w.roles t) (last_round (role kind.Leader l))
+    abbrev DoneBy : Turn LeaderVolatile → Type 0
+    DoneBy t = t.why ≡ why.Bypassed → Did w (changed LeaderIn (role kind.Leader l) w.roles t) (last_round (role kind.Leader l))
 
-    turn_did : (x : Act) (running : Option LeaderVolatile) → slice_get w.roles.leaders l ≡ Some running
-        → DoneBy (turn_done (role kind.Leader l) w.roles.leaders (turn leader_rules c (role kind.Leader l) (durable_part leader_rules (role kind.Leader l) w.kept) x running))
+    turn_did : (x : Act) (running : Option LeaderVolatile) → ((v : LeaderVolatile) → running ≡ Some v → w.roles (role kind.Leader l) ≡ LeaderIn v)
+        → DoneBy (turn leader_rules c (role kind.Leader l) (durable_part leader_rules (role kind.Leader l) w.kept) x running)
     turn_did (Give i cut) None found word = other_word refl word
-    turn_did (Give i cut) (Some v) found word = cut_did l v found i cut _ word
+    turn_did (Give i cut) (Some v) found word = cut_did l v (found v refl) i cut _ word
     turn_did Stop None found word = other_word refl word
     turn_did Stop (Some v) found word = other_word refl word
     turn_did (Snap cut) None found word = other_word refl word
     turn_did (Snap cut) (Some v) found word = other_word refl word
-    turn_did Wake None found word = other_word refl word
+    turn_did Wake None found word =
+        either_way DoneBy (names_role c (role kind.Leader l)) (still (Some (leader_rules.fresh c)) why.Opened) (still None why.Down)
+        (λ word. other_word refl word) (λ word. other_word refl word) word
     turn_did Wake (Some v) found word = other_word refl word
 
-    leader_did : (o : Option (Option LeaderVolatile)) → slice_get w.roles.leaders l ≡ o
-        → DoneBy (turn_found leader_rules c (role kind.Leader l) w.kept act w.roles.leaders o)
-    leader_did None found word = other_word refl word
-    leader_did (Some running) found word = turn_did act running found word
+    leader_did : DoneBy (turn leader_rules c (role kind.Leader l) (durable_part leader_rules (role kind.Leader l) w.kept) act (leader_volatile (w.roles (role kind.Leader l))))
+    leader_did = turn_did act _ (only_leader (w.roles (role kind.Leader l)))
 
   -- an event at a leader `who`
   module _ (who : RoleId) (leads : who.kind ≡ kind.Leader) where
@@ -208,7 +207,7 @@ module _ (c : Cluster) (w : World) (is_c : w.cluster ≡ c) (full : HoldsIn Full
         let own : a ≡ role kind.Leader a.index = named kind.Leader a is in
         subst (λ (x : RoleId). Did w (act_of c w.roles w.kept act a kind.Leader) (last_round x)) (same_Some a who at)
         (subst (λ (x : RoleId). (act_of c w.roles w.kept act x kind.Leader).why ≡ why.Bypassed → Did w (act_of c w.roles w.kept act x kind.Leader) (last_round x)) (sym own)
-        (leader_did a.index act (slice_get w.roles.leaders a.index) refl) word)
+        (leader_did a.index act) word)
     act_did act a kind.Batcher is at word = absurd (no_leader a kind.Batcher (λ p. cc) is at)
     act_did act a kind.Proxy is at word = absurd (no_leader a kind.Proxy (λ p. cc) is at)
     act_did act a kind.Acceptor is at word = absurd (no_leader a kind.Acceptor (λ p. cc) is at)

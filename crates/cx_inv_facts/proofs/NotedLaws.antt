@@ -25,7 +25,7 @@ use Rattle.cx_model.specs.Proxy.{ProxyVolatile, proxy_row}
 use Rattle.cx_model.specs.Request.{request}
 use Rattle.cx_model.specs.World.{World, run, records_of}
 use Rattle.cx_inv_run.specs.Laws.{Lands, Laws}
-use Rattle.cx_inv_run.specs.States.{State, Down, BatcherIn, LeaderIn, ProxyIn, ReplicaIn, ReaderIn, ReplacerIn, plain, state_found, fresh_state, set_state, snap_by, with_record, durable_of, Given, HoldsIn}
+use Rattle.cx_inv_run.specs.States.{State, Down, BatcherIn, LeaderIn, ProxyIn, ReplicaIn, ReaderIn, ReplacerIn, plain, fresh_state, set_state, snap_by, with_record, durable_of, Given, HoldsIn}
 use Rattle.cx_inv_run.proofs.Histories.{durable_by_time, durable_other, set_running}
 use Rattle.cx_inv_run.proofs.KindLaws.{kinds_hold}
 use Rattle.cx_inv_run.proofs.Members.{Member-first, any-Member}
@@ -193,10 +193,10 @@ module _ (c : Cluster) (es : List Event) where
     leaders = λ l v e.
         subst (λ (d : LeaderDurable). LeaderNotes c w.sent (role kind.Leader l) (round_of d.own) v)
         (sym (durable_by_time leader_rules (role kind.Leader l) w.kept))
-        (subst (λ (o : Option (Option LeaderVolatile)). NotedState c (reverse w.kept) w.sent (role kind.Leader l) (state_found LeaderIn o)) e
+        (subst (λ (s : State). NotedState c (reverse w.kept) w.sent (role kind.Leader l) s) e
         (all_noted c es (role kind.Leader l)));
     proxies = λ p v e.
-        subst (λ (o : Option (Option ProxyVolatile)). NotedState c (reverse w.kept) w.sent (role kind.Proxy p) (state_found ProxyIn o)) e
+        subst (λ (s : State). NotedState c (reverse w.kept) w.sent (role kind.Proxy p) s) e
         (all_noted c es (role kind.Proxy p));
   }
 

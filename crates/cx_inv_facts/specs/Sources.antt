@@ -1,6 +1,6 @@
 -- Where what a running leader or proxy leader notes came from, and which record and which datagram come in which order: beside what cx_model's
 -- Facts say. Nothing of it is proved here.
-use Rattle.std.specs.Prelude.{◌≡◌, ◌⊎◌, ℕ, ◌≤◌, true, List, length, slice_get, Some}
+use Rattle.std.specs.Prelude.{◌≡◌, ◌⊎◌, ℕ, ◌≤◌, true, List, length}
 use Rattle.cx_base.specs.declared.cluster.Cluster.{Cluster}
 use Rattle.cx_base.specs.declared.command.Command.{Command}
 use Rattle.cx_base.specs.declared.command.Placed.{Placed}
@@ -25,6 +25,7 @@ use Rattle.cx_model.specs.Matched.{enough}
 use Rattle.cx_model.specs.Member.{Member}
 use Rattle.cx_model.specs.Promises.{IsConfig}
 use Rattle.cx_model.specs.Proxy.{ProxyVolatile}
+use Rattle.cx_model.specs.State.{LeaderIn, ProxyIn}
 use Rattle.cx_model.specs.World.{World, change, run}
 use Rattle.cx_inv_match.specs.Facts.{AreOnce}
 
@@ -73,9 +74,9 @@ ProxyNotes sent me v = (v.known ≡ 0) ⊎ ((i : Round) × (g : Shape) × (s : �
 
 -- Sources: what a role notes came to it in datagrams.
 pub record SourceFacts (c : Cluster) (w : World) : Type 0 where
-  pub leaders : (l : ℕ) (v : LeaderVolatile) → slice_get w.roles.leaders l ≡ Some (Some v)
+  pub leaders : (l : ℕ) (v : LeaderVolatile) → w.roles (role kind.Leader l) ≡ LeaderIn v
       → LeaderNotes c w.sent (role kind.Leader l) (round_in w.kept (role kind.Leader l)) v
-  pub proxies : (p : ℕ) (v : ProxyVolatile) → slice_get w.roles.proxies p ≡ Some (Some v) → ProxyNotes w.sent (role kind.Proxy p) v
+  pub proxies : (p : ℕ) (v : ProxyVolatile) → w.roles (role kind.Proxy p) ≡ ProxyIn v → ProxyNotes w.sent (role kind.Proxy p) v
 
 -- Order: a matchmaker that counts as a recorder of a round has it with the round's own grid; and whoever asks matchmakers to forget the
 -- rounds below one had finished that round before.

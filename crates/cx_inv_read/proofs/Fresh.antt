@@ -22,7 +22,7 @@ use Rattle.cx_model.specs.Replica.{replica_rules}
 use Rattle.cx_model.specs.Request.{request}
 use Rattle.cx_model.specs.World.{World, change, step, run, run_from}
 use Rattle.cx_inv_run.specs.Laws.{Laws, AllAllowed, HoldsAlong}
-use Rattle.cx_inv_run.specs.States.{State, Down, BatcherIn, LeaderIn, ProxyIn, ReplicaIn, ReaderIn, ReplacerIn, plain, fresh_state, states_of, snap_by, durable_of, HoldsIn}
+use Rattle.cx_inv_run.specs.States.{State, Down, BatcherIn, LeaderIn, ProxyIn, ReplicaIn, ReaderIn, ReplacerIn, plain, fresh_state, snap_by, durable_of, HoldsIn}
 use Rattle.cx_inv_run.proofs.Histories.{set_running}
 use Rattle.cx_inv_run.proofs.KindLaws.{kinds_hold}
 use Rattle.cx_inv_run.proofs.Members.{Member-first, Member-reverse, Member-turned}
@@ -233,9 +233,9 @@ reads_since c es more t h =
       has_sent = has_sent;
       says = λ d m. else_says c asked t d.from d.to d.msg (unread d m) (turns.says d m);
       evidence = λ u new i. inr (inl (λ a n x. new (turns.says _ x.1)));
-      readers = λ a. not_under c asked t w.sent unread a (states_of w.roles a) ((reads_always c es t).readers a) ((facts_hold c es).running a);
+      readers = λ a. not_under c asked t w.sent unread a (w.roles a) ((reads_always c es t).readers a) ((facts_hold c es).running a);
     } in
-    let later = run_from_keeps c (λ n e. Unit {0}) (KnownSince c asked w.sent) (Since c asked w.sent t) (reads_laws c asked w.sent (states_of w.roles) (facts_hold c es) t) w (run_cluster c es)
+    let later = run_from_keeps c (λ n e. Unit {0}) (KnownSince c asked w.sent) (Since c asked w.sent t) (reads_laws c asked w.sent w.roles (facts_hold c es) t) w (run_cluster c es)
     now more (known_since c asked w.sent w more (along c (Known c) (known_holds c) es more) (λ k m. m) (λ d m. m)) (all_allowed w more)
     (has_run w more asked (λ k m. m)) (sent_run w more w.sent (λ d m. m)) in
     subst (λ x. HoldsIn (FreshReadFacts c asked w.sent t) x) (sym (run_append c es more)) later

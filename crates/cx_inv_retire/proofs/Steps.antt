@@ -24,7 +24,7 @@ use Rattle.cx_model.specs.Replica.{replica_rules, replica_row}
 use Rattle.cx_model.specs.Unbatcher.{unbatcher_row}
 use Rattle.cx_model.specs.World.{World, change, step, run, run_from}
 use Rattle.cx_inv_run.specs.Laws.{Laws, HoldsAlong}
-use Rattle.cx_inv_run.specs.States.{State, Down, BatcherIn, ProxyIn, ReplicaIn, ReplacerIn, plain, states_of, fresh_state, snap_by, durable_of, HoldsIn}
+use Rattle.cx_inv_run.specs.States.{State, Down, BatcherIn, ProxyIn, ReplicaIn, ReplacerIn, plain, fresh_state, snap_by, durable_of, HoldsIn}
 use Rattle.cx_inv_run.proofs.KindLaws.{kinds_hold}
 use Rattle.cx_inv_run.proofs.Members.{Member-first, Member-reverse, Member-turned}
 use Rattle.cx_inv_run.proofs.Senders.{acceptor_kinds, batcher_kinds, unbatcher_kinds, proxy_kinds, replica_kinds}
@@ -159,4 +159,4 @@ since c es more =
     let past = reverse w.kept in
     subst (λ x. HoldsIn (RetireFacts c past (IsFresh w.sent)) x) (sym (run_append c es more))
     (run_from_keeps c (λ n e. Unit {0}) (Known c past) (RetireFacts c past (IsFresh w.sent)) (retire_laws c past (IsFresh w.sent)) w (run_cluster c es)
-    (now c past w.sent (states_of w.roles) (facts_hold c es) (retire_holds c es)) more (knows_along c past (facts_hold c es).sets es more (λ k m. m)) (all_allowed w more))
+    (now c past w.sent w.roles (facts_hold c es) (retire_holds c es)) more (knows_along c past (facts_hold c es).sets es more (λ k m. m)) (all_allowed w more))

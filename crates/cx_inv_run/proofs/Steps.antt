@@ -1,7 +1,6 @@
 -- Each event keeps a property that has its laws, so it holds of every run.
-use Rattle.std.proofs.Common.{◌≡◌, ℕ, zero, suc, Bool, true, false, ◌⊎◌, List, [], ◌∷◌, ◌++◌, reverse, Option, None, Some, ap, sym, ◌∙◌, subst, refl, inl, inr, append-nil}
-use Rattle.std.specs.Prelude.{◌==◌, slice_get, slice_set, if◌then◌else◌}
-use Rattle.std.proofs.lemmas.Bool.{cases_Bool, true≢false}
+use Rattle.std.proofs.Common.{◌≡◌, ℕ, Bool, true, false, ◌⊎◌, List, [], ◌∷◌, ◌++◌, reverse, Option, None, Some, ap, sym, ◌∙◌, subst, refl, inl, inr, append-nil}
+use Rattle.std.specs.Prelude.{slice_get, if◌then◌else◌}
 use Rattle.std.proofs.lemmas.List.{reverse-append}
 use Rattle.cx_base.specs.declared.cluster.Cluster.{Cluster}
 use Rattle.cx_base.specs.declared.event.Cut.{Cut}
@@ -13,7 +12,7 @@ use Rattle.cx_base.specs.declared.role.Kind.{Kind}
 use Rattle.cx_base.specs.declared.role.Kind.TheVariants as kind
 use Rattle.cx_base.specs.declared.role.RoleId.{RoleId}
 use Rattle.cx_base.specs.declared.why.Why.TheVariants as why
-use Rattle.cx_base.specs.Role.{role, same_role, code_of}
+use Rattle.cx_base.specs.Role.{role}
 use Rattle.cx_letter.specs.Letter.{Letter}
 use Rattle.cx_letter.specs.declared.input.Act.{Act}
 use Rattle.cx_letter.specs.declared.input.Act.TheVariants.{Give, Snap, Stop, Wake}
@@ -24,173 +23,100 @@ use Rattle.cx_letter.specs.declared.input.Written.{Written}
 use Rattle.cx_letter.specs.declared.kept.Record.{Record}
 use Rattle.cx_field.specs.declared.parts.Token.{Token}
 use Rattle.cx_model.specs.Acceptor.{acceptor_rules, acceptor_row}
-use Rattle.cx_model.specs.Batcher.{BatcherVolatile, batcher_rules, batcher_row}
+use Rattle.cx_model.specs.Batcher.{batcher_rules, batcher_row}
 use Rattle.cx_model.specs.Heard.{heard_by}
-use Rattle.cx_model.specs.Leader.{LeaderVolatile, leader_rules, leader_row}
-use Rattle.cx_model.specs.Lists.{get_set_same, get_set_other, other_role, role_from_parts, number_itself, kind_same}
+use Rattle.cx_model.specs.Leader.{leader_rules, leader_row}
+use Rattle.cx_model.specs.Lists.{role_from_parts}
 use Rattle.cx_model.specs.Matchmaker.{matchmaker_rules, matchmaker_row}
-use Rattle.cx_model.specs.Outcome.{Outcome}
-use Rattle.cx_model.specs.Proxy.{ProxyVolatile, proxy_rules, proxy_row}
-use Rattle.cx_model.specs.Reader.{ReaderVolatile, reader_rules, reader_row}
-use Rattle.cx_model.specs.Replacer.{ReplacerVolatile, replacer_rules, replacer_row}
-use Rattle.cx_model.specs.Replica.{ReplicaVolatile, replica_rules, replica_row}
+use Rattle.cx_model.specs.Names.{names_role}
+use Rattle.cx_model.specs.Outcome.{Outcome, either_way}
+use Rattle.cx_model.specs.Proxy.{proxy_rules, proxy_row}
+use Rattle.cx_model.specs.Reader.{reader_rules, reader_row}
+use Rattle.cx_model.specs.Replacer.{replacer_rules, replacer_row}
+use Rattle.cx_model.specs.Replica.{replica_rules, replica_row}
 use Rattle.cx_model.specs.Request.{is_stale, request, token_of}
 use Rattle.cx_model.specs.Rules.{Rules}
-use Rattle.cx_model.specs.Turn.{Turn, turn, turn_with, whole_turn, snap_turn}
+use Rattle.cx_model.specs.Turn.{Turn, turn, turn_with, whole_turn, snap_turn, still}
 use Rattle.cx_model.specs.Unbatcher.{unbatcher_rules, unbatcher_row}
-use Rattle.cx_model.specs.World.{World, Roles, Change, change, changed, nothing, come, act_at, act_of, turn_found, durable_part, kept_by, fresh_roles, start, step, run, run_from}
-use Rattle.cx_inv_run.specs.States.{State, Down, Plain, BatcherIn, LeaderIn, ProxyIn, ReplicaIn, ReaderIn, ReplacerIn, plain, state_of, state_found, state_in, states_of, fresh_state, set_state, entry_by, snap_by, with_written, durable_of, Given, Property, HoldsIn}
+use Rattle.cx_model.specs.World.{World, Change, change, turned, nothing, come, act_at, act_of, durable_part, kept_by, start, step, run, run_from}
+use Rattle.cx_inv_run.specs.States.{State, Down, Plain, BatcherIn, LeaderIn, ProxyIn, ReplicaIn, ReaderIn, ReplacerIn, plain, state_of, plain_volatile, batcher_volatile, leader_volatile, proxy_volatile, replica_volatile, reader_volatile, replacer_volatile, fresh_state, set_state, entry_by, snap_by, with_written, durable_of, Given, Property, HoldsIn}
 use Rattle.cx_inv_run.specs.Laws.{Lands, Laws, anything, heard_of, AllAllowed, HoldsAlong, StepLaw, RunFromLaw, RunLaw}
 use Rattle.cx_inv_run.proofs.Members.{Member-at}
-use Rattle.cx_inv_run.proofs.Histories.{durable_by_time, record_written, set_running, set_same}
+use Rattle.cx_inv_run.proofs.Histories.{durable_by_time, record_written, set_same, set_twice, state_own}
 
--- How the roles of one kind are placed among all: their list, all roles with another list of theirs, and what a role's state is.
-pub record Place (V : Type 0) (k : Kind) (make : V → State) : Type 0 where
-  pub of : Roles → List (Option V)
-  pub put : Roles → List (Option V) → Roles
-  pub of_put : (roles : Roles) (l : List (Option V)) → of (put roles l) ≡ l
-  pub put_of : (roles : Roles) → put roles (of roles) ≡ roles
-  pub state : (roles : Roles) (i : ℕ) → state_in roles i k ≡ state_found make (slice_get (of roles) i)
-  pub others : (roles : Roles) (l : List (Option V)) (i : ℕ) (j : Kind) → (j ≡ k → ⊥) → state_in roles i j ≡ state_in (put roles l) i j
+-- a state that has a kind's part is that kind's
+abbrev pub Only : {V : Type 0} → (V → State) → (State → Option V) → Type 0
+Only {V} make get = (s : State) (v : V) → get s ≡ Some v → s ≡ make v
 
--- what holds of each kind holds of all
-pub by_kind : (P : Kind → Type 0) → P kind.Client → P kind.Batcher → P kind.Leader → P kind.Proxy → P kind.Acceptor → P kind.Matchmaker → P kind.Replica → P kind.Unbatcher → P kind.Reader → P kind.Replacer
-    → (k : Kind) → P k
-by_kind P client batcher leader proxy acceptor matchmaker replica unbatcher reader replacer kind.Client = client
-by_kind P client batcher leader proxy acceptor matchmaker replica unbatcher reader replacer kind.Batcher = batcher
-by_kind P client batcher leader proxy acceptor matchmaker replica unbatcher reader replacer kind.Leader = leader
-by_kind P client batcher leader proxy acceptor matchmaker replica unbatcher reader replacer kind.Proxy = proxy
-by_kind P client batcher leader proxy acceptor matchmaker replica unbatcher reader replacer kind.Acceptor = acceptor
-by_kind P client batcher leader proxy acceptor matchmaker replica unbatcher reader replacer kind.Matchmaker = matchmaker
-by_kind P client batcher leader proxy acceptor matchmaker replica unbatcher reader replacer kind.Replica = replica
-by_kind P client batcher leader proxy acceptor matchmaker replica unbatcher reader replacer kind.Unbatcher = unbatcher
-by_kind P client batcher leader proxy acceptor matchmaker replica unbatcher reader replacer kind.Reader = reader
-by_kind P client batcher leader proxy acceptor matchmaker replica unbatcher reader replacer kind.Replacer = replacer
+pub only_plain : Only plain plain_volatile
+only_plain Down v e = cc
+only_plain Plain v e = refl
+only_plain (BatcherIn u) v e = cc
+only_plain (LeaderIn u) v e = cc
+only_plain (ProxyIn u) v e = cc
+only_plain (ReplicaIn u) v e = cc
+only_plain (ReaderIn u) v e = cc
+only_plain (ReplacerIn u) v e = cc
 
-abbrev pub Others : Kind → Roles → Roles → ℕ → Kind → Type 0
-Others k roles changed i j = (j ≡ k → ⊥) → state_in roles i j ≡ state_in changed i j
+pub only_batcher : Only BatcherIn batcher_volatile
+only_batcher Down v e = cc
+only_batcher Plain v e = cc
+only_batcher (BatcherIn u) v e = cc
+only_batcher (LeaderIn u) v e = cc
+only_batcher (ProxyIn u) v e = cc
+only_batcher (ReplicaIn u) v e = cc
+only_batcher (ReaderIn u) v e = cc
+only_batcher (ReplacerIn u) v e = cc
 
-pub own : {A : Type 0} (k : Kind) → (k ≡ k → ⊥) → A
-own k h = absurd (h refl)
+pub only_leader : Only LeaderIn leader_volatile
+only_leader Down v e = cc
+only_leader Plain v e = cc
+only_leader (BatcherIn u) v e = cc
+only_leader (LeaderIn u) v e = cc
+only_leader (ProxyIn u) v e = cc
+only_leader (ReplicaIn u) v e = cc
+only_leader (ReaderIn u) v e = cc
+only_leader (ReplacerIn u) v e = cc
 
-abbrev pub batchers : Place BatcherVolatile kind.Batcher BatcherIn
-batchers = record {
-  of = λ r. r.batchers;
-  put = λ r l. record r { batchers = l };
-  of_put = λ r l. refl;
-  put_of = λ r. refl;
-  state = λ r i. refl;
-  others = λ r l i. by_kind (Others kind.Batcher r (record r { batchers = l }) i) (λ h. refl) (own kind.Batcher) (λ h. refl) (λ h. refl) (λ h. refl) (λ h. refl) (λ h. refl) (λ h. refl) (λ h. refl) (λ h. refl);
-}
+pub only_proxy : Only ProxyIn proxy_volatile
+only_proxy Down v e = cc
+only_proxy Plain v e = cc
+only_proxy (BatcherIn u) v e = cc
+only_proxy (LeaderIn u) v e = cc
+only_proxy (ProxyIn u) v e = cc
+only_proxy (ReplicaIn u) v e = cc
+only_proxy (ReaderIn u) v e = cc
+only_proxy (ReplacerIn u) v e = cc
 
-abbrev pub leaders : Place LeaderVolatile kind.Leader LeaderIn
-leaders = record {
-  of = λ r. r.leaders;
-  put = λ r l. record r { leaders = l };
-  of_put = λ r l. refl;
-  put_of = λ r. refl;
-  state = λ r i. refl;
-  others = λ r l i. by_kind (Others kind.Leader r (record r { leaders = l }) i) (λ h. refl) (λ h. refl) (own kind.Leader) (λ h. refl) (λ h. refl) (λ h. refl) (λ h. refl) (λ h. refl) (λ h. refl) (λ h. refl);
-}
+pub only_replica : Only ReplicaIn replica_volatile
+only_replica Down v e = cc
+only_replica Plain v e = cc
+only_replica (BatcherIn u) v e = cc
+only_replica (LeaderIn u) v e = cc
+only_replica (ProxyIn u) v e = cc
+only_replica (ReplicaIn u) v e = cc
+only_replica (ReaderIn u) v e = cc
+only_replica (ReplacerIn u) v e = cc
 
-abbrev pub proxies : Place ProxyVolatile kind.Proxy ProxyIn
-proxies = record {
-  of = λ r. r.proxies;
-  put = λ r l. record r { proxies = l };
-  of_put = λ r l. refl;
-  put_of = λ r. refl;
-  state = λ r i. refl;
-  others = λ r l i. by_kind (Others kind.Proxy r (record r { proxies = l }) i) (λ h. refl) (λ h. refl) (λ h. refl) (own kind.Proxy) (λ h. refl) (λ h. refl) (λ h. refl) (λ h. refl) (λ h. refl) (λ h. refl);
-}
+pub only_reader : Only ReaderIn reader_volatile
+only_reader Down v e = cc
+only_reader Plain v e = cc
+only_reader (BatcherIn u) v e = cc
+only_reader (LeaderIn u) v e = cc
+only_reader (ProxyIn u) v e = cc
+only_reader (ReplicaIn u) v e = cc
+only_reader (ReaderIn u) v e = cc
+only_reader (ReplacerIn u) v e = cc
 
-abbrev pub acceptors : Place (Unit {0}) kind.Acceptor plain
-acceptors = record {
-  of = λ r. r.acceptors;
-  put = λ r l. record r { acceptors = l };
-  of_put = λ r l. refl;
-  put_of = λ r. refl;
-  state = λ r i. refl;
-  others = λ r l i. by_kind (Others kind.Acceptor r (record r { acceptors = l }) i) (λ h. refl) (λ h. refl) (λ h. refl) (λ h. refl) (own kind.Acceptor) (λ h. refl) (λ h. refl) (λ h. refl) (λ h. refl) (λ h. refl);
-}
-
-abbrev pub matchmakers : Place (Unit {0}) kind.Matchmaker plain
-matchmakers = record {
-  of = λ r. r.matchmakers;
-  put = λ r l. record r { matchmakers = l };
-  of_put = λ r l. refl;
-  put_of = λ r. refl;
-  state = λ r i. refl;
-  others = λ r l i. by_kind (Others kind.Matchmaker r (record r { matchmakers = l }) i) (λ h. refl) (λ h. refl) (λ h. refl) (λ h. refl) (λ h. refl) (own kind.Matchmaker) (λ h. refl) (λ h. refl) (λ h. refl) (λ h. refl);
-}
-
-abbrev pub replicas : Place ReplicaVolatile kind.Replica ReplicaIn
-replicas = record {
-  of = λ r. r.replicas;
-  put = λ r l. record r { replicas = l };
-  of_put = λ r l. refl;
-  put_of = λ r. refl;
-  state = λ r i. refl;
-  others = λ r l i. by_kind (Others kind.Replica r (record r { replicas = l }) i) (λ h. refl) (λ h. refl) (λ h. refl) (λ h. refl) (λ h. refl) (λ h. refl) (own kind.Replica) (λ h. refl) (λ h. refl) (λ h. refl);
-}
-
-abbrev pub unbatchers : Place (Unit {0}) kind.Unbatcher plain
-unbatchers = record {
-  of = λ r. r.unbatchers;
-  put = λ r l. record r { unbatchers = l };
-  of_put = λ r l. refl;
-  put_of = λ r. refl;
-  state = λ r i. refl;
-  others = λ r l i. by_kind (Others kind.Unbatcher r (record r { unbatchers = l }) i) (λ h. refl) (λ h. refl) (λ h. refl) (λ h. refl) (λ h. refl) (λ h. refl) (λ h. refl) (own kind.Unbatcher) (λ h. refl) (λ h. refl);
-}
-
-abbrev pub readers : Place ReaderVolatile kind.Reader ReaderIn
-readers = record {
-  of = λ r. r.readers;
-  put = λ r l. record r { readers = l };
-  of_put = λ r l. refl;
-  put_of = λ r. refl;
-  state = λ r i. refl;
-  others = λ r l i. by_kind (Others kind.Reader r (record r { readers = l }) i) (λ h. refl) (λ h. refl) (λ h. refl) (λ h. refl) (λ h. refl) (λ h. refl) (λ h. refl) (λ h. refl) (own kind.Reader) (λ h. refl);
-}
-
-abbrev pub replacers : Place ReplacerVolatile kind.Replacer ReplacerIn
-replacers = record {
-  of = λ r. r.replacers;
-  put = λ r l. record r { replacers = l };
-  of_put = λ r l. refl;
-  put_of = λ r. refl;
-  state = λ r i. refl;
-  others = λ r l i. by_kind (Others kind.Replacer r (record r { replacers = l }) i) (λ h. refl) (λ h. refl) (λ h. refl) (λ h. refl) (λ h. refl) (λ h. refl) (λ h. refl) (λ h. refl) (λ h. refl) (own kind.Replacer);
-}
-
-kind_cases : (k l : Kind) → (k ≡ l) ⊎ (k ≡ l → ⊥)
-kind_cases k l = elim (cases_Bool (code_of k == code_of l)) [
-  | inl t ↦ inl (kind_same k l t)
-  | inr f ↦ inr (λ p. true≢false (sym (subst (λ x. (code_of k == code_of x) ≡ true) p (number_itself (code_of k))) ∙ f))
-]
-
--- one role's new state in the list of its kind is its new state among all
-module _ {V : Type 0} (k : Kind) (make : V → State) (at : Place V k make) where
-  pub place_of : (roles : Roles) (me : RoleId) (o : Option (Option V)) → me.kind ≡ k → slice_get (at.of roles) me.index ≡ o → states_of roles me ≡ state_found make o
-  place_of roles me o is e = ap (λ j. state_in roles me.index j) is ∙ at.state roles me.index ∙ ap (λ x. state_found make x) e
-
-  pub place_set : (roles : Roles) (me : RoleId) (old new : Option V) → me.kind ≡ k → slice_get (at.of roles) me.index ≡ Some old
-      → (a : RoleId) → set_state me (state_of make new) (states_of roles) a ≡ states_of (at.put roles (slice_set (at.of roles) me.index new)) a
-  place_set roles me old new is found =
-      let l = slice_set (at.of roles) me.index new in
-      let after = at.put roles l in
-      set_running (λ a s. s ≡ states_of after a) me (state_of make new) (states_of roles)
-      (sym (place_of after me (Some new) is (ap (λ x. slice_get x me.index) (at.of_put roles l) ∙ get_set_same (at.of roles) me.index old new found)))
-      (λ a e. other a e (kind_cases a.kind k))
-    where
-      other : (a : RoleId) → same_role a me ≡ false → (a.kind ≡ k) ⊎ (a.kind ≡ k → ⊥) → states_of roles a ≡ states_of (at.put roles (slice_set (at.of roles) me.index new)) a
-      other a e (inr differs) = at.others roles (slice_set (at.of roles) me.index new) a.index a.kind differs
-      other a e (inl p) =
-          let l = slice_set (at.of roles) me.index new in
-          place_of roles a (slice_get (at.of roles) a.index) p refl
-          ∙ sym (place_of (at.put roles l) a (slice_get (at.of roles) a.index) p
-          (ap (λ x. slice_get x a.index) (at.of_put roles l)
-          ∙ get_set_other (at.of roles) me.index a.index new (λ q. other_role a me e (role_from_parts a.kind me.kind a.index me.index (p ∙ sym is) q))))
+pub only_replacer : Only ReplacerIn replacer_volatile
+only_replacer Down v e = cc
+only_replacer Plain v e = cc
+only_replacer (BatcherIn u) v e = cc
+only_replacer (LeaderIn u) v e = cc
+only_replacer (ProxyIn u) v e = cc
+only_replacer (ReplicaIn u) v e = cc
+only_replacer (ReaderIn u) v e = cc
+only_replacer (ReplacerIn u) v e = cc
 
 kept_turned : (me : RoleId) (o : Option Written) (kept : List KeptRecord) → with_written me o kept ≡ reverse (kept_by me o) ++ kept
 kept_turned me None kept = refl
@@ -245,50 +171,52 @@ module _ (c : Cluster) (Allowed : ℕ → Event → Type 0) (known holds : Prope
         let after = snap_by me first ∷ kept in
         subst (λ l. holds after l (set_state me Down states)) (sym (append-nil sent)) (laws.stop after sent states me (snaps first refl))
 
+    -- a role that runs is in this state; where it doesn't run, its state may be any
+    opens : holds kept sent (set_state me (fresh_state c me.kind) states)
+    opens =
+        laws.same kept sent (set_state me (fresh_state c me.kind) (set_state me Down states)) (set_state me (fresh_state c me.kind) states)
+        (λ a. sym (set_twice me (fresh_state c me.kind) Down states a))
+        (laws.wake kept sent (set_state me Down states) me (laws.stop kept sent states me h) (state_own me Down states))
+
     acted : {D : Type 0} (rules : Rules D V) (d : D) → fresh_state c me.kind ≡ make (rules.fresh c)
-        → (running : Option V) → states me ≡ state_of make running
+        → (running : Option V) → ((v : V) → running ≡ Some v → states me ≡ make v)
         → (act : Act) → ((v : V) (i : Input) (cut : Cut) → act ≡ Give i cut → states me ≡ make v → Lands holds kept sent states me make (rules.row c me d v i))
         → ((v : V) (first : ℕ) → states me ≡ make v → rules.snap c me d v ≡ Some first → holds (snap_by me first ∷ kept) sent states)
         → AfterTurn (turn rules c me d act running)
     acted rules d fresh None is (Give i cut) row snaps = stopped
-    acted rules d fresh (Some v) is (Give i cut) row snaps = landed cut (rules.row c me d v i) ((rules.row c me d v i).kept) refl (row v i cut refl is)
+    acted rules d fresh (Some v) is (Give i cut) row snaps = landed cut (rules.row c me d v i) ((rules.row c me d v i).kept) refl (row v i cut refl (is v refl))
     acted rules d fresh None is (Snap cut) row snaps = stopped
-    acted rules d fresh (Some v) is (Snap cut) row snaps = forgot cut v (rules.snap c me d v) is (λ first e. snaps v first is e)
+    acted rules d fresh (Some v) is (Snap cut) row snaps = forgot cut v (rules.snap c me d v) (is v refl) (λ first e. snaps v first (is v refl) e)
     acted rules d fresh None is Stop row snaps = stopped
     acted rules d fresh (Some v) is Stop row snaps = stopped
     acted rules d fresh None is Wake row snaps =
-        quiet (make (rules.fresh c)) (subst (λ s. holds kept sent (set_state me s states)) fresh (laws.wake kept sent states me h is))
-    acted rules d fresh (Some v) is Wake row snaps = stays v is
+        either_way AfterTurn (names_role c me) (still (Some (rules.fresh c)) why.Opened) (still None why.Down)
+        (quiet (make (rules.fresh c)) (subst (λ s. holds kept sent (set_state me s states)) fresh opens)) stopped
+    acted rules d fresh (Some v) is Wake row snaps = stays v (is v refl)
 
   -- a change of a world
   module _ (w : World) (is_c : w.cluster ≡ c) (knows : HoldsIn known w) (h : HoldsIn holds w) where
     abbrev AfterChange : Change → Type 0
-    AfterChange ch = holds (reverse ch.kept ++ reverse w.kept) (w.sent ++ ch.sends) (states_of ch.roles)
+    AfterChange ch = holds (reverse ch.kept ++ reverse w.kept) (w.sent ++ ch.sends) (ch.roles)
 
-    no_change : holds (reverse w.kept) (w.sent ++ []) (states_of w.roles)
-    no_change = subst (λ l. holds (reverse w.kept) l (states_of w.roles)) (sym (append-nil w.sent)) h
+    no_change : holds (reverse w.kept) (w.sent ++ []) w.roles
+    no_change = subst (λ l. holds (reverse w.kept) l w.roles) (sym (append-nil w.sent)) h
 
-    placed : {D V : Type 0} (k : Kind) (make : V → State) (at : Place V k make) (rules : Rules D V) (me : RoleId) (act : Act) → me.kind ≡ k
+    placed : {D V : Type 0} (k : Kind) (make : V → State) (get : State → Option V) → Only make get → (rules : Rules D V) (me : RoleId) (act : Act) → me.kind ≡ k
         → fresh_state c k ≡ make (rules.fresh c)
-        → ((v : V) (i : Input) (cut : Cut) → act ≡ Give i cut → states_of w.roles me ≡ make v
-        → Lands holds (reverse w.kept) w.sent (states_of w.roles) me make (rules.row c me (durable_of rules me (reverse w.kept)) v i))
-        → ((v : V) (first : ℕ) → states_of w.roles me ≡ make v → rules.snap c me (durable_of rules me (reverse w.kept)) v ≡ Some first
-        → holds (snap_by me first ∷ reverse w.kept) w.sent (states_of w.roles))
-        → (o : Option (Option V)) → slice_get (at.of w.roles) me.index ≡ o
-        → (let t = turn_found rules c me w.kept act (at.of w.roles) o in AfterChange (changed me (at.put w.roles t.roles) t))
-    placed k make at rules me act is fresh row snaps None e =
-        subst (λ r. holds (reverse w.kept) (w.sent ++ []) (states_of r)) (sym (at.put_of w.roles)) no_change
-    placed k make at rules me act is fresh row snaps (Some running) e =
+        → ((v : V) (i : Input) (cut : Cut) → act ≡ Give i cut → w.roles me ≡ make v
+        → Lands holds (reverse w.kept) w.sent w.roles me make (rules.row c me (durable_of rules me (reverse w.kept)) v i))
+        → ((v : V) (first : ℕ) → w.roles me ≡ make v → rules.snap c me (durable_of rules me (reverse w.kept)) v ≡ Some first
+        → holds (snap_by me first ∷ reverse w.kept) w.sent w.roles)
+        → AfterChange (turned rules make c w.roles w.kept act me (get (w.roles me)))
+    placed k make get only rules me act is fresh row snaps =
         let kept = reverse w.kept in
-        let d = durable_part rules me w.kept in
-        let t = turn rules c me d act running in
-        let after = at.put w.roles (slice_set (at.of w.roles) me.index t.role) in
-        let done = acted kept w.sent (states_of w.roles) h me make rules d (ap (λ j. fresh_state c j) is ∙ fresh)
-        running (place_of k make at w.roles me (Some running) is e) act
-        (λ v i cut p s. subst (λ x. Lands holds kept w.sent (states_of w.roles) me make (rules.row c me x v i)) (sym (durable_by_time rules me w.kept)) (row v i cut p s))
-        (λ v first s e. snaps v first s (subst (λ x. rules.snap c me x v ≡ Some first) (durable_by_time rules me w.kept) e)) in
-        subst (λ l. holds l (w.sent ++ t.sends) (states_of after)) (kept_turned me t.kept kept)
-        (laws.same (with_written me t.kept kept) (w.sent ++ t.sends) (set_state me (state_of make t.role) (states_of w.roles)) (states_of after) (place_set k make at w.roles me running t.role is e) done)
+        let t = turn rules c me (durable_part rules me w.kept) act (get (w.roles me)) in
+        subst (λ l. holds l (w.sent ++ t.sends) (set_state me (state_of make t.role) w.roles)) (kept_turned me t.kept kept)
+        (acted kept w.sent w.roles h me make rules (durable_part rules me w.kept) (ap (λ j. fresh_state c j) is ∙ fresh)
+        (get (w.roles me)) (λ v e. only (w.roles me) v e) act
+        (λ v i cut p s. subst (λ x. Lands holds kept w.sent w.roles me make (rules.row c me x v i)) (sym (durable_by_time rules me w.kept)) (row v i cut p s))
+        (λ v first s e. snaps v first s (subst (λ x. rules.snap c me x v ≡ Some first) (durable_by_time rules me w.kept) e)))
 
     module _ (me : RoleId) (act : Act) (given : ActGiven w.sent me act) where
       given_to : (i : Input) (cut : Cut) → act ≡ Give i cut → Given w.sent me i
@@ -297,60 +225,51 @@ module _ (c : Cluster) (Allowed : ℕ → Event → Type 0) (known holds : Prope
       at_role : (k : Kind) → me.kind ≡ k → AfterChange (act_of c w.roles w.kept act me k)
       at_role kind.Client is = no_change
       at_role kind.Batcher is =
-          placed kind.Batcher BatcherIn batchers batcher_rules me act is refl
-          (λ v i cut p s. as_role (λ a. states_of w.roles a ≡ BatcherIn v → Given w.sent a i → Lands holds (reverse w.kept) w.sent (states_of w.roles) a BatcherIn (batcher_row c a tt v i)) kind.Batcher me is
-          (laws.batcher (reverse w.kept) w.sent (states_of w.roles) me.index v i knows h) s (given_to i cut p))
+          placed kind.Batcher BatcherIn batcher_volatile only_batcher batcher_rules me act is refl
+          (λ v i cut p s. as_role (λ a. w.roles a ≡ BatcherIn v → Given w.sent a i → Lands holds (reverse w.kept) w.sent w.roles a BatcherIn (batcher_row c a tt v i)) kind.Batcher me is
+          (laws.batcher (reverse w.kept) w.sent w.roles me.index v i knows h) s (given_to i cut p))
           (λ v first s e. absurd cc)
-          (slice_get w.roles.batchers me.index) refl
       at_role kind.Leader is =
-          placed kind.Leader LeaderIn leaders leader_rules me act is refl
-          (λ v i cut p s. as_role (λ a. states_of w.roles a ≡ LeaderIn v → Given w.sent a i → Lands holds (reverse w.kept) w.sent (states_of w.roles) a LeaderIn (leader_row c a (durable_of leader_rules a (reverse w.kept)) v i)) kind.Leader me is
-          (laws.leader (reverse w.kept) w.sent (states_of w.roles) me.index v i knows h) s (given_to i cut p))
+          placed kind.Leader LeaderIn leader_volatile only_leader leader_rules me act is refl
+          (λ v i cut p s. as_role (λ a. w.roles a ≡ LeaderIn v → Given w.sent a i → Lands holds (reverse w.kept) w.sent w.roles a LeaderIn (leader_row c a (durable_of leader_rules a (reverse w.kept)) v i)) kind.Leader me is
+          (laws.leader (reverse w.kept) w.sent w.roles me.index v i knows h) s (given_to i cut p))
           (λ v first s e. absurd cc)
-          (slice_get w.roles.leaders me.index) refl
       at_role kind.Proxy is =
-          placed kind.Proxy ProxyIn proxies proxy_rules me act is refl
-          (λ v i cut p s. as_role (λ a. states_of w.roles a ≡ ProxyIn v → Given w.sent a i → Lands holds (reverse w.kept) w.sent (states_of w.roles) a ProxyIn (proxy_row c a tt v i)) kind.Proxy me is
-          (laws.proxy (reverse w.kept) w.sent (states_of w.roles) me.index v i knows h) s (given_to i cut p))
+          placed kind.Proxy ProxyIn proxy_volatile only_proxy proxy_rules me act is refl
+          (λ v i cut p s. as_role (λ a. w.roles a ≡ ProxyIn v → Given w.sent a i → Lands holds (reverse w.kept) w.sent w.roles a ProxyIn (proxy_row c a tt v i)) kind.Proxy me is
+          (laws.proxy (reverse w.kept) w.sent w.roles me.index v i knows h) s (given_to i cut p))
           (λ v first s e. absurd cc)
-          (slice_get w.roles.proxies me.index) refl
       at_role kind.Acceptor is =
-          placed kind.Acceptor plain acceptors acceptor_rules me act is refl
-          (λ v i cut p s. as_role (λ a. states_of w.roles a ≡ Plain → Given w.sent a i → Lands holds (reverse w.kept) w.sent (states_of w.roles) a plain (acceptor_row c a (durable_of acceptor_rules a (reverse w.kept)) tt i)) kind.Acceptor me is
-          (laws.acceptor (reverse w.kept) w.sent (states_of w.roles) me.index i knows h) s (given_to i cut p))
+          placed kind.Acceptor plain plain_volatile only_plain acceptor_rules me act is refl
+          (λ v i cut p s. as_role (λ a. w.roles a ≡ Plain → Given w.sent a i → Lands holds (reverse w.kept) w.sent w.roles a plain (acceptor_row c a (durable_of acceptor_rules a (reverse w.kept)) tt i)) kind.Acceptor me is
+          (laws.acceptor (reverse w.kept) w.sent w.roles me.index i knows h) s (given_to i cut p))
           (λ v first s e. absurd cc)
-          (slice_get w.roles.acceptors me.index) refl
       at_role kind.Matchmaker is =
-          placed kind.Matchmaker plain matchmakers matchmaker_rules me act is refl
-          (λ v i cut p s. as_role (λ a. states_of w.roles a ≡ Plain → Given w.sent a i → Lands holds (reverse w.kept) w.sent (states_of w.roles) a plain (matchmaker_row c a (durable_of matchmaker_rules a (reverse w.kept)) tt i)) kind.Matchmaker me is
-          (laws.matchmaker (reverse w.kept) w.sent (states_of w.roles) me.index i knows h) s (given_to i cut p))
+          placed kind.Matchmaker plain plain_volatile only_plain matchmaker_rules me act is refl
+          (λ v i cut p s. as_role (λ a. w.roles a ≡ Plain → Given w.sent a i → Lands holds (reverse w.kept) w.sent w.roles a plain (matchmaker_row c a (durable_of matchmaker_rules a (reverse w.kept)) tt i)) kind.Matchmaker me is
+          (laws.matchmaker (reverse w.kept) w.sent w.roles me.index i knows h) s (given_to i cut p))
           (λ v first s e. absurd cc)
-          (slice_get w.roles.matchmakers me.index) refl
       at_role kind.Replica is =
-          placed kind.Replica ReplicaIn replicas replica_rules me act is refl
-          (λ v i cut p s. as_role (λ a. states_of w.roles a ≡ ReplicaIn v → Given w.sent a i → Lands holds (reverse w.kept) w.sent (states_of w.roles) a ReplicaIn (replica_row c a (durable_of replica_rules a (reverse w.kept)) v i)) kind.Replica me is
-          (laws.replica (reverse w.kept) w.sent (states_of w.roles) me.index v i knows h) s (given_to i cut p))
-          (λ v first. as_role (λ a. states_of w.roles a ≡ ReplicaIn v → replica_rules.snap c a (durable_of replica_rules a (reverse w.kept)) v ≡ Some first → holds (snap_by a first ∷ reverse w.kept) w.sent (states_of w.roles)) kind.Replica me is
-          (laws.snap (reverse w.kept) w.sent (states_of w.roles) me.index v first knows h))
-          (slice_get w.roles.replicas me.index) refl
+          placed kind.Replica ReplicaIn replica_volatile only_replica replica_rules me act is refl
+          (λ v i cut p s. as_role (λ a. w.roles a ≡ ReplicaIn v → Given w.sent a i → Lands holds (reverse w.kept) w.sent w.roles a ReplicaIn (replica_row c a (durable_of replica_rules a (reverse w.kept)) v i)) kind.Replica me is
+          (laws.replica (reverse w.kept) w.sent w.roles me.index v i knows h) s (given_to i cut p))
+          (λ v first. as_role (λ a. w.roles a ≡ ReplicaIn v → replica_rules.snap c a (durable_of replica_rules a (reverse w.kept)) v ≡ Some first → holds (snap_by a first ∷ reverse w.kept) w.sent w.roles) kind.Replica me is
+          (laws.snap (reverse w.kept) w.sent w.roles me.index v first knows h))
       at_role kind.Unbatcher is =
-          placed kind.Unbatcher plain unbatchers unbatcher_rules me act is refl
-          (λ v i cut p s. as_role (λ a. states_of w.roles a ≡ Plain → Given w.sent a i → Lands holds (reverse w.kept) w.sent (states_of w.roles) a plain (unbatcher_row c a tt tt i)) kind.Unbatcher me is
-          (laws.unbatcher (reverse w.kept) w.sent (states_of w.roles) me.index i knows h) s (given_to i cut p))
+          placed kind.Unbatcher plain plain_volatile only_plain unbatcher_rules me act is refl
+          (λ v i cut p s. as_role (λ a. w.roles a ≡ Plain → Given w.sent a i → Lands holds (reverse w.kept) w.sent w.roles a plain (unbatcher_row c a tt tt i)) kind.Unbatcher me is
+          (laws.unbatcher (reverse w.kept) w.sent w.roles me.index i knows h) s (given_to i cut p))
           (λ v first s e. absurd cc)
-          (slice_get w.roles.unbatchers me.index) refl
       at_role kind.Reader is =
-          placed kind.Reader ReaderIn readers reader_rules me act is refl
-          (λ v i cut p s. as_role (λ a. states_of w.roles a ≡ ReaderIn v → Given w.sent a i → Lands holds (reverse w.kept) w.sent (states_of w.roles) a ReaderIn (reader_row c a (durable_of reader_rules a (reverse w.kept)) v i)) kind.Reader me is
-          (laws.reader (reverse w.kept) w.sent (states_of w.roles) me.index v i knows h) s (given_to i cut p))
+          placed kind.Reader ReaderIn reader_volatile only_reader reader_rules me act is refl
+          (λ v i cut p s. as_role (λ a. w.roles a ≡ ReaderIn v → Given w.sent a i → Lands holds (reverse w.kept) w.sent w.roles a ReaderIn (reader_row c a (durable_of reader_rules a (reverse w.kept)) v i)) kind.Reader me is
+          (laws.reader (reverse w.kept) w.sent w.roles me.index v i knows h) s (given_to i cut p))
           (λ v first s e. absurd cc)
-          (slice_get w.roles.readers me.index) refl
       at_role kind.Replacer is =
-          placed kind.Replacer ReplacerIn replacers replacer_rules me act is refl
-          (λ v i cut p s. as_role (λ a. states_of w.roles a ≡ ReplacerIn v → Given w.sent a i → Lands holds (reverse w.kept) w.sent (states_of w.roles) a ReplacerIn (replacer_row c a (durable_of replacer_rules a (reverse w.kept)) v i)) kind.Replacer me is
-          (laws.replacer (reverse w.kept) w.sent (states_of w.roles) me.index v i knows h) s (given_to i cut p))
+          placed kind.Replacer ReplacerIn replacer_volatile only_replacer replacer_rules me act is refl
+          (λ v i cut p s. as_role (λ a. w.roles a ≡ ReplacerIn v → Given w.sent a i → Lands holds (reverse w.kept) w.sent w.roles a ReplacerIn (replacer_row c a (durable_of replacer_rules a (reverse w.kept)) v i)) kind.Replacer me is
+          (laws.replacer (reverse w.kept) w.sent w.roles me.index v i knows h) s (given_to i cut p))
           (λ v first s e. absurd cc)
-          (slice_get w.roles.replacers me.index) refl
 
     acts : (act : Act) (me : RoleId) → ActGiven w.sent me act → AfterChange (act_at w act me)
     acts act me given = subst (λ x. AfterChange (act_of x w.roles w.kept act me me.kind)) (sym is_c) (at_role me act given me.kind refl)
@@ -367,7 +286,7 @@ module _ (c : Cluster) (Allowed : ℕ → Event → Type 0) (known holds : Prope
 
     asks : (e : Event) (t : Token) (stale : Bool) → ((asked e t stale).why ≡ why.Sent → Allowed (heard_by t.client w.sent w.events) e) → AfterChange (asked e t stale)
     asks e t true allowed = no_change
-    asks e t false allowed = laws.ask (reverse w.kept) w.sent (states_of w.roles) (heard_by t.client w.sent w.events) e (allowed refl) knows h
+    asks e t false allowed = laws.ask (reverse w.kept) w.sent w.roles (heard_by t.client w.sent w.events) e (allowed refl) knows h
 
     changes : (e : Event) → ((change w e).why ≡ why.Sent → Allowed (heard_of w (token_of e)) e) → AfterChange (change w e)
     changes (event.Write command batcher) allowed =
@@ -388,7 +307,7 @@ module _ (c : Cluster) (Allowed : ℕ → Event → Type 0) (known holds : Prope
     unfolding step
     stepped e allowed =
         let ch = change w e in
-        subst (λ k. holds k (w.sent ++ ch.sends) (states_of ch.roles)) (sym (reverse-append w.kept ch.kept)) (changes e allowed)
+        subst (λ k. holds k (w.sent ++ ch.sends) (ch.roles)) (sym (reverse-append w.kept ch.kept)) (changes e allowed)
 
 -- an event changes nothing of the cluster
 pub step_cluster : (w : World) (e : Event) → (step w e).cluster ≡ w.cluster
@@ -405,25 +324,12 @@ run_from_keeps c Allowed known holds laws w is h (e ∷ es) along allowed =
 
 -- at the start each role is fresh or isn't there
 
-fresh_or_down : {V : Type 0} (make : V → State) (v : V) (count i : ℕ) → (state_found make (slice_get (fresh_roles v count) i) ≡ Down) ⊎ (state_found make (slice_get (fresh_roles v count) i) ≡ make v)
-fresh_or_down make v zero i = inl refl
-fresh_or_down make v (suc count) zero = inr refl
-fresh_or_down make v (suc count) (suc i) = fresh_or_down make v count i
-
-start_state : (c : Cluster) (i : ℕ) (k : Kind) → (state_in ((start c).roles) i k ≡ Down) ⊎ (state_in ((start c).roles) i k ≡ fresh_state c k)
-start_state c i kind.Client = inl refl
-start_state c i kind.Batcher = fresh_or_down BatcherIn (batcher_rules.fresh c) c.batchers i
-start_state c i kind.Leader = fresh_or_down LeaderIn (leader_rules.fresh c) c.leaders i
-start_state c i kind.Proxy = fresh_or_down ProxyIn (proxy_rules.fresh c) c.proxies i
-start_state c i kind.Acceptor = fresh_or_down plain tt c.acceptors i
-start_state c i kind.Matchmaker = fresh_or_down plain tt c.pool i
-start_state c i kind.Replica = fresh_or_down ReplicaIn (replica_rules.fresh c) c.replicas i
-start_state c i kind.Unbatcher = fresh_or_down plain tt c.unbatchers i
-start_state c i kind.Reader = fresh_or_down ReaderIn (reader_rules.fresh c) c.readers i
-start_state c i kind.Replacer = fresh_or_down ReplacerIn (replacer_rules.fresh c) c.replacers i
+fresh_if : (b : Bool) (s : State) → ((if b then s else Down) ≡ Down) ⊎ ((if b then s else Down) ≡ s)
+fresh_if true s = inr refl
+fresh_if false s = inl refl
 
 pub start_holds : (c : Cluster) (Allowed : ℕ → Event → Type 0) (known holds : Property) → Laws c Allowed known holds → HoldsIn holds (run c [])
-start_holds c Allowed known holds laws = laws.start (states_of ((start c).roles)) (λ a. start_state c a.index a.kind)
+start_holds c Allowed known holds laws = laws.start ((start c).roles) (λ a. fresh_if (names_role c a) (fresh_state c a.kind))
 
 pub run_keeps : RunLaw
 run_keeps c Allowed known holds laws es along allowed =

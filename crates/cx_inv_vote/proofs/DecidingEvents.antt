@@ -1,8 +1,7 @@
 -- What an event does, by what its role's row says of sets.
 use Rattle.std.proofs.Common.{◌≡◌, ℕ, ◌&&◌, ◌⊎◌, List, [], Option, Some, None, inl, inr, ap, sym, subst, ◌∙◌, refl, ⊎_elim}
-use Rattle.std.specs.Prelude.{slice_get, slice_set}
+use Rattle.std.specs.Prelude.{slice_get}
 use Rattle.std.specs.Option.{option_map}
-use Rattle.std.proofs.lemmas.Bool.{cases_eq}
 use Rattle.std.proofs.lemmas.Option.{same_Some}
 use Rattle.cx_base.specs.declared.event.Cut.{Cut}
 use Rattle.cx_base.specs.declared.event.Cut.TheVariants.{Whole, Torn, Kept}
@@ -34,11 +33,11 @@ use Rattle.cx_model.specs.Acceptor.{acceptor_rules}
 use Rattle.cx_model.specs.Batcher.{batcher_rules}
 use Rattle.cx_model.specs.Heard.{heard_by}
 use Rattle.cx_model.specs.Leader.{leader_rules}
-use Rattle.cx_model.specs.Lists.{get_set_same, get_set_other}
+use Rattle.cx_model.specs.Lists.{bool_cases, differ_role, same_role-true}
 use Rattle.cx_model.specs.Matchmaker.{MatchmakerDurable, matchmaker_rules, matchmaker_row}
 use Rattle.cx_model.specs.Member.{Member}
-use Rattle.cx_model.specs.Names.{names}
-use Rattle.cx_model.specs.Outcome.{Outcome, by_test}
+use Rattle.cx_model.specs.Names.{names, names_role}
+use Rattle.cx_model.specs.Outcome.{Outcome, by_test, either_way}
 use Rattle.cx_model.specs.Promises.{HasKept}
 use Rattle.cx_model.specs.Proxy.{proxy_rules}
 use Rattle.cx_model.specs.Reader.{reader_rules}
@@ -47,13 +46,16 @@ use Rattle.cx_model.specs.Replica.{replica_rules}
 use Rattle.cx_model.specs.Request.{is_stale, request}
 use Rattle.cx_model.specs.Rules.{Rules}
 use Rattle.cx_model.specs.Turn.{Turn, turn, turn_with, whole_turn, snap_turn}
+use Rattle.cx_model.specs.Turn.{still as still_turn}
 use Rattle.cx_model.specs.Unbatcher.{unbatcher_rules}
-use Rattle.cx_model.specs.World.{World, Roles, Change, Turns, change, changed, nothing, come, ask, act_at, act_of, turn_at, turn_found, durable_part, kept_by}
+use Rattle.cx_model.specs.World.{World, Change, change, changed, nothing, come, ask, act_at, act_of, durable_part, kept_by}
 use Rattle.cx_inv_run.specs.Kinds.{IsSender, IsKept, OfKind}
-use Rattle.cx_inv_run.specs.States.{Given}
+use Rattle.cx_inv_run.specs.States.{State, BatcherIn, LeaderIn, ProxyIn, ReplicaIn, ReaderIn, ReplacerIn, plain, replacer_volatile, state_of, Given}
+use Rattle.cx_inv_run.proofs.Histories.{state_own, state_other}
 use Rattle.cx_inv_run.proofs.Members.{Member-at, Member-one}
 use Rattle.cx_inv_run.proofs.Senders.{acceptor_kinds, matchmaker_kinds, batcher_kinds, unbatcher_kinds, proxy_kinds, replica_kinds, reader_kinds}
 use Rattle.cx_inv_run.proofs.LeaderSenders.{leader_kinds, replacer_kinds}
+use Rattle.cx_inv_run.proofs.Steps.{only_replacer}
 use Rattle.cx_inv_vote.proofs.Leading.{each}
 use Rattle.cx_inv_vote.proofs.Rows.{is_role}
 use Rattle.cx_inv_vote.proofs.Deciding.{NoBoot, Begins, row_says, boot_asked}
@@ -66,32 +68,32 @@ GivenBy sent me act = (i : Input) (cut : Cut) → act ≡ Give i cut → Given s
 
 module _ (w : World) (Was : List ℕ → Type 0)
     (was_asked : (d : Letter) → Member d w.sent → (t : List ℕ) (v : Round) (es : List Entry) → msg.BootA t v es ≡ d.msg → Was t)
-    (was_booting : (x : ℕ) (v : ReplacerVolatile) → slice_get w.roles.replacers x ≡ Some (Some v) → v.mode ≡ Booting → Was v.next) where
+    (was_booting : (x : ℕ) (v : ReplacerVolatile) → w.roles (role kind.Replacer x) ≡ ReplacerIn v → v.mode ≡ Booting → Was v.next) where
   -- the event decides this set
   pub record DecidedBy (ch : Change) (t : List ℕ) : Type 0 where
     pub index : ℕ
     pub volatile : ReplacerVolatile
     pub at_it : ch.who ≡ Some (role kind.Replacer index)
     pub word : ch.why ≡ why.Decided
-    pub knew : slice_get w.roles.replacers index ≡ Some (Some volatile)
+    pub knew : w.roles (role kind.Replacer index) ≡ ReplacerIn volatile
     pub next_is : volatile.next ≡ t
 
   pub record Follows (ch : Change) : Type 0 where
     pub asks : (d : Letter) → Member d ch.sends → (t : List ℕ) (v : Round) (es : List Entry) → msg.BootA t v es ≡ d.msg → Was t ⊎ DecidedBy ch t
     pub begins : (who : RoleId) (t : List ℕ) (v : Round) (es : List Entry) → HasKept ch.kept who (kept.Boot t v es) → Was t
-    pub boots : (x : ℕ) (v : ReplacerVolatile) → slice_get ch.roles.replacers x ≡ Some (Some v) → v.mode ≡ Booting → Was v.next ⊎ DecidedBy ch v.next
+    pub boots : (x : ℕ) (v : ReplacerVolatile) → ch.roles (role kind.Replacer x) ≡ ReplacerIn v → v.mode ≡ Booting → Was v.next ⊎ DecidedBy ch v.next
     pub decides : (who : RoleId) → who.kind ≡ kind.Replacer → ch.who ≡ Some who → ch.why ≡ why.Decided
-        → (v : ReplacerVolatile) → slice_get w.roles.replacers who.index ≡ Some (Some v)
-        → (u : ReplacerVolatile) × (slice_get ch.roles.replacers who.index ≡ Some (Some u)) × (u.mode ≡ Booting) × (u.set ≡ v.set) × (u.next ≡ v.next)
+        → (v : ReplacerVolatile) → w.roles who ≡ ReplacerIn v
+        → (u : ReplacerVolatile) × (ch.roles who ≡ ReplacerIn u) × (u.mode ≡ Booting) × (u.set ≡ v.set) × (u.next ≡ v.next)
 
   -- where the replacers stay as they are, nobody is asked to begin, and whoever begins was asked
-  unchanged : (ch : Change) → ch.roles.replacers ≡ w.roles.replacers → NoBoot ch.sends
+  unchanged : (ch : Change) → ((x : ℕ) → ch.roles (role kind.Replacer x) ≡ w.roles (role kind.Replacer x)) → NoBoot ch.sends
       → ((who : RoleId) (t : List ℕ) (v : Round) (es : List Entry) → HasKept ch.kept who (kept.Boot t v es) → Was t)
       → ((who : RoleId) → who.kind ≡ kind.Replacer → ch.who ≡ Some who → ch.why ≡ why.Decided → ⊥) → Follows ch
   unchanged ch same none begins other = record {
     asks = λ d m t v es e. absurd (none d m t v es e);
     begins = begins;
-    boots = λ x v e m. inl (was_booting x v (subst (λ l. slice_get l x ≡ Some (Some v)) same e) m);
+    boots = λ x v e m. inl (was_booting x v (sym (same x) ∙ e) m);
     decides = λ who is at word. absurd (other who is at word);
   }
 
@@ -139,7 +141,9 @@ module _ (w : World) (Was : List ℕ → Type 0)
     turn_mild (Snap cut) is (Some v) = snap_mild cut v (rules.snap w.cluster me d v)
     turn_mild Stop is None = still_mild _ refl (λ s b es q. cc)
     turn_mild Stop is (Some v) = still_mild _ refl (λ s b es q. cc)
-    turn_mild Wake is None = still_mild _ refl (λ s b es q. cc)
+    turn_mild Wake is None =
+        either_way IsMild (names_role w.cluster me) (still_turn (Some (rules.fresh w.cluster)) why.Opened) (still_turn None why.Down)
+        (still_mild _ refl (λ s b es q. cc)) (still_mild _ refl (λ s b es q. cc))
     turn_mild Wake is (Some v) = still_mild _ refl (λ s b es q. cc)
 
   -- what a role keeps in its turn is its change
@@ -148,34 +152,27 @@ module _ (w : World) (Was : List ℕ → Type 0)
   kept_of me who (Some x) r (inl e) = ap (λ (k : KeptRecord). Some k.what) (sym e)
   kept_of me who (Some x) r (inr m) = absurd m
 
-  record AreMild {V : Type 0} (t : Turns V) : Type 0 where
-    asks : NoBoot t.sends
-    begins : (who : RoleId) (s : List ℕ) (v : Round) (es : List Entry) → HasKept t.kept who (kept.Boot s v es) → Was s
-
-  found_mild : {D V : Type 0} (rules : Rules D V) (me : RoleId) (act : Act) (roles : List (Option V))
-      → ((running : Option V) → IsMild (turn rules w.cluster me (durable_part rules me w.kept) act running)) → (o : Option (Option V))
-      → AreMild (turn_found rules w.cluster me w.kept act roles o)
-  found_mild rules me act roles mild None = record { asks = λ d m. absurd m; begins = λ who s v es m. absurd m }
-  found_mild rules me act roles mild (Some running) = record {
-    asks = (mild running).asks;
-    begins = λ who s v es m. (mild running).begins s v es (kept_of me who _ (kept.Boot s v es) m);
-  }
-
-  mild_follows : {V : Type 0} (me : RoleId) (k : Kind) → me.kind ≡ k → (k ≡ kind.Replacer → ⊥) → (roles : Roles) → roles.replacers ≡ w.roles.replacers
-      → (t : Turns V) → AreMild t → Follows (changed me roles t)
-  mild_follows me k is other roles same t mild =
-      unchanged (changed me roles t) same mild.asks mild.begins
+  mild_follows : {V : Type 0} (make : V → State) (me : RoleId) (k : Kind) → me.kind ≡ k → (k ≡ kind.Replacer → ⊥) → (t : Turn V) → IsMild t → Follows (changed make me w.roles t)
+  mild_follows make me k is other t mild =
+      unchanged (changed make me w.roles t)
+      (λ x. state_other me (role kind.Replacer x) (state_of make t.role) w.roles
+      (differ_role (role kind.Replacer x) me (λ q. other (sym is ∙ sym (ap (λ (a : RoleId). a.kind) q)))))
+      mild.asks (λ who s v es m. mild.begins s v es (kept_of me who t.kept (kept.Boot s v es) m))
       (λ who kind_is at word. other (sym is ∙ subst (λ (x : RoleId). x.kind ≡ kind.Replacer) (sym (same_Some me who at)) kind_is))
 
-  module _ {D V : Type 0} (rules : Rules D V) (me : RoleId) (k : Kind) (is : me.kind ≡ k) (other : k ≡ kind.Replacer → ⊥) (act : Act) (list : List (Option V)) where
+  module _ {D V : Type 0} (rules : Rules D V) (me : RoleId) (k : Kind) (is : me.kind ≡ k) (other : k ≡ kind.Replacer → ⊥) (act : Act) where
     -- of a kind that never begins in a set
-    calm_turns : (k ≡ kind.Matchmaker → ⊥) → ((d : D) (v : V) (i : Input) → OfKind me (rules.row w.cluster me d v i)) → AreMild (turn_at rules w.cluster me w.kept act list)
+    calm_turns : (k ≡ kind.Matchmaker → ⊥) → ((d : D) (v : V) (i : Input) → OfKind me (rules.row w.cluster me d v i)) → (running : Option V)
+        → IsMild (turn rules w.cluster me (durable_part rules me w.kept) act running)
     calm_turns no_matchmaker of_kind =
         let d = durable_part rules me w.kept in
-        found_mild rules me act list
-        (turn_mild rules me (λ e. other (sym is ∙ e)) d act (of_kind d)
-        (λ v i cut p s b es e. absurd (no_matchmaker (sym is ∙ subst (λ o. IsKept me.kind o) e (of_kind d v i).keeps))) act refl)
-        (slice_get list me.index)
+        turn_mild rules me (λ e. other (sym is ∙ e)) d act (of_kind d)
+        (λ v i cut p s b es e. absurd (no_matchmaker (sym is ∙ subst (λ o. IsKept me.kind o) e (of_kind d v i).keeps))) act refl
+
+  -- a replacer that runs
+  up_is : (o : Option ReplacerVolatile) (v : ReplacerVolatile) → state_of ReplacerIn o ≡ ReplacerIn v → o ≡ Some v
+  up_is None v e = cc
+  up_is (Some u) v e = cc
 
   -- a turn of a replacer
 
@@ -246,20 +243,26 @@ module _ (w : World) (Was : List ℕ → Type 0)
     turn_says (Snap cut) (Some v) = still_says (Some v) (Some v) why.Idle (λ q. cc) (λ u q m. q)
     turn_says Stop None = still_says None None why.Down (λ q. cc) (λ u q m. q)
     turn_says Stop (Some v) = still_says (Some v) None why.Crashed (λ q. cc) (λ u q m. cc)
-    turn_says Wake None = still_says None (Some (replacer_rules.fresh w.cluster)) why.Opened (λ q. cc) (λ u q m. absurd (idle u q m))
+    turn_says Wake None =
+        either_way (TurnSays None) (names_role w.cluster me) (still_turn (Some (replacer_rules.fresh w.cluster)) why.Opened) (still_turn None why.Down)
+        (still_says None (Some (replacer_rules.fresh w.cluster)) why.Opened (λ q. cc) (λ u q m. absurd (idle u q m)))
+        (still_says None None why.Down (λ q. cc) (λ u q m. q))
     turn_says Wake (Some v) = still_says (Some v) (Some v) why.Up (λ q. cc) (λ u q m. q)
 
   module _ (me : RoleId) (is : me.kind ≡ kind.Replacer) (act : Act) where
     abbrev dur : ReplacerDurable
     dur = durable_part replacer_rules me w.kept
 
-    module _ (running : Option ReplacerVolatile) (found : slice_get w.roles.replacers me.index ≡ Some running) where
+    module _ (running : Option ReplacerVolatile) (tied : replacer_volatile (w.roles me) ≡ running) where
       abbrev done : Turn ReplacerVolatile
       done = turn replacer_rules w.cluster me dur act running
 
       abbrev ch : Change
-      ch = changed me (record w.roles { replacers = slice_set w.roles.replacers me.index done.role })
-          (record { why = done.why; roles = slice_set w.roles.replacers me.index done.role; kept = kept_by me done.kept; sends = done.sends })
+      ch = changed ReplacerIn me w.roles done
+
+      -- its state, by its name's parts
+      knew_it : (u : ReplacerVolatile) → running ≡ Some u → w.roles (role kind.Replacer me.index) ≡ ReplacerIn u
+      knew_it u e = subst (λ (a : RoleId). w.roles a ≡ ReplacerIn u) (is_role me kind.Replacer is) (only_replacer (w.roles me) u (tied ∙ e))
 
       says : TurnSays running done
       says = turn_says me is dur act running
@@ -267,24 +270,23 @@ module _ (w : World) (Was : List ℕ → Type 0)
       -- it let the set begin before, or decides it now
       either : (s : List ℕ) → (u : ReplacerVolatile) × (running ≡ Some u) × Begins u done.why s → Was s ⊎ DecidedBy ch s
       either s x = elim x.2.0 [
-        | inl m ↦ inl (subst Was x.2.1 (was_booting me.index x.0 (found ∙ ap (λ o. Some o) x.1) m))
+        | inl m ↦ inl (subst Was x.2.1 (was_booting me.index x.0 (knew_it x.0 x.1) m))
         | inr y ↦ inr record {
           index = me.index;
           volatile = x.0;
           at_it = ap (λ a. Some a) (is_role me kind.Replacer is);
           word = y;
-          knew = found ∙ ap (λ o. Some o) x.1;
+          knew = knew_it x.0 x.1;
           next_is = x.2.1;
         }
       ]
 
-      after : (x : ℕ) (v : ReplacerVolatile) → slice_get (slice_set w.roles.replacers me.index done.role) x ≡ Some (Some v) → v.mode ≡ Booting → Was v.next ⊎ DecidedBy ch v.next
+      after : (x : ℕ) (v : ReplacerVolatile) → ch.roles (role kind.Replacer x) ≡ ReplacerIn v → v.mode ≡ Booting → Was v.next ⊎ DecidedBy ch v.next
       after x v e m = ⊎_elim
-          (λ p. either v.next (says.boots v
-          (same_Some done.role (Some v) (sym (get_set_same w.roles.replacers me.index running done.role found)
-          ∙ subst (λ n. slice_get (slice_set w.roles.replacers me.index done.role) n ≡ Some (Some v)) p e)) m))
-          (λ d. inl (was_booting x v (sym (get_set_other w.roles.replacers me.index x done.role d) ∙ e) m))
-          (cases_eq x me.index)
+          (λ t. either v.next (says.boots v (up_is done.role v
+          (sym (state_own me (state_of ReplacerIn done.role) w.roles) ∙ subst (λ (a : RoleId). ch.roles a ≡ ReplacerIn v) (same_role-true (role kind.Replacer x) me t) e)) m))
+          (λ f. inl (was_booting x v (sym (state_other me (role kind.Replacer x) (state_of ReplacerIn done.role) w.roles f) ∙ e) m))
+          (bool_cases (same_role (role kind.Replacer x) me))
 
       turn_follows : Follows ch
       turn_follows = record {
@@ -293,21 +295,15 @@ module _ (w : World) (Was : List ℕ → Type 0)
         boots = after;
         decides = λ who kind_is at word v knew.
             let mine : me ≡ who = same_Some me who at in
-            let place = subst (λ (a : RoleId). slice_get w.roles.replacers a.index ≡ Some (Some v)) (sym mine) knew in
-            let r = says.decided word v (same_Some running (Some v) (sym found ∙ place)) in (
+            let place = subst (λ (a : RoleId). w.roles a ≡ ReplacerIn v) (sym mine) knew in
+            let r = says.decided word v (sym tied ∙ ap replacer_volatile place) in (
               r.0,
-              subst (λ (a : RoleId). slice_get (slice_set w.roles.replacers me.index done.role) a.index ≡ Some (Some r.0)) mine
-                  (get_set_same w.roles.replacers me.index running done.role found ∙ ap (λ o. Some o) r.1),
+              subst (λ (a : RoleId). ch.roles a ≡ ReplacerIn r.0) mine (state_own me (state_of ReplacerIn done.role) w.roles ∙ ap (state_of ReplacerIn) r.1),
               r.2,
               r.3,
               r.4,
             );
       }
-
-    found_follows : (o : Option (Option ReplacerVolatile)) → slice_get w.roles.replacers me.index ≡ o
-        → (let t = turn_found replacer_rules w.cluster me w.kept act w.roles.replacers o in Follows (changed me (record w.roles { replacers = t.roles }) t))
-    found_follows None e = unchanged _ refl (λ d m. absurd m) (λ who t v es m. absurd m) (λ who k at word. cc)
-    found_follows (Some running) e = turn_follows running e
 
   -- a turn of a matchmaker
 
@@ -320,12 +316,11 @@ module _ (w : World) (Was : List ℕ → Type 0)
     boot_was input.Tick given = λ s b es e. cc
     boot_was (input.Order order) given = λ s b es e. cc
 
-  matchmaker_turns : (act : Act) (me : RoleId) → GivenBy w.sent me act → me.kind ≡ kind.Matchmaker → AreMild (turn_at matchmaker_rules w.cluster me w.kept act w.roles.matchmakers)
+  matchmaker_turns : (act : Act) (me : RoleId) → GivenBy w.sent me act → me.kind ≡ kind.Matchmaker → (running : Option (Unit {0}))
+      → IsMild (turn matchmaker_rules w.cluster me (durable_part matchmaker_rules me w.kept) act running)
   matchmaker_turns act me given is =
       let d = durable_part matchmaker_rules me w.kept in
-      found_mild matchmaker_rules me act w.roles.matchmakers
-      (turn_mild matchmaker_rules me (λ e. no_replacer (sym is ∙ e)) d act (λ v i. matchmaker_kinds w.cluster me is d i) (λ v i cut p. boot_was me d i (given i cut p)) act refl)
-      (slice_get w.roles.matchmakers me.index)
+      turn_mild matchmaker_rules me (λ e. no_replacer (sym is ∙ e)) d act (λ v i. matchmaker_kinds w.cluster me is d i) (λ v i cut p. boot_was me d i (given i cut p)) act refl
     where
       no_replacer : kind.Matchmaker ≡ kind.Replacer → ⊥
       no_replacer e = cc
@@ -333,37 +328,37 @@ module _ (w : World) (Was : List ℕ → Type 0)
   -- an act at a role of each kind
 
   act_follows : (act : Act) (me : RoleId) → GivenBy w.sent me act → (k : Kind) → me.kind ≡ k → Follows (act_of w.cluster w.roles w.kept act me k)
-  act_follows act me given kind.Client is = unchanged _ refl (λ d m. absurd m) (λ who t v es m. absurd m) (λ who k at word. cc)
+  act_follows act me given kind.Client is = unchanged _ (λ x. refl) (λ d m. absurd m) (λ who t v es m. absurd m) (λ who k at word. cc)
   act_follows act me given kind.Batcher is =
-      mild_follows me kind.Batcher is (λ e. cc) _ refl _
-      (calm_turns batcher_rules me kind.Batcher is (λ e. cc) act w.roles.batchers (λ e. cc) (λ d v i. batcher_kinds w.cluster me is v i))
+      mild_follows BatcherIn me kind.Batcher is (λ e. cc) _
+      (calm_turns batcher_rules me kind.Batcher is (λ e. cc) act (λ e. cc) (λ d v i. batcher_kinds w.cluster me is v i) _)
   act_follows act me given kind.Leader is =
-      mild_follows me kind.Leader is (λ e. cc) _ refl _
-      (calm_turns leader_rules me kind.Leader is (λ e. cc) act w.roles.leaders (λ e. cc) (λ d v i. leader_kinds w.cluster me is d v i))
+      mild_follows LeaderIn me kind.Leader is (λ e. cc) _
+      (calm_turns leader_rules me kind.Leader is (λ e. cc) act (λ e. cc) (λ d v i. leader_kinds w.cluster me is d v i) _)
   act_follows act me given kind.Proxy is =
-      mild_follows me kind.Proxy is (λ e. cc) _ refl _
-      (calm_turns proxy_rules me kind.Proxy is (λ e. cc) act w.roles.proxies (λ e. cc) (λ d v i. proxy_kinds w.cluster me is v i))
+      mild_follows ProxyIn me kind.Proxy is (λ e. cc) _
+      (calm_turns proxy_rules me kind.Proxy is (λ e. cc) act (λ e. cc) (λ d v i. proxy_kinds w.cluster me is v i) _)
   act_follows act me given kind.Acceptor is =
-      mild_follows me kind.Acceptor is (λ e. cc) _ refl _
-      (calm_turns acceptor_rules me kind.Acceptor is (λ e. cc) act w.roles.acceptors (λ e. cc) (λ d v i. acceptor_kinds w.cluster me is d i))
+      mild_follows plain me kind.Acceptor is (λ e. cc) _
+      (calm_turns acceptor_rules me kind.Acceptor is (λ e. cc) act (λ e. cc) (λ d v i. acceptor_kinds w.cluster me is d i) _)
   act_follows act me given kind.Matchmaker is =
-      mild_follows me kind.Matchmaker is (λ e. cc) _ refl _ (matchmaker_turns act me given is)
+      mild_follows plain me kind.Matchmaker is (λ e. cc) _ (matchmaker_turns act me given is _)
   act_follows act me given kind.Replica is =
-      mild_follows me kind.Replica is (λ e. cc) _ refl _
-      (calm_turns replica_rules me kind.Replica is (λ e. cc) act w.roles.replicas (λ e. cc) (λ d v i. replica_kinds w.cluster me is d v i))
+      mild_follows ReplicaIn me kind.Replica is (λ e. cc) _
+      (calm_turns replica_rules me kind.Replica is (λ e. cc) act (λ e. cc) (λ d v i. replica_kinds w.cluster me is d v i) _)
   act_follows act me given kind.Unbatcher is =
-      mild_follows me kind.Unbatcher is (λ e. cc) _ refl _
-      (calm_turns unbatcher_rules me kind.Unbatcher is (λ e. cc) act w.roles.unbatchers (λ e. cc) (λ d v i. unbatcher_kinds w.cluster me is i))
+      mild_follows plain me kind.Unbatcher is (λ e. cc) _
+      (calm_turns unbatcher_rules me kind.Unbatcher is (λ e. cc) act (λ e. cc) (λ d v i. unbatcher_kinds w.cluster me is i) _)
   act_follows act me given kind.Reader is =
-      mild_follows me kind.Reader is (λ e. cc) _ refl _
-      (calm_turns reader_rules me kind.Reader is (λ e. cc) act w.roles.readers (λ e. cc) (λ d v i. reader_kinds w.cluster me is d v i))
-  act_follows act me given kind.Replacer is = found_follows me is act (slice_get w.roles.replacers me.index) refl
+      mild_follows ReaderIn me kind.Reader is (λ e. cc) _
+      (calm_turns reader_rules me kind.Reader is (λ e. cc) act (λ e. cc) (λ d v i. reader_kinds w.cluster me is d v i) _)
+  act_follows act me given kind.Replacer is = turn_follows me is act (replacer_volatile (w.roles me)) refl
 
   acts : (act : Act) (me : RoleId) → GivenBy w.sent me act → Follows (act_at w act me)
   acts act me given = act_follows act me given me.kind refl
 
   still : (who : Option RoleId) (y : Why) → (y ≡ why.Decided → ⊥) → Follows (nothing who w.roles y)
-  still who y other = unchanged _ refl (λ d m. absurd m) (λ a t v es m. absurd m) (λ a k at word. other word)
+  still who y other = unchanged _ (λ x. refl) (λ d m. absurd m) (λ a t v es m. absurd m) (λ a k at word. other word)
 
   comes : (cut : Cut) (o : Option Letter) → ((d : Letter) → o ≡ Some d → Member d w.sent) → Follows (come w cut o)
   comes cut None sent = still None why.Absent (λ e. cc)
@@ -391,7 +386,7 @@ module _ (w : World) (Was : List ℕ → Type 0)
   asked e t =
       by_test Follows (is_stale t e w.events) _ _
       (λ k. still (Some (role kind.Client t.client)) why.Stale (λ q. cc))
-      (λ k. unchanged _ refl (request_asks (heard_by t.client w.sent w.events) e) (λ a s v es m. absurd m) (λ a j at word. cc))
+      (λ k. unchanged _ (λ x. refl) (request_asks (heard_by t.client w.sent w.events) e) (λ a s v es m. absurd m) (λ a j at word. cc))
 
   no_given : (me : RoleId) (act : Act) → ((i : Input) (cut : Cut) → act ≡ Give i cut → ⊥) → GivenBy w.sent me act
   no_given me act none i cut e = absurd (none i cut e)

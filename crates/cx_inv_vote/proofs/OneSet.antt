@@ -1,7 +1,5 @@
 -- In place of each set of matchmakers at most one next one is decided, over the whole run, and a set begins only after that.
-use Rattle.std.proofs.Common.{◌≡◌, ◌⊎◌, ℕ, zero, suc, List, [], ◌∷◌, ◌++◌, reverse, Some, inl, inr, ap, sym, subst, ◌∙◌, refl, append-nil, append_assoc}
-use Rattle.std.specs.Prelude.{slice_get}
-use Rattle.std.proofs.lemmas.Option.{same_Some}
+use Rattle.std.proofs.Common.{◌≡◌, ◌⊎◌, ℕ, suc, List, [], ◌∷◌, ◌++◌, reverse, inl, inr, ap, sym, subst, ◌∙◌, refl, append-nil, append_assoc}
 use Rattle.cx_base.specs.declared.cluster.Cluster.{Cluster}
 use Rattle.cx_base.specs.declared.event.Event.{Event}
 use Rattle.cx_base.specs.declared.role.Kind.TheVariants as kind
@@ -15,10 +13,12 @@ use Rattle.cx_letter.specs.declared.kept.Record.TheVariants as kept
 use Rattle.cx_letter.specs.declared.message.Msg.TheVariants as msg
 use Rattle.cx_model.specs.declared.states.Replacing.TheVariants.{Booting}
 use Rattle.cx_model.specs.Member.{Member}
+use Rattle.cx_model.specs.Names.{names_role}
+use Rattle.cx_model.specs.Outcome.{either_way}
 use Rattle.cx_model.specs.Promises.{HasKept, OfEveryRun, Decides, OneNextSet, SetsAreDecided}
 use Rattle.cx_model.specs.Replacer.{ReplacerVolatile, replacer_rules}
-use Rattle.cx_model.specs.World.{World, change, step, run_from, run, fresh_roles}
-use Rattle.cx_inv_run.specs.States.{ReplacerIn, state_found, durable_of}
+use Rattle.cx_model.specs.World.{World, change, step, run_from, run}
+use Rattle.cx_inv_run.specs.States.{State, Down, ReplacerIn, durable_of}
 use Rattle.cx_inv_run.proofs.Members.{Member-cases, Member-first, Member-reverse, Member-turned}
 use Rattle.cx_inv_run.proofs.Steps.{run_append}
 use Rattle.cx_inv_match.specs.Words.{IsKnown, IsDecided}
@@ -27,6 +27,7 @@ use Rattle.cx_inv_match.proofs.Chains.{decided_once, nth_once}
 use Rattle.cx_inv_match.proofs.Grow.{more_nth}
 use Rattle.cx_inv_vote.specs.Laws.{Boots, OneBegins}
 use Rattle.cx_inv_vote.proofs.DecidingEvents.{DecidedBy, Follows, follows}
+use Rattle.cx_inv_vote.proofs.Rows.{is_role}
 use Rattle.cx_inv_vote.proofs.Steps.{facts_hold}
 
 -- a record that was kept stays
@@ -82,7 +83,7 @@ decided_boots : (w : World) (e : Event) (s t : List ℕ) → (d : Decides w e s 
 unfolding step
 decided_boots w e s t d =
     let r = (follows w (λ u. Unit {0}) (λ x m u v es q. tt) (λ x v q m. tt) e).decides d.who d.kind_is d.at_it d.word d.volatile d.knew in
-    record { volatile = r.0; at_it = ap (λ o. state_found ReplacerIn o) r.1; mode = r.2; known = r.3 ∙ d.set_is; next = r.4 ∙ d.next_is }
+    record { volatile = r.0; at_it = subst (λ (a : RoleId). (step w e).roles a ≡ ReplacerIn r.0) (is_role d.who kind.Replacer d.kind_is) r.1; mode = r.2; known = r.3 ∙ d.set_is; next = r.4 ∙ d.next_is }
 
 decides_boots : (c : Cluster) (then : List Event) (e : Event) (s t : List ℕ) → (d : Decides (run c then) e s t) → Boots (run c (then ++ e ∷ [])) d.who.index s t
 decides_boots c then e s t d = subst (λ w. Boots w d.who.index s t) (sym (run_append c then (e ∷ []))) (decided_boots (run c then) e s t d)
@@ -104,18 +105,21 @@ WasDecided c es t = (then later : List Event) × (e : Event) × (s : List ℕ) �
 record AreDecided (c : Cluster) (es : List Event) (w : World) : Type 0 where
   asks : (d : Letter) → Member d w.sent → (t : List ℕ) (v : Round) (xs : List Entry) → msg.BootA t v xs ≡ d.msg → WasDecided c es t
   begins : (who : RoleId) (t : List ℕ) (v : Round) (xs : List Entry) → HasKept w.kept who (kept.Boot t v xs) → WasDecided c es t
-  boots : (x : ℕ) (v : ReplacerVolatile) → slice_get w.roles.replacers x ≡ Some (Some v) → v.mode ≡ Booting → WasDecided c es v.next
+  boots : (x : ℕ) (v : ReplacerVolatile) → w.roles (role kind.Replacer x) ≡ ReplacerIn v → v.mode ≡ Booting → WasDecided c es v.next
 
-fresh_rests : (v : ReplacerVolatile) (count x : ℕ) (u : ReplacerVolatile) → slice_get (fresh_roles v count) x ≡ Some (Some u) → u ≡ v
-fresh_rests v zero x u e = cc
-fresh_rests v (suc count) zero u e = sym (same_Some v u (same_Some (Some v) (Some u) e))
-fresh_rests v (suc count) (suc x) u e = fresh_rests v count x u e
+fresh_rests : (v u : ReplacerVolatile) → ReplacerIn v ≡ ReplacerIn u → u ≡ v
+fresh_rests v u e = cc
+
+never_up : {A : Type 0} (u : ReplacerVolatile) → Down ≡ ReplacerIn u → A
+never_up u e = absurd cc
 
 start_decided : (c : Cluster) → AreDecided c [] (run c [])
 start_decided c = record {
   asks = λ d m. absurd m;
   begins = λ who t v xs m. absurd m;
-  boots = λ x u e m. rests (subst (λ (y : ReplacerVolatile). y.mode ≡ Booting) (fresh_rests (replacer_rules.fresh c) c.replacers x u e) m);
+  boots = λ x u e m.
+      either_way (λ (s : State). s ≡ ReplacerIn u → WasDecided c [] u.next) (names_role c (role kind.Replacer x)) (ReplacerIn (replacer_rules.fresh c)) Down
+      (λ e. rests (subst (λ (y : ReplacerVolatile). y.mode ≡ Booting) (fresh_rests (replacer_rules.fresh c) u e) m)) (λ e. never_up u e) e;
 }
   where
     rests : {A : Type 0} → (replacer_rules.fresh c).mode ≡ Booting → A

@@ -45,6 +45,7 @@ use Rattle.cx_model.specs.Proxy.{ProxyVolatile}
 use Rattle.cx_model.specs.Reader.{Asked, Batch, ReaderVolatile, asking, asking_of}
 use Rattle.cx_model.specs.Replacer.{ReplacerVolatile, replacer_rules, is_stopping, is_deciding, is_booting}
 use Rattle.cx_model.specs.Replica.{ReplicaVolatile}
+use Rattle.cx_model.specs.State.{BatcherIn, LeaderIn, ProxyIn, ReplicaIn, ReaderIn, ReplacerIn}
 use Rattle.cx_model.specs.World.{World, change, run, durable_part, records_of, log_of}
 
 -- words on records
@@ -216,13 +217,13 @@ pub record RoundFacts (w : World) : Type 0 where
       → m ≡ n
   pub one_value : (i : Round) (s : ℕ) (u v : Value) → Carries w i s u → Carries w i s v → u ≡ v
   pub voted : (who : RoleId) (i : Round) (s : ℕ) (v : Value) → HasVoted w.kept who i s v → IsProposed w.sent i s v
-  pub leaders : (l : ℕ) (v : LeaderVolatile) → slice_get w.roles.leaders l ≡ Some (Some v)
+  pub leaders : (l : ℕ) (v : LeaderVolatile) → w.roles (role kind.Leader l) ≡ LeaderIn v
       → LeaderWasTold w.sent (role kind.Leader l) (round_in w.kept (role kind.Leader l)) v
-  pub proxies : (p : ℕ) (v : ProxyVolatile) → slice_get w.roles.proxies p ≡ Some (Some v) → ProxyWasTold w.sent (role kind.Proxy p) v
-  pub batchers : (b : ℕ) (v : BatcherVolatile) → slice_get w.roles.batchers b ≡ Some (Some v) → BatcherWasTold w.sent (role kind.Batcher b) v
-  pub replicas : (p : ℕ) (v : ReplicaVolatile) → slice_get w.roles.replicas p ≡ Some (Some v) → ReplicaWasTold w.sent (role kind.Replica p) v
-  pub readers : (r : ℕ) (v : ReaderVolatile) → slice_get w.roles.readers r ≡ Some (Some v) → ReaderWasTold w.sent (role kind.Reader r) v
-  pub replacers : (x : ℕ) (v : ReplacerVolatile) → slice_get w.roles.replacers x ≡ Some (Some v)
+  pub proxies : (p : ℕ) (v : ProxyVolatile) → w.roles (role kind.Proxy p) ≡ ProxyIn v → ProxyWasTold w.sent (role kind.Proxy p) v
+  pub batchers : (b : ℕ) (v : BatcherVolatile) → w.roles (role kind.Batcher b) ≡ BatcherIn v → BatcherWasTold w.sent (role kind.Batcher b) v
+  pub replicas : (p : ℕ) (v : ReplicaVolatile) → w.roles (role kind.Replica p) ≡ ReplicaIn v → ReplicaWasTold w.sent (role kind.Replica p) v
+  pub readers : (r : ℕ) (v : ReaderVolatile) → w.roles (role kind.Reader r) ≡ ReaderIn v → ReaderWasTold w.sent (role kind.Reader r) v
+  pub replacers : (x : ℕ) (v : ReplacerVolatile) → w.roles (role kind.Replacer x) ≡ ReplacerIn v
       → ReplacerWasTold w.sent (role kind.Replacer x) (ballot_in w.kept (role kind.Replacer x)) v
 
 -- a round that enough matchmakers of one set have
@@ -307,12 +308,12 @@ pub record WatermarkFacts (c : Cluster) (w : World) : Type 0 where
   pub records : (who : RoleId) (what : Record) (cw : ℕ) → HasKept w.kept who what → watermark_in what ≡ Some cw → IsHeld c w.kept cw
   pub datagrams : (d : Letter) (cw : ℕ) → Member d w.sent → watermark_of d.msg ≡ Some cw → IsHeld c w.kept cw
   pub acceptors : (a : ℕ) → IsHeld c w.kept (acceptor_of w.kept a).cw
-  pub leaders : (l : ℕ) (v : LeaderVolatile) → slice_get w.roles.leaders l ≡ Some (Some v) → IsHeld c w.kept v.cw × IsHeld c w.kept v.collection.mark
-  pub proxies : (p : ℕ) (v : ProxyVolatile) → slice_get w.roles.proxies p ≡ Some (Some v)
+  pub leaders : (l : ℕ) (v : LeaderVolatile) → w.roles (role kind.Leader l) ≡ LeaderIn v → IsHeld c w.kept v.cw × IsHeld c w.kept v.collection.mark
+  pub proxies : (p : ℕ) (v : ProxyVolatile) → w.roles (role kind.Proxy p) ≡ ProxyIn v
       → IsHeld c w.kept v.known × ((q : Pending) → Member q v.pending → IsHeld c w.kept q.cw)
   -- a replica reports no more than it holds, and a leader notes no more
   pub told : (p : ℕ) (to : RoleId) (n : ℕ) → Member (letter (role kind.Replica p) to (msg.Held n)) w.sent → n ≤ length (log_of p w.kept)
-  pub noted : (l : ℕ) (v : LeaderVolatile) (p n : ℕ) → slice_get w.roles.leaders l ≡ Some (Some v) → slice_get v.held p ≡ Some n → n ≤ length (log_of p w.kept)
+  pub noted : (l : ℕ) (v : LeaderVolatile) (p n : ℕ) → w.roles (role kind.Leader l) ≡ LeaderIn v → slice_get v.held p ≡ Some n → n ≤ length (log_of p w.kept)
   pub kept_is_chosen : (p s : ℕ) (v : Value) → slice_get (log_of p w.kept) s ≡ Some v → is_chosen w.kept s v ≡ true
 
 -- Open rounds: what can still be chosen in an earlier round is what a finished round proposes, from its chosen watermark on.

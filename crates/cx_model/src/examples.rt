@@ -3,7 +3,7 @@
 //!
 //! The model did not compute what is expected here: it was worked out from the description of the protocol, by hand or by
 //! a program that was written apart. So a wrong row is refused here, before anything else rests on it.
-#![tactic(auto, unfolding(crate::specs::World::step, crate::specs::Replica::pieces_of))]
+#![tactic(auto, unfolding(crate::specs::World::step, crate::specs::State::set_state, crate::specs::Replica::pieces_of))]
 
 ghost use Rattle.cx_model.specs.ExamplesAcceptedSetIsDecided.{AcceptedSetIsDecided};
 ghost use Rattle.cx_model.specs.ExamplesAnswersOfOtherRounds.{AnswersOfOtherRounds};

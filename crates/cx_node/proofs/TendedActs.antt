@@ -24,7 +24,7 @@ use Rattle.cx_seat.specs.Guest.{AreReady, hosted_in, hosted_of}
 use Rattle.cx_course.specs.Hosted.{Hosted}
 use Rattle.cx_course.specs.Course.{Course, Moved, stays, took, then_do}
 use Rattle.cx_course.specs.Run.{at_place, ordered, hosted_place, snaps}
-use Rattle.cx_course.specs.Tending.{Care, Tended, beat, clients_tended, collected, first_leader, flushed, gets, heeded, held_by_role, in_turn, is_so, kind_ticks, leader_tended, others_tick, reported, tend_comes, tend_ordered, tend_prepared, tended_turn, ticks_if, turn_ended, without_care}
+use Rattle.cx_course.specs.Tending.{Care, Tended, awaits_votes_at, beat, clients_tended, collected, first_leader, gets, heeded, held_by_role, in_turn, is_so, kind_ticks, leader_tended, others_tick, paused, reported, tend_comes, tend_ordered, tend_prepared, tended_turn, those_tick, ticks_behind, ticks_if, turn_ended, without_care}
 use Rattle.cx_record.specs.Numbers.{Recorded, numbered}
 use Rattle.cx_node.specs.Tends.{TendsOnce, tended}
 use Rattle.cx_seat.specs.Seat.{is_leader_so}
@@ -117,15 +117,15 @@ module _ {K : Type 0} (gives : Changing K) (c : Cluster) where
       let s = course_in a in
       subst (λ (x : Bool). Acts gives c [] (if x then stays s else ordered c n s) r a b) (sym e) p
 
-  pub report_due : (who : RoleId) (before : ℕ) (r : Done) (a b : Scene K) → nat_lt (before / 8) (held_by_role who (hosted_in a.guests) / 8) ≡ true
-      → Acts gives c [] (at_place (hosted_place who (hosted_in a.guests)) (Give 0 input.Tick) (course_in a)) r a b → Acts gives c [] (reported who before (course_in a)) r a b
+  pub report_due : (from who : RoleId) (before : ℕ) (r : Done) (a b : Scene K) → ticks_behind from before (held_by_role who (hosted_in a.guests)) ≡ true
+      → Acts gives c [] (at_place (hosted_place who (hosted_in a.guests)) (Give 0 input.Tick) (course_in a)) r a b → Acts gives c [] (reported from who before (course_in a)) r a b
   unfolding reported
-  report_due who before r a b e p = due (nat_lt (before / 8) (held_by_role who (hosted_in a.guests) / 8)) (at_place (hosted_place who (hosted_in a.guests)) (Give 0 input.Tick) (course_in a)) r a b e p
+  report_due from who before r a b e p = due (ticks_behind from before (held_by_role who (hosted_in a.guests))) (at_place (hosted_place who (hosted_in a.guests)) (Give 0 input.Tick) (course_in a)) r a b e p
 
-  pub report_none : (who : RoleId) (before : ℕ) (a : Scene K) → nat_lt (before / 8) (held_by_role who (hosted_in a.guests) / 8) ≡ false → AreReady c a.guests
-      → Acts gives c [] (reported who before (course_in a)) (Ok tt) a a
+  pub report_none : (from who : RoleId) (before : ℕ) (a : Scene K) → ticks_behind from before (held_by_role who (hosted_in a.guests)) ≡ false → AreReady c a.guests
+      → Acts gives c [] (reported from who before (course_in a)) (Ok tt) a a
   unfolding reported
-  report_none who before a e ready = not_due (nat_lt (before / 8) (held_by_role who (hosted_in a.guests) / 8)) (at_place (hosted_place who (hosted_in a.guests)) (Give 0 input.Tick) (course_in a)) a e ready
+  report_none from who before a e ready = not_due (ticks_behind from before (held_by_role who (hosted_in a.guests))) (at_place (hosted_place who (hosted_in a.guests)) (Give 0 input.Tick) (course_in a)) a e ready
 
   pub collect_due : (r : Done) (a b : Scene K) → is_leader_so (λ l. can_collect l.volatile) (first_leader (hosted_in a.guests)) ≡ true
       → Acts gives c [] (gets (Some order.Collect) (course_in a)) r a b → Acts gives c [] (collected (course_in a)) r a b
@@ -147,24 +147,24 @@ module _ {K : Type 0} (gives : Changing K) (c : Cluster) where
   unfolding heeded
   heed_take n d e a b p =
       let s = course_in a in
-      acts_before gives c [] [] (taken_by n d s) (λ after. then_do (reported d.to (held_by_role d.to s.hosted) after) (λ last. for_leader d.to last)) e a b p
+      acts_before gives c [] [] (taken_by n d s) (λ after. then_do (reported d.from d.to (held_by_role d.to s.hosted) after) (λ last. for_leader d.to last)) e a b p
 
   pub heed_report : (n : ℕ) (d : Letter) (e : Stop) (a b f : Scene K) → Acts gives c [] (at_place (hosted_place d.to (hosted_in a.guests)) (Give n (input.Take d)) (course_in a)) (Ok tt) a b
-      → Acts gives c [] (reported d.to (held_by_role d.to (hosted_in a.guests)) (course_in b)) (Err e) b f → Acts gives c [] (heeded (numbered n d) (course_in a)) (Err e) a f
+      → Acts gives c [] (reported d.from d.to (held_by_role d.to (hosted_in a.guests)) (course_in b)) (Err e) b f → Acts gives c [] (heeded (numbered n d) (course_in a)) (Err e) a f
   unfolding heeded
   heed_report n d e a b f p q =
       let s = course_in a in
-      acts_then gives c [] [] (taken_by n d s) (λ after. then_do (reported d.to (held_by_role d.to s.hosted) after) (λ last. for_leader d.to last)) (Err e) a b f p
-      (acts_before gives c [] [] (reported d.to (held_by_role d.to s.hosted) (course_in b)) (λ last. for_leader d.to last) e b f q)
+      acts_then gives c [] [] (taken_by n d s) (λ after. then_do (reported d.from d.to (held_by_role d.to s.hosted) after) (λ last. for_leader d.to last)) (Err e) a b f p
+      (acts_before gives c [] [] (reported d.from d.to (held_by_role d.to s.hosted) (course_in b)) (λ last. for_leader d.to last) e b f q)
 
   pub heed_collect : (n : ℕ) (d : Letter) (r : Done) (a b f h : Scene K) → Acts gives c [] (at_place (hosted_place d.to (hosted_in a.guests)) (Give n (input.Take d)) (course_in a)) (Ok tt) a b
-      → Acts gives c [] (reported d.to (held_by_role d.to (hosted_in a.guests)) (course_in b)) (Ok tt) b f
+      → Acts gives c [] (reported d.from d.to (held_by_role d.to (hosted_in a.guests)) (course_in b)) (Ok tt) b f
       → Acts gives c [] (if same_role d.to (role kind.Leader 0) then collected (course_in f) else stays (course_in f)) r f h → Acts gives c [] (heeded (numbered n d) (course_in a)) r a h
   unfolding heeded
   heed_collect n d r a b f h p q t =
       let s = course_in a in
-      acts_then gives c [] [] (taken_by n d s) (λ after. then_do (reported d.to (held_by_role d.to s.hosted) after) (λ last. for_leader d.to last)) r a b h p
-      (acts_then gives c [] [] (reported d.to (held_by_role d.to s.hosted) (course_in b)) (λ last. for_leader d.to last) r b f h q t)
+      acts_then gives c [] [] (taken_by n d s) (λ after. then_do (reported d.from d.to (held_by_role d.to s.hosted) after) (λ last. for_leader d.to last)) r a b h p
+      (acts_then gives c [] [] (reported d.from d.to (held_by_role d.to s.hosted) (course_in b)) (λ last. for_leader d.to last) r b f h q t)
 
   -- what a take of the link gave, and what came of it
   pub took_letter : (n : ℕ) (d : Letter) (gs : List (Guest K)) (known : Option Recorded) (link mid : Option LinkHistory) (out : Option (List ℕ)) (r : Done) (b : Scene K) → AreReady c gs → Receives known link mid (Ok (come.Letter n d))
@@ -221,14 +221,31 @@ module _ {K : Type 0} (gives : Changing K) (c : Cluster) where
   took_fault gs known link mid out RecordFull ready got = absurd got
   took_fault gs known link mid out (StoreFault role) ready got = absurd got
 
-  pub flush_due : (k : Care) (came : Bool) (r : Done) (a b : Scene K) → (k.came && not came) ≡ true
-      → Acts gives c [] (kind_ticks kind.Batcher (course_in a)) r a b → Acts gives c [] (flushed k came (course_in a)) r a b
-  unfolding flushed
-  flush_due k came r a b e p = due (k.came && not came) (kind_ticks kind.Batcher (course_in a)) r a b e p
+  -- what is done in a pause that doesn't begin
+  abbrev waits_on : Bool → Course → Moved Course
+  waits_on t s = if t then those_tick (λ i h. awaits_votes_at h) s else stays s
 
-  pub flush_none : (k : Care) (came : Bool) (a : Scene K) → (k.came && not came) ≡ false → AreReady c a.guests → Acts gives c [] (flushed k came (course_in a)) (Ok tt) a a
-  unfolding flushed
-  flush_none k came a e ready = not_due (k.came && not came) (kind_ticks kind.Batcher (course_in a)) a e ready
+  pub pause_begins : (k : Care) (came : Bool) (r : Done) (a b : Scene K) → (k.came && not came) ≡ true
+      → Acts gives c [] (kind_ticks kind.Batcher (course_in a)) r a b → Acts gives c [] (paused k came (course_in a)) r a b
+  unfolding paused
+  pause_begins k came r a b e p =
+      let s = course_in a in
+      subst (λ (x : Bool). Acts gives c [] (if x then kind_ticks kind.Batcher s else waits_on ((k.calm == 7) && not came) s) r a b) (sym e) p
+
+  pause_goes_on : (k : Care) (came : Bool) (r : Done) (a b : Scene K) → (k.came && not came) ≡ false
+      → Acts gives c [] (waits_on ((k.calm == 7) && not came) (course_in a)) r a b → Acts gives c [] (paused k came (course_in a)) r a b
+  unfolding paused
+  pause_goes_on k came r a b e p =
+      let s = course_in a in
+      subst (λ (x : Bool). Acts gives c [] (if x then kind_ticks kind.Batcher s else waits_on ((k.calm == 7) && not came) s) r a b) (sym e) p
+
+  pub pause_lasts : (k : Care) (came : Bool) (r : Done) (a b : Scene K) → (k.came && not came) ≡ false → ((k.calm == 7) && not came) ≡ true
+      → Acts gives c [] (those_tick (λ i h. awaits_votes_at h) (course_in a)) r a b → Acts gives c [] (paused k came (course_in a)) r a b
+  pause_lasts k came r a b e w p = pause_goes_on k came r a b e (due ((k.calm == 7) && not came) (those_tick (λ i h. awaits_votes_at h) (course_in a)) r a b w p)
+
+  pub pause_none : (k : Care) (came : Bool) (a : Scene K) → (k.came && not came) ≡ false → ((k.calm == 7) && not came) ≡ false → AreReady c a.guests
+      → Acts gives c [] (paused k came (course_in a)) (Ok tt) a a
+  pause_none k came a e w ready = pause_goes_on k came (Ok tt) a a e (not_due ((k.calm == 7) && not came) (those_tick (λ i h. awaits_votes_at h) (course_in a)) a w ready)
 
   -- ---- what comes to the same
 
@@ -284,7 +301,7 @@ module _ {K : Type 0} (gives : Changing K) (c : Cluster) where
 
   -- one part of a turn after another
   abbrev rest_of_turn : ℕ → Option (List ℕ) → Care → Course → Moved Course
-  rest_of_turn most what k s = then_do (flushed k (is_some what) s) (λ last. without_care (turn_ended c most (is_some what) (tended k last)))
+  rest_of_turn most what k s = then_do (paused k (is_some what) s) (λ last. without_care (turn_ended c most (is_some what) (tended k last)))
 
   pub tend_prepare_order : (n : ℕ) (e : Stop) (a b : Scene K) → Acts gives c [] (tend_ordered c n (course_in a)) (Err e) a b
       → Acts gives c [] (tend_prepared c n (course_in a)) (Err e) a b
@@ -313,47 +330,47 @@ module _ {K : Type 0} (gives : Changing K) (c : Cluster) where
         tt,
       )
 
-  pub turn_flush : (most n : ℕ) (k now : Care) (came : Bool) (e : Stop) (a b d f : Scene K) → Acts gives c [] (tend_prepared c n (course_in a)) (Ok tt) a b
+  pub turn_pause : (most n : ℕ) (k now : Care) (came : Bool) (e : Stop) (a b d f : Scene K) → Acts gives c [] (tend_prepared c n (course_in a)) (Ok tt) a b
       → (q : (what : Option (List ℕ)) × Acts gives c (what ∷ []) (tend_comes what (course_in b)) (Ok tt) b d × (came ≡ is_some what))
-      → Acts gives c [] (flushed k came (course_in d)) (Err e) d f
+      → Acts gives c [] (paused k came (course_in d)) (Err e) d f
       → TendsOnce gives c (λ what. tended_turn c most n what (tended k (course_in a))) (Err e) a f now
   unfolding tended_turn
-  turn_flush most n k now came e a b d f p q t =
+  turn_pause most n k now came e a b d f p q t =
       let what = q.0 in
-      let flushing = subst (λ (x : Bool). Acts gives c [] (flushed k x (course_in d)) (Err e) d f) q.2 t in (
+      let pausing = subst (λ (x : Bool). Acts gives c [] (paused k x (course_in d)) (Err e) d f) q.2 t in (
         what,
         acts_then gives c [] (what ∷ []) (tend_prepared c n (course_in a)) (λ after. then_do (tend_comes what after) (rest_of_turn most what k)) (Err e) a b f p
             (acts_then gives c (what ∷ []) [] (tend_comes what (course_in b)) (rest_of_turn most what k) (Err e) b d f q.1
-            (acts_before gives c [] [] (flushed k (is_some what) (course_in d)) (λ last. without_care (turn_ended c most (is_some what) (tended k last))) e d f flushing)),
+            (acts_before gives c [] [] (paused k (is_some what) (course_in d)) (λ last. without_care (turn_ended c most (is_some what) (tended k last))) e d f pausing)),
         tt,
       )
 
   -- what a turn leaves counted
   turn_counts : (most n : ℕ) (k now : Care) (what : Option (List ℕ)) (r : Done) (a b d f : Scene K) → Acts gives c [] (tend_prepared c n (course_in a)) (Ok tt) a b
-      → Acts gives c (what ∷ []) (tend_comes what (course_in b)) (Ok tt) b d → Acts gives c [] (flushed k (is_some what) (course_in d)) (Ok tt) d f
+      → Acts gives c (what ∷ []) (tend_comes what (course_in b)) (Ok tt) b d → Acts gives c [] (paused k (is_some what) (course_in d)) (Ok tt) d f
       → OnOk r (now ≡ (turn_ended c most (is_some what) (tended k (course_in f))).next.care)
       → OnOk r (now ≡ (tended_turn c most n what (tended k (course_in a))).next.care)
   unfolding tended_turn
   turn_counts most n k now what (Ok u) a b d f p q t is =
       let last = λ (x : Course). (turn_ended c most (is_some what) (tended k x)).next.care in
-      is ∙ ap last t.done.course ∙ ap (λ (x : Course). last (flushed k (is_some what) x).next) q.done.course ∙ ap (λ (x : Course). last (flushed k (is_some what) (tend_comes what x).next).next) p.done.course
+      is ∙ ap last t.done.course ∙ ap (λ (x : Course). last (paused k (is_some what) x).next) q.done.course ∙ ap (λ (x : Course). last (paused k (is_some what) (tend_comes what x).next).next) p.done.course
   turn_counts most n k now what (Err e) a b d f p q t is = tt
 
   pub turn_end : (most n : ℕ) (k now : Care) (came : Bool) (r : Done) (a b d f h : Scene K) → Acts gives c [] (tend_prepared c n (course_in a)) (Ok tt) a b
       → (q : (what : Option (List ℕ)) × Acts gives c (what ∷ []) (tend_comes what (course_in b)) (Ok tt) b d × (came ≡ is_some what))
-      → Acts gives c [] (flushed k came (course_in d)) (Ok tt) d f
+      → Acts gives c [] (paused k came (course_in d)) (Ok tt) d f
       → Acts gives c [] (without_care (turn_ended c most came (tended k (course_in f)))) r f h
       → OnOk r (now ≡ (turn_ended c most came (tended k (course_in f))).next.care)
       → TendsOnce gives c (λ what. tended_turn c most n what (tended k (course_in a))) r a h now
   unfolding tended_turn
   turn_end most n k now came r a b d f h p q t u is =
       let what = q.0 in
-      let flushing = subst (λ (x : Bool). Acts gives c [] (flushed k x (course_in d)) (Ok tt) d f) q.2 t in
+      let pausing = subst (λ (x : Bool). Acts gives c [] (paused k x (course_in d)) (Ok tt) d f) q.2 t in
       let ending = subst (λ (x : Bool). Acts gives c [] (without_care (turn_ended c most x (tended k (course_in f)))) r f h) q.2 u in
       let counts = subst (λ (x : Bool). OnOk r (now ≡ (turn_ended c most x (tended k (course_in f))).next.care)) q.2 is in (
         what,
         acts_then gives c [] (what ∷ []) (tend_prepared c n (course_in a)) (λ after. then_do (tend_comes what after) (rest_of_turn most what k)) r a b h p
             (acts_then gives c (what ∷ []) [] (tend_comes what (course_in b)) (rest_of_turn most what k) r b d h q.1
-            (acts_then gives c [] [] (flushed k (is_some what) (course_in d)) (λ last. without_care (turn_ended c most (is_some what) (tended k last))) r d f h flushing ending)),
-        turn_counts most n k now what r a b d f p q.1 flushing counts,
+            (acts_then gives c [] [] (paused k (is_some what) (course_in d)) (λ last. without_care (turn_ended c most (is_some what) (tended k last))) r d f h pausing ending)),
+        turn_counts most n k now what r a b d f p q.1 pausing counts,
       )

@@ -15,7 +15,7 @@ use Rattle.cx_course.specs.Action.{Action, Took}
 use Rattle.cx_course.specs.Course.{Course, Moved, does_at, stays, then_do, took}
 use Rattle.cx_course.specs.Hosted.{Hosted}
 use Rattle.cx_course.specs.Run.{TakeResults, all_do, at_place, brings, brought, comes, first_do, grid_of, idle_at, is_client, lead_at, ordered, hosted_place, prepared, snaps, ticked, node_turn, turns_from, untended_run}
-use Rattle.cx_course.specs.Tending.{Care, Tended, all_completed, asks_again, beat, beat_over, brings_heeded, clients_noted, clients_tended, collected, care_after_turn, first_leader, flushed, gets, heeded, held_by_role, in_turn, is_beat, is_of_kind, is_overtaken, is_so, kind_ticks, leader_asked, leader_cared, leader_tended, next_pass, node_run, others_tick, passes, reported, standing_of, tend_comes, tend_ordered, tend_prepared, tended_turn, those_tick, ticks_if, turn_ended, untended, within}
+use Rattle.cx_course.specs.Tending.{Care, Tended, all_completed, asks_again, awaits_votes_at, beat, beat_over, brings_heeded, clients_noted, clients_tended, collected, care_after_turn, first_leader, gets, heeded, held_by_role, in_turn, is_beat, is_of_kind, is_overtaken, is_so, kind_ticks, leader_asked, leader_cared, leader_tended, next_pass, node_run, others_tick, passes, paused, reported, standing_of, tend_comes, tend_ordered, tend_prepared, tended_turn, those_tick, ticks_behind, ticks_if, turn_ended, untended, within}
 use Rattle.cx_course.specs.declared.doing.Doing.{Doing}
 use Rattle.cx_course.specs.declared.doing.Doing.TheVariants.{Begin, Give, Snap}
 use Rattle.cx_leader.specs.Tending.{can_collect, is_new_leader}
@@ -205,11 +205,11 @@ module _ (Holds : Course → List Action → Type 0) (preserves : IsPreserved Ho
       let a = tend_ordered c n s in
       then_one done a (λ led. snaps n led) (tend_order c n s done h) (λ g. snap_some n a.next (done ++ a.actions) g)
 
-  report : (who : RoleId) (was : ℕ) (s : Course) (done : List Action) → Holds s done → After done (reported who was s)
+  report : (from who : RoleId) (was : ℕ) (s : Course) (done : List Action) → Holds s done → After done (reported from who was s)
   unfolding reported
-  report who was s done h =
+  report from who was s done h =
       let o = hosted_place who s.hosted in
-      either (nat_lt (was / 8) (held_by_role who s.hosted / 8)) done (at_place o (Give 0 input.Tick) s) (stays s)
+      either (ticks_behind from was (held_by_role who s.hosted)) done (at_place o (Give 0 input.Tick) s) (stays s)
       (named o (Give 0 input.Tick) s done (λ i here. tt) h) (nothing s done h)
 
   collect : (s : Course) (done : List Action) → Holds s done → After done (collected s)
@@ -225,11 +225,12 @@ module _ (Holds : Course → List Action → Type 0) (preserves : IsPreserved Ho
       let to = x.letter.to in
       let was = held_by_role to s.hosted in
       let a = at_place (hosted_place to s.hosted) (Give x.number (input.Take x.letter)) s in
-      let b = reported to was a.next in
-      then_one done a (λ after. then_do (reported to was after) (λ last. if same_role to (role kind.Leader 0) then collected last else stays last))
+      let from = x.letter.from in
+      let b = reported from to was a.next in
+      then_one done a (λ after. then_do (reported from to was after) (λ last. if same_role to (role kind.Leader 0) then collected last else stays last))
       (bring bytes (Some x) s done is h)
       (λ g. then_one (done ++ a.actions) b (λ last. if same_role to (role kind.Leader 0) then collected last else stays last)
-      (report to was a.next (done ++ a.actions) g)
+      (report from to was a.next (done ++ a.actions) g)
       (λ k. let so_far = (done ++ a.actions) ++ b.actions in
       either (same_role to (role kind.Leader 0)) so_far (collected b.next) (stays b.next) (collect b.next so_far k) (nothing b.next so_far k)))
 
@@ -245,10 +246,13 @@ module _ (Holds : Course → List Action → Type 0) (preserves : IsPreserved Ho
       took_first (Some bytes) s done (brings_heeded (brought s.recorded bytes) s)
       (λ g. bring_heeded bytes (brought s.recorded bytes) s (done ++ Took (Some bytes) ∷ []) refl g) h
 
-  flush : (k : Care) (came : Bool) (s : Course) (done : List Action) → Holds s done → After done (flushed k came s)
-  unfolding flushed
-  flush k came s done h =
-      either (k.came && not came) done (kind_ticks kind.Batcher s) (stays s) (tick_kind kind.Batcher s done h) (nothing s done h)
+  pause : (k : Care) (came : Bool) (s : Course) (done : List Action) → Holds s done → After done (paused k came s)
+  unfolding paused
+  pause k came s done h =
+      let waited = (k.calm == 7) && not came in
+      either (k.came && not came) done (kind_ticks kind.Batcher s) (if waited then those_tick (λ i x. awaits_votes_at x) s else stays s)
+      (tick_kind kind.Batcher s done h)
+      (either waited done (those_tick (λ i x. awaits_votes_at x) s) (stays s) (tick_those (λ i x. awaits_votes_at x) s done h) (nothing s done h))
 
   tick_others : (s : Course) (done : List Action) → Holds s done → After done (others_tick s)
   unfolding others_tick
@@ -299,15 +303,15 @@ module _ (Holds : Course → List Action → Type 0) (preserves : IsPreserved Ho
   tended_one c m n what t done h =
       let a = within (tend_prepared c n) t in
       let b = within (tend_comes what) a.next in
-      let d = within (flushed b.next.care (is_some what)) b.next in
+      let d = within (paused b.next.care (is_some what)) b.next in
       then_tended done a
-      (λ x. then_do (within (tend_comes what) x) (λ y. then_do (within (flushed y.care (is_some what)) y) (λ z. turn_ended c m (is_some what) z)))
+      (λ x. then_do (within (tend_comes what) x) (λ y. then_do (within (paused y.care (is_some what)) y) (λ z. turn_ended c m (is_some what) z)))
       (tend_prepare c n t.course done h)
       (λ g. then_tended (done ++ a.actions) b
-      (λ y. then_do (within (flushed y.care (is_some what)) y) (λ z. turn_ended c m (is_some what) z))
+      (λ y. then_do (within (paused y.care (is_some what)) y) (λ z. turn_ended c m (is_some what) z))
       (tend_come what a.next.course (done ++ a.actions) g)
       (λ k. let so_far = (done ++ a.actions) ++ b.actions in
-      then_tended so_far d (λ z. turn_ended c m (is_some what) z) (flush b.next.care (is_some what) b.next.course so_far k)
+      then_tended so_far d (λ z. turn_ended c m (is_some what) z) (pause b.next.care (is_some what) b.next.course so_far k)
       (λ l. end_turn c m (is_some what) d.next (so_far ++ d.actions) l)))
 
   tended_turns : (c : Cluster) (m n : ℕ) (takes : TakeResults) (t : Tended) (done : List Action) → Holds t.course done

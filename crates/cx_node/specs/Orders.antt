@@ -1,14 +1,17 @@
--- No order of a tended node is in vain.
-use Rattle.std.specs.Prelude.{◌≡◌, Bool, true, false, Some, is_some}
+-- No order of a tended node is in vain, and a replica that lags waits for no beat.
+use Rattle.std.specs.Prelude.{◌≡◌, ℕ, ◌<◌, ◌/◌, nat_lt, Bool, true, false, Some, is_some}
 use Rattle.cx_base.specs.declared.event.Order.{Order}
 use Rattle.cx_base.specs.declared.event.Order.TheVariants as order
+use Rattle.cx_base.specs.declared.role.Kind.TheVariants as kind
+use Rattle.cx_base.specs.declared.role.RoleId.{RoleId}
 use Rattle.cx_base.specs.declared.why.Why.{Why}
 use Rattle.cx_base.specs.declared.why.Why.TheVariants as why
 use Rattle.cx_base.specs.Grid.{Shape}
 use Rattle.cx_model.specs.Collection.{is_retired}
 use Rattle.cx_model.specs.Leader.{LeaderDurable, LeaderVolatile, is_idle, is_leading, order_row}
 use Rattle.cx_model.specs.Rules.{Running}
-use Rattle.cx_course.specs.Tending.{Care, leader_asked, standing_of}
+use Rattle.cx_course.specs.Course.{is_a}
+use Rattle.cx_course.specs.Tending.{Care, leader_asked, standing_of, ticks_behind}
 
 -- a round was begun, or there is none left
 abbrev pub begins : Why → Bool
@@ -40,3 +43,9 @@ NoVainOrder =
     (l : Running LeaderDurable LeaderVolatile) (k : Care) (o : Order)
     → (is_leading l.volatile.mode ≡ true → is_some l.durable.own ≡ true)
     → leader_asked l.cluster (standing_of l) k ≡ Some o → IsApt l o
+
+-- A replica that holds more by a value of another replica ticks behind it, whatever it held, and so asks for the next one; behind what
+-- anybody else sends it ticks as its reports are due, and not more often.
+pub record AsksOn : Type 0 where
+  pub lacked : (from : RoleId) (before now : ℕ) → is_a kind.Replica from ≡ true → before < now → ticks_behind from before now ≡ true
+  pub others : (from : RoleId) (before now : ℕ) → is_a kind.Replica from ≡ false → ticks_behind from before now ≡ nat_lt (before / 8) (now / 8)

@@ -1,17 +1,24 @@
 -- Worked parts of a tended turn.
-use Rattle.std.specs.Prelude.{◌≡◌, ℕ, zero, suc, true, false, List, [], ◌∷◌, replicate}
+use Rattle.std.specs.Prelude.{◌≡◌, ℕ, zero, suc, true, false, List, [], ◌∷◌, None, replicate}
+use Rattle.std.proofs.Common.{lit≤}
+use Rattle.cx_base.specs.declared.cluster.Cluster.{Cluster}
 use Rattle.cx_base.specs.declared.command.Value.TheVariants.{Noop}
 use Rattle.cx_base.specs.declared.event.Event.TheVariants as event
-use Rattle.cx_base.specs.declared.role.Kind.TheVariants.{Client, Reader, Replica, Leader}
+use Rattle.cx_base.specs.declared.role.Kind.TheVariants.{Acceptor, Client, Reader, Replica, Leader, Proxy}
+use Rattle.cx_base.specs.declared.role.RoleId.{RoleId}
+use Rattle.cx_base.specs.Grid.{make_grid}
 use Rattle.cx_base.specs.Role.{role}
+use Rattle.cx_model.specs.declared.states.Pending.{Pending}
 use Rattle.cx_model.specs.Examples.{one_of_each}
+use Rattle.cx_model.specs.Proxy.{pending_of}
 use Rattle.cx_model.specs.Replica.{replica_rules}
 use Rattle.cx_letter.specs.Letter.{Letter, letter}
 use Rattle.cx_letter.specs.declared.message.Msg.TheVariants as msg
 use Rattle.cx_course.specs.Action.{sent_in}
-use Rattle.cx_course.specs.Hosted.{Hosted, ClientAt, ReplicaAt}
+use Rattle.cx_course.specs.Hosted.{Hosted, ClientAt, ProxyAt, ReplicaAt}
 use Rattle.cx_course.specs.Course.{Course, Moved, course_of, stays}
-use Rattle.cx_course.specs.Tending.{Care, Tended, asks_again, collected, care_after_turn, first_leader, is_beat, is_time, leader_tended, next_pass, no_care, reported, tend_ordered, untended}
+use Rattle.cx_course.specs.Tending.{Care, Tended, asks_again, collected, care_after_turn, first_leader, heeded, is_beat, is_time, leader_tended, next_pass, no_care, paused, reported, tend_ordered, untended}
+use Rattle.cx_record.specs.Numbers.{numbered}
 
 -- n takes gave nothing
 abbrev pub quiet : ℕ → Care → Care
@@ -46,9 +53,80 @@ alone_with n = course_of false (replica_with n ∷ [])
 
 -- a replica reports each further multiple of 8 slots
 pub record Reports : Type 0 where
-  pub at_8 : sent_in ((reported (role Replica 0) 7 (alone_with 8)).actions) ≡ letter (role Replica 0) (role Leader 0) (msg.Held 8) ∷ []
-  pub at_15 : sent_in ((reported (role Replica 0) 8 (alone_with 15)).actions) ≡ []
-  pub at_17 : sent_in ((reported (role Replica 0) 15 (alone_with 17)).actions) ≡ letter (role Replica 0) (role Leader 0) (msg.Held 17) ∷ []
+  pub at_8 : sent_in ((reported (role Proxy 0) (role Replica 0) 7 (alone_with 8)).actions) ≡ letter (role Replica 0) (role Leader 0) (msg.Held 8) ∷ []
+  pub at_15 : sent_in ((reported (role Proxy 0) (role Replica 0) 8 (alone_with 15)).actions) ≡ []
+  pub at_17 : sent_in ((reported (role Proxy 0) (role Replica 0) 15 (alone_with 17)).actions) ≡ letter (role Replica 0) (role Leader 0) (msg.Held 17) ∷ []
+
+-- three replicas
+abbrev pub three_replicas : Cluster
+three_replicas = record one_of_each { replicas = 3; some_replicas = lit≤ tt; replicas_fit = lit≤ tt }
+
+-- replica 0 of three, alone in its node, which holds 3 slots and missed those that followed
+abbrev pub lagging_replica : Course
+lagging_replica =
+    course_of false
+    (ReplicaAt
+    (record {
+      cluster = three_replicas;
+      me = role Replica 0;
+      live = true;
+      durable = record (replica_rules.empty) { log = replicate 3 Noop };
+      volatile = replica_rules.fresh three_replicas;
+    })
+    ∷ [])
+
+-- what it sends when it takes a value of this slot from this role
+abbrev pub sent_behind : RoleId → ℕ → List Letter
+sent_behind from slot = sent_in ((heeded (numbered 9 (letter from (role Replica 0) (msg.Chosen slot Noop))) lagging_replica).actions)
+
+-- A replica that another one sent the value that it lacked reports what it holds, and asks for the next one at once. It doesn't where it
+-- holds no more than before, nor behind a proxy leader's value.
+pub record CatchesUp : Type 0 where
+  pub lacked : sent_behind (role Replica 1) 3
+      ≡ letter (role Replica 0) (role Leader 0) (msg.Held 4) ∷ letter (role Replica 0) (role Replica 1) (msg.Fetch 4) ∷ []
+  pub known : sent_behind (role Replica 1) 2 ≡ []
+  pub later : sent_behind (role Replica 1) 4 ≡ []
+  pub proxied : sent_behind (role Proxy 0) 3 ≡ []
+
+-- a value for slot 0 that waits for the vote of acceptor 0
+abbrev pub unvoted : Pending
+unvoted = pending_of (record { r = 1; id = 0; s = 0 }) (make_grid 1 1 (0 ∷ [])) 0 0 Noop
+
+-- a proxy leader with it, alone in its node
+abbrev pub waiting_proxy : Course
+waiting_proxy =
+    course_of false
+    (ProxyAt (record { cluster = one_of_each; me = role Proxy 0; live = true; durable = tt; volatile = record { known = 0; pending = unvoted ∷ [] } }) ∷ [])
+
+-- the same once the value is known to be chosen
+abbrev pub announced_proxy : Course
+announced_proxy =
+    course_of false
+    (ProxyAt
+    (record {
+      cluster = one_of_each;
+      me = role Proxy 0;
+      live = true;
+      durable = tt;
+      volatile = record { known = 0; pending = record unvoted { marks = 0 ∷ []; done = true } ∷ [] };
+    })
+    ∷ [])
+
+-- the vote is asked for again
+abbrev pub vote_asked_again : List Letter
+vote_asked_again = letter (role Proxy 0) (role Acceptor 0) (msg.Phase2A unvoted.round 0 0 Noop) ∷ []
+
+-- A proxy leader that waits for votes asks again at the 8th take in a row that gives nothing, and at none before or behind; one that gives
+-- something begins anew. Who knows its value to be chosen doesn't announce it again, and nobody else ticks.
+pub record Pauses : Type 0 where
+  pub first : sent_in ((paused (quiet 0 fresh) false waiting_proxy).actions) ≡ []
+  pub seventh : sent_in ((paused (quiet 6 fresh) false waiting_proxy).actions) ≡ []
+  pub eighth : sent_in ((paused (quiet 7 fresh) false waiting_proxy).actions) ≡ vote_asked_again
+  pub ninth : sent_in ((paused (quiet 8 fresh) false waiting_proxy).actions) ≡ []
+  pub something : paused (quiet 7 fresh) true waiting_proxy ≡ stays waiting_proxy
+  pub anew : sent_in ((paused (quiet 7 (care_after_turn true (quiet 5 fresh))) false waiting_proxy).actions) ≡ vote_asked_again
+  pub chosen : paused (quiet 7 fresh) false announced_proxy ≡ stays announced_proxy
+  pub others : paused (quiet 7 fresh) false (alone_with 8) ≡ stays (alone_with 8)
 
 -- where leader 0 isn't hosted it gets no order
 pub record NoLeader : Type 0 where
@@ -71,7 +149,7 @@ pub record Waits : Type 0 where
 -- a client that has completed n requests, and waits for the answer to a read
 abbrev pub client_with : ℕ → ℕ → Hosted
 client_with index n =
-    ClientAt (record { cluster = one_of_each; me = role Client index; script = replicate (suc n) (event.Read index 1 0 0 0 []); done = n; window = 1; heard = 0 })
+    ClientAt (record { cluster = one_of_each; me = role Client index; script = replicate (suc n) (event.Read index 1 0 0 0 []); done = n; window = 1; heard = 0; shift = None })
 
 -- the read that it sends
 abbrev pub read_sent_by : ℕ → Letter

@@ -3,14 +3,14 @@ use Rattle.std.specs.Prelude.{◌≡◌, ℕ, Bool, not, List, [], ◌∷◌, Op
 use Rattle.cx_base.specs.declared.cluster.Cluster.{Cluster}
 use Rattle.cx_node.specs.declared.node.Stop.{Stop}
 use Rattle.cx_node.specs.declared.whom.Whom.{Whom}
-use Rattle.cx_node.specs.declared.whom.Whom.TheVariants.{Kind, Others, Overtaken}
+use Rattle.cx_node.specs.declared.whom.Whom.TheVariants.{Awaiting, Kind, Others, Overtaken}
 use Rattle.cx_node.specs.Acts.{Acts}
 use Rattle.cx_seat.specs.Changing.{Changing}
 use Rattle.cx_node.specs.Doing.{Scene}
 use Rattle.cx_course.specs.Hosted.{Hosted}
 use Rattle.cx_course.specs.Course.{Course, Moved}
 use Rattle.cx_course.specs.Run.{is_client}
-use Rattle.cx_course.specs.Tending.{Care, Tended, is_of_kind, is_overtaken, without_care}
+use Rattle.cx_course.specs.Tending.{Care, Tended, awaits_votes_at, is_of_kind, is_overtaken, without_care}
 
 -- these roles, with these counts
 abbrev pub tended : Care → Course → Tended
@@ -20,6 +20,7 @@ tended k s = record { care = k; course = s }
 abbrev pub is_meant : Whom → List ℕ → ℕ → Hosted → Bool
 is_meant (Kind k) counts = λ i h. is_of_kind k h
 is_meant Others counts = λ i h. not (is_client h)
+is_meant Awaiting counts = λ i h. awaits_votes_at h
 is_meant Overtaken counts = is_overtaken counts
 
 -- whether it was done at all

@@ -1,6 +1,6 @@
 //! What a tended node counts.
 
-ghost use Rattle.std.specs.Prelude.{◌≡◌, ◌&&◌, not, min, filter, List, length, IfOk, OnOk};
+ghost use Rattle.std.specs.Prelude.{◌≡◌, ◌==◌, ◌&&◌, not, min, filter, List, length, IfOk, OnOk};
 ghost use Rattle.std.specs.List.{sum};
 ghost use Rattle.cx_base.specs.Lists.{below};
 ghost use Rattle.cx_course.specs.Hosted.{Hosted};
@@ -14,14 +14,18 @@ use std::marker::Model;
 // How many takes that gave nothing make a beat.
 const BEAT: u32 = 64;
 
+// After how many in a row proxy leaders ask again.
+const PAUSE: u32 = 8;
+
 /// What a tended node has counted.
 #[derive(Drop)]
 pub struct Care {
     // Turns since the last beat, and of their takes those that gave nothing after one that gave nothing.
     turns: u32,
     empty: u32,
-    // Whether the last take gave something.
+    // Whether the last take gave something, and how many in a row up to it gave nothing.
     came: bool,
+    calm: u32,
     // How many requests the hosted clients had completed at the last beat, and for how many beats they have completed none.
     done: u64,
     still: u32,
@@ -43,6 +47,7 @@ impl Model for Care {
       turns = k.turns;
       empty = k.empty;
       came = k.came;
+      calm = k.calm;
       done = k.done;
       still = k.still;
       counts = k.counts.items;
@@ -153,6 +158,7 @@ impl Care {
             turns: 0,
             empty: 0,
             came: false,
+            calm: 0,
             done: 0,
             still: 0,
             counts,
@@ -169,6 +175,13 @@ impl Care {
         self.came && !came
     }
 
+    /// Whether this take is the 8th in a row that gave nothing.
+    pub fn has_waited(&self, came: bool) -> bool
+        ensures { result ≡ ((self.now.calm == 7) && not came) }
+    {
+        self.calm == PAUSE - 1 && !came
+    }
+
     /// Counts a turn.
     #[tactic(auto, unfolding(cx_course::specs::Tending::care_after_turn))]
     pub fn count(&mut self, came: bool)
@@ -179,6 +192,7 @@ impl Care {
             self.empty = self.empty.saturating_add(1);
         }
         self.came = came;
+        self.calm = if came { 0 } else { self.calm.saturating_add(1) };
     }
 
     /// Whether the turn ends with a beat: after 64 takes that gave nothing after one that gave nothing, or after `most` turns.
@@ -230,6 +244,13 @@ impl Care {
         } else {
             self.still = self.still.saturating_add(1);
         }
+    }
+
+    /// For how many beats the clients have completed no request.
+    pub fn still(&self) -> u32
+        ensures { result ≡ self.now.still }
+    {
+        self.still
     }
 
     /// Whether all clients ask again.

@@ -13,7 +13,7 @@ ghost use Rattle.cx_course.specs.Course.{stays};
 ghost use Rattle.cx_course.specs.Run.{is_client};
 ghost use Rattle.cx_course.specs.Tending.{collected, completed, first_leader, gets};
 ghost use Rattle.cx_course.specs.Tending.{held_by_role, in_turn, is_so, reported, standing_of};
-ghost use Rattle.cx_course.specs.Tending.{tend_ordered, tend_prepared, those_tick, ticks_if};
+ghost use Rattle.cx_course.specs.Tending.{tend_ordered, tend_prepared, those_tick, ticks_behind, ticks_if};
 ghost use Rattle.cx_seat.specs.Seat.{is_leader_so};
 ghost use Rattle.cx_node.specs.Tends.{is_meant};
 
@@ -43,6 +43,7 @@ fn is_meant<K: Renew>(whom: Whom, care: &Care, place: usize, seat: &Seat<K>) -> 
     match whom {
         Whom::Kind { kind } => seat.is_of(kind),
         Whom::Others => !seat.is_client(),
+        Whom::Awaiting => seat.awaits_votes(),
         Whom::Overtaken => seat.is_client() && care.had_completed(place, seat.completed()),
     }
 }
@@ -69,11 +70,13 @@ impl<K: Renew + Drop> Node<K> {
         self.seats[place].held()
     }
 
-    // Whether a replica holds a further multiple of 8 slots.
-    fn holds_more(&self, role: RoleId, before: u64) -> bool
-        ensures { result ≡ nat_lt (before / 8) (held_by_role role (hosted_in self.now.guests) / 8) }
+    // Whether a replica that held this many slots ticks behind a datagram: it holds a further multiple of 8, or got what it lacked
+    // from another replica.
+    fn reports(&self, from: RoleId, role: RoleId, before: u64) -> bool
+        ensures { result ≡ ticks_behind from before (held_by_role role (hosted_in self.now.guests)) }
     {
-        before / REPORTED < self.held_by(role) / REPORTED
+        let held = self.held_by(role);
+        before / REPORTED < held / REPORTED || from.kind == Kind::Replica && before < held
     }
 
     // Whether leader 0 is hosted, and never began a round.
@@ -249,9 +252,10 @@ impl<K: Renew + Drop> Node<K> {
         self.snap(n, link, out)
     }
 
-    // A role ticks, if its log has come to a further multiple of 8 slots.
+    // A role ticks behind a datagram, if its log has come to a further multiple of 8 slots, or got what it lacked from a replica.
     pub(crate) fn report<L: Link, W: Sink>(
         &mut self,
+        from: RoleId,
         role: RoleId,
         before: u64,
         link: &mut L,
@@ -259,12 +263,12 @@ impl<K: Renew + Drop> Node<K> {
     ) -> Result<(), Stop>
         requires ready { AreReady self.old.cluster self.old.guests }
         ensures acts { ActsPart (changing K.append_gives K.renew_gives) self.old.cluster
-            (reported role before) result
+            (reported from role before) result
             (scene_of L.Link W.Sink self.old link.old out.old) (scene_of L.Link W.Sink self.new link.new out.new) }
         ensures blames { Blames result (failed L.Link W.Sink link.old out.old) (failed L.Link W.Sink link.new out.new) }
         ensures cluster { self.new.cluster ≡ self.old.cluster }
     {
-        if self.holds_more(role, before) {
+        if self.reports(from, role, before) {
             let tick = Doing::Give {
                 number: 0,
                 input: Input::Tick,

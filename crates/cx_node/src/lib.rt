@@ -15,6 +15,7 @@ mod hosting;
 mod input;
 mod node;
 mod orders;
+mod remarking;
 mod sending;
 mod serving;
 mod tending;

@@ -10,13 +10,14 @@ ghost use Rattle.cx_seat.specs.Guest.{AreReady, hosted_of};
 ghost use Rattle.cx_node.specs.Node.{course_at};
 ghost use Rattle.cx_record.specs.Numbers.{numbered};
 ghost use Rattle.cx_course.specs.Run.{is_client};
-ghost use Rattle.cx_course.specs.Tending.{beat, clients_tended, completed, flushed, gets};
+ghost use Rattle.cx_course.specs.Tending.{beat, clients_tended, completed, gets, paused};
 ghost use Rattle.cx_course.specs.Tending.{heeded, leader_asked, leader_cared, next_pass};
 ghost use Rattle.cx_course.specs.Tending.{tend_comes, tended_turn, turn_ended};
 ghost use Rattle.cx_node.specs.TendedParts.{ActsTended, ActsTurn, IsCareAfter, leader_part};
 ghost use Rattle.cx_node.specs.Tends.{done_of};
 
 use crate::care::Care;
+use crate::remarking::remark_silence;
 use crate::turning::{first_grid, receive};
 use crate::{Come, Node, Stop, Whom};
 use cx_base::{Cluster, Kind, NoMemory, Order};
@@ -91,6 +92,7 @@ impl<K: Renew + Drop> Node<K> {
         ensures blames { Blames result (failed L.Link W.Sink link.old out.old) (failed L.Link W.Sink link.new out.new) }
         ensures cluster { self.new.cluster ≡ self.old.cluster }
     {
+        let from = datagram.from();
         let to = datagram.to();
         let before = self.held_by(to);
         self.act_named(
@@ -102,7 +104,7 @@ impl<K: Renew + Drop> Node<K> {
             link,
             out,
         )?;
-        self.report(to, before, link, out)?;
+        self.report(from, to, before, link, out)?;
         self.collect_for(to, link, out)
     }
 
@@ -129,8 +131,8 @@ impl<K: Renew + Drop> Node<K> {
         }
     }
 
-    // Batchers tick where something came before, and nothing now.
-    fn flush<L: Link, W: Sink>(
+    // What is done in a pause: batchers tick where something came before and nothing now, proxy leaders that wait for votes after some takes more.
+    fn pause<L: Link, W: Sink>(
         &mut self,
         care: &Care,
         came: bool,
@@ -139,7 +141,7 @@ impl<K: Renew + Drop> Node<K> {
     ) -> Result<(), Stop>
         requires ready { AreReady self.old.cluster self.old.guests }
         ensures acts { ActsPart (changing K.append_gives K.renew_gives) self.old.cluster
-            (flushed care.now came) result
+            (paused care.now came) result
             (scene_of L.Link W.Sink self.old link.old out.old) (scene_of L.Link W.Sink self.new link.new out.new) }
         ensures blames { Blames result (failed L.Link W.Sink link.old out.old) (failed L.Link W.Sink link.new out.new) }
         ensures cluster { self.new.cluster ≡ self.old.cluster }
@@ -153,6 +155,9 @@ impl<K: Renew + Drop> Node<K> {
                 link,
                 out,
             );
+        }
+        if care.has_waited(came) {
+            return self.tick_those(Whom::Awaiting, care, link, out);
         }
         Ok(())
     }
@@ -202,8 +207,8 @@ impl<K: Renew + Drop> Node<K> {
         Ok(())
     }
 
-    // The clients' part of a beat.
-    fn tend_clients<L: Link, W: Sink>(
+    // All clients ask again where none was answered for some beats; else, where a pass ends, those that were overtaken.
+    fn ask_clients<L: Link, W: Sink>(
         &mut self,
         care: &mut Care,
         link: &mut L,
@@ -226,6 +231,26 @@ impl<K: Renew + Drop> Node<K> {
         if care.passes(clients, done) {
             return self.end_pass(care, link, out);
         }
+        Ok(())
+    }
+
+    // The clients' part of a beat. Whoever watches is told where they were told nothing for long.
+    fn tend_clients<L: Link, W: Sink>(
+        &mut self,
+        care: &mut Care,
+        link: &mut L,
+        out: &mut W,
+    ) -> Result<(), Stop>
+        requires ready { AreReady self.old.cluster self.old.guests }
+        ensures acts { ActsTended (changing K.append_gives K.renew_gives) self.old.cluster
+            clients_tended result care.old
+            (scene_of L.Link W.Sink self.old link.old out.old) (scene_of L.Link W.Sink self.new link.new out.new) }
+        ensures care { IsCareAfter clients_tended result care.old care.new (course_at self.old) }
+        ensures blames { Blames result (failed L.Link W.Sink link.old out.old) (failed L.Link W.Sink link.new out.new) }
+        ensures cluster { self.new.cluster ≡ self.old.cluster }
+    {
+        self.ask_clients(care, link, out)?;
+        remark_silence(&self.seats, care, out);
         Ok(())
     }
 
@@ -293,7 +318,7 @@ impl<K: Renew + Drop> Node<K> {
     {
         self.tend_prepare(n, link, out)?;
         let came = self.tend_take(link, out)?;
-        self.flush(care, came, link, out)?;
+        self.pause(care, came, link, out)?;
         self.end_turn(care, most, came, link, out)
     }
 }

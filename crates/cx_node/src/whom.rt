@@ -9,6 +9,8 @@ pub enum Whom {
     Kind { kind: Kind },
     /// All but clients.
     Others,
+    /// The proxy leaders that wait for votes.
+    Awaiting,
     /// The clients that have completed no request since the pass began.
     Overtaken,
 }

@@ -2,3 +2,4 @@ pub mod Declined
 pub mod Holds
 pub mod Rows
 pub mod Slots
+pub mod Tending

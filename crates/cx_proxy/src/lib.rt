@@ -6,5 +6,6 @@
 mod pendings;
 mod proxy;
 mod sends;
+mod tending;
 
 pub use proxy::Proxy;

@@ -55,6 +55,14 @@ impl Proxy {
         }
     }
 
+    // The values that are pending.
+    pub(crate) fn pendings(&self) -> &Pendings
+        ensures first { result.now.first ≡ self.now.volatile.known }
+        ensures items { result.now.items ≡ self.now.volatile.pending }
+    {
+        &self.pending
+    }
+
     // A leader hands over a value for a slot. It comes beside the other parts, since it is copied only where it will be
     // asked for: one that is past or old takes no memory.
     #[tactic(auto, using(crate::proofs::Holding::mark_limit))]

@@ -21,7 +21,7 @@ use Rattle.cx_replay.specs.declared.running.LinesEnd.TheVariants as end
 use Rattle.cx_script.specs.Header.{is_rule, header_and_rest}
 use Rattle.cx_script.specs.Lines.{with_line, spelled_from, schedule_of}
 use Rattle.cx_script.specs.Unended.{whole_lines}
-use Rattle.cx_world.specs.World.{WorldState}
+use Rattle.cx_world.specs.World.{WorldState, world_of}
 
 -- a line of a header ends it, or comes after those before, with its line feed, which fit or don't
 abbrev pub Joins : List ℕ → List ℕ → List ℕ → Joined → Type 0
@@ -77,8 +77,9 @@ pub record RanLine (c : Cluster) (n : ℕ) (line : List ℕ) (old new : WorldSta
   pub event : Option Event
   pub spells : Spells c n line event
   pub counted : n ≤ 65535
-  pub world : new ≡ record { world = run_from old.world (option_to_list event); spent = false }
-  pub printed : text_after ≡ text ++ trace old.world (option_to_list event)
+  pub world : world_of new ≡ run_from (world_of old) (option_to_list event)
+  pub unspent : new.spent ≡ false
+  pub printed : text_after ≡ text ++ trace (world_of old) (option_to_list event)
 
 -- why a replay stops in the n-th line
 abbrev pub StopsIn : Cluster → ℕ → List ℕ → Status → Type 0

@@ -5,6 +5,7 @@ ghost use Rattle.cx_model.specs.World.{run};
 ghost use Rattle.cx_replay.specs.Generated.{ComesOfGen, GenCompletes, Generated, gen_events, gen_text};
 ghost use Rattle.cx_replay.specs.Lawful.{IsLawfulGenerated};
 ghost use Rattle.cx_script.specs.Generator.{gen_cluster};
+ghost use Rattle.cx_world.specs.World.{world_of};
 
 use crate::short::short_summary_into;
 use cx_base::{NoMemory, Status};
@@ -15,7 +16,8 @@ use std::alloc::Global;
 
 // Runs this many events of a seed.
 fn run_events(alloc: Global, seed: u64, count: u64) -> Result<World, NoMemory>
-    ensures { IfOk result (λ world. world ≡ record { world = run gen_cluster (gen_events seed count); spent = false }) }
+    ensures world { IfOk result (λ world. world_of world ≡ run gen_cluster (gen_events seed count)) }
+    ensures unspent { IfOk result (λ world. world.spent ≡ false) }
 {
     generated_events_are_taken();
     let mut world = World::new(alloc, gen_cluster())?;

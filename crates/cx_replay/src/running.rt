@@ -6,6 +6,7 @@ ghost use Rattle.cx_base.specs.Faults.{Rises};
 ghost use Rattle.cx_model.specs.World.{start};
 ghost use Rattle.cx_replay.specs.Replay.{ComesOfReplay, Replayed};
 ghost use Rattle.cx_replay.specs.Streamed.{ComesOfLines, RunsLine, RunsLines, StandsBehind, Sums, WritesFront};
+ghost use Rattle.cx_world.specs.World.{world_of};
 
 use crate::step::step_into;
 use crate::summing::write_summary;
@@ -77,7 +78,7 @@ fn write_printed<W: Sink>(lines: &Lines, text: &mut Vec<u8>, out: &mut W) -> boo
 
 // Writes the summary of the whole run.
 fn sum<W: Sink>(alloc: Global, world: &World, out: &mut W) -> Status
-    ensures { Sums world.now.world (W.taken out.old) (W.taken out.new) (W.faults out.old) (W.faults out.new) result }
+    ensures { Sums (world_of world.now) (W.taken out.old) (W.taken out.new) (W.faults out.old) (W.faults out.new) result }
 {
     match write_summary(alloc, world, out) {
         Ok(()) => Status::Done,
@@ -106,12 +107,13 @@ fn run_each<S: Source, W: Sink>(
     text: &mut Vec<u8>,
     out: &mut W,
 ) -> LinesEnd
-    requires fresh { world.old ≡ record { world = start cluster.now; spent = false } }
+    requires begun { world_of world.old ≡ start cluster.now }
+    requires fresh { world.old.spent ≡ false }
     requires none { text.old.items ≡ [] }
     ensures comes { ComesOfLines result }
     ensures runs { (left : Option (List ℕ)) → StandsBehind left (S.left input.old) lines.old.buffered cluster.now
         → RunsLines cluster.now left (S.left input.new) (S.faults input.old) (S.faults input.new) (W.taken out.old)
-        (W.taken out.new) text.new.items (W.faults out.old) (W.faults out.new) world.new.world result }
+        (W.taken out.new) text.new.items (W.faults out.old) (W.faults out.new) (world_of world.new) result }
 {
     let mut number = 0;
     loop {
@@ -149,7 +151,8 @@ fn run_world<S: Source, W: Sink>(
     world: &mut World,
     out: &mut W,
 ) -> Status
-    requires fresh { world.old ≡ record { world = start cluster.now; spent = false } }
+    requires begun { world_of world.old ≡ start cluster.now }
+    requires fresh { world.old.spent ≡ false }
     ensures comes { ComesOfReplay result }
     ensures replayed { (left : Option (List ℕ)) → StandsBehind left (S.left input.old) lines.old.buffered cluster.now
         → Replayed left (S.left input.new) (S.faults input.old) (S.faults input.new)

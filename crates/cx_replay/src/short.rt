@@ -3,6 +3,7 @@
 ghost use Rattle.std.specs.Prelude.{◌≡◌, ◌++◌, OnOk, decimal};
 ghost use Rattle.cx_replay.specs.Generated.{count_line, counts_text, short_summary};
 ghost use Rattle.cx_trace.specs.Summary.{replicas_text};
+ghost use Rattle.cx_world.specs.World.{world_of};
 
 use crate::step::folds;
 use cx_base::NoMemory;
@@ -37,7 +38,7 @@ fn put_count(text: &mut Vec<u8>, name: &[u8], count: u64) -> Result<(), NoMemory
 
 #[tactic(auto, unfolding(crate::specs::Generated::counts_text))]
 fn put_counts(text: &mut Vec<u8>, world: &World) -> Result<(), NoMemory>
-    ensures { OnOk result (text.new.items ≡ text.old.items ++ counts_text world.now.world) }
+    ensures { OnOk result (text.new.items ≡ text.old.items ++ counts_text (world_of world.now)) }
 {
     let counts = world.counts();
     put_count(text, b"events", counts.events)?;
@@ -59,7 +60,7 @@ fn put_replicas(text: &mut Vec<u8>, replicas: &[Folded]) -> Result<(), NoMemory>
 /// Puts the short summary at the end of a text: how much happened, how many values are chosen, and what each replica holds.
 #[tactic(auto, unfolding(crate::specs::Generated::short_summary))]
 pub fn short_summary_into(alloc: Global, world: &World, text: &mut Vec<u8>) -> Result<(), NoMemory>
-    ensures { OnOk result (text.new.items ≡ text.old.items ++ short_summary world.now.world) }
+    ensures { OnOk result (text.new.items ≡ text.old.items ++ short_summary (world_of world.now)) }
 {
     let chosen = world.chosen_prefix()?;
     let folds = folds(alloc, world)?;

@@ -6,6 +6,7 @@ ghost use Rattle.cx_base.specs.Lists.{below};
 ghost use Rattle.cx_model.specs.World.{step};
 ghost use Rattle.cx_replay.specs.Replay.{step_text};
 ghost use Rattle.cx_world.specs.Folded.{folded_of};
+ghost use Rattle.cx_world.specs.World.{world_of};
 
 use crate::sending::lines_into;
 use cx_base::{Event, NoMemory};
@@ -23,8 +24,9 @@ fn put_step(
 ) -> Result<(), NoMemory>
     requires fresh { world.old.spent ≡ false }
     requires taken { IsTrue (is_valid_event event.now) }
-    ensures world { OnOk result (world.new ≡ record { world = step world.old.world event.now; spent = false }) }
-    ensures text { OnOk result (text.new.items ≡ text.old.items ++ step_text world.old.world event.now) }
+    ensures world { OnOk result (world_of world.new ≡ step (world_of world.old) event.now) }
+    ensures unspent { OnOk result (world.new.spent ≡ false) }
+    ensures text { OnOk result (text.new.items ≡ text.old.items ++ step_text (world_of world.old) event.now) }
     ensures err { OnErr result (take (length text.old.items) text.new.items ≡ text.old.items) }
 {
     let effect = world.step(event)?;
@@ -41,8 +43,9 @@ pub fn step_into(
 ) -> Result<(), NoMemory>
     requires fresh { world.old.spent ≡ false }
     requires taken { IsTrue (is_valid_event event.now) }
-    ensures world { OnOk result (world.new ≡ record { world = step world.old.world event.now; spent = false }) }
-    ensures text { OnOk result (text.new.items ≡ text.old.items ++ step_text world.old.world event.now) }
+    ensures world { OnOk result (world_of world.new ≡ step (world_of world.old) event.now) }
+    ensures unspent { OnOk result (world.new.spent ≡ false) }
+    ensures text { OnOk result (text.new.items ≡ text.old.items ++ step_text (world_of world.old) event.now) }
     ensures err { OnErr result (text.new.items ≡ text.old.items) }
 {
     let length = text.len();
@@ -58,8 +61,8 @@ pub fn step_into(
 /// What each replica's kept values leave, the replicas in order.
 #[tactic(auto, using(crate::proofs::Numbers::numbers_more))]
 pub fn folds(alloc: Global, world: &World) -> Result<Vec<Folded>, NoMemory>
-    ensures { IfOk result (λ folds. folds.items ≡ map (λ p. folded_of p world.now.world.kept)
-        (below world.now.world.cluster.replicas)) }
+    ensures { IfOk result (λ folds. folds.items ≡ map (λ p. folded_of p world.now.kept)
+        (below world.now.cluster.replicas)) }
 {
     let mut folds = Vec::new(alloc);
     for replica in 0..world.cluster().replicas {

@@ -8,6 +8,7 @@ ghost use Rattle.cx_replay.specs.Replay.{summary};
 ghost use Rattle.cx_replay.specs.Streamed.{WritesText};
 ghost use Rattle.cx_trace.specs.Summary.{replica_text, replicas_text, slot_text, slots_text};
 ghost use Rattle.cx_world.specs.Folded.{folded_of};
+ghost use Rattle.cx_world.specs.World.{world_of};
 
 use cx_base::{NoMemory, Status};
 use cx_choice::Chosen;
@@ -75,7 +76,7 @@ fn write_slots<W: Sink>(
 
 // Puts the line of a replica into the emptied text.
 fn replica_line(world: &World, replica: u16, text: &mut Vec<u8>) -> Result<(), NoMemory>
-    ensures { OnOk result (text.new.items ≡ replica_text replica (folded_of replica world.now.world.kept)) }
+    ensures { OnOk result (text.new.items ≡ replica_text replica (folded_of replica world.now.kept)) }
 {
     text.clear();
     let folded = world.folded(replica)?;
@@ -86,7 +87,7 @@ fn replica_line(world: &World, replica: u16, text: &mut Vec<u8>) -> Result<(), N
 // Writes the lines of the replicas, in order.
 fn write_replicas<W: Sink>(world: &World, text: &mut Vec<u8>, out: &mut W) -> Result<(), Status>
     ensures { WritesText (replicas_text 0
-        (map (λ p. folded_of p world.now.world.kept) (below world.now.world.cluster.replicas)))
+        (map (λ p. folded_of p world.now.kept) (below world.now.cluster.replicas)))
         (W.taken out.old) (W.taken out.new) (W.faults out.old) (W.faults out.new) result }
 {
     for replica in 0..world.cluster().replicas {
@@ -100,7 +101,7 @@ fn write_replicas<W: Sink>(world: &World, text: &mut Vec<u8>, out: &mut W) -> Re
 
 /// Writes the summary of a run.
 pub fn write_summary<W: Sink>(alloc: Global, world: &World, out: &mut W) -> Result<(), Status>
-    ensures { WritesText (summary world.now.world) (W.taken out.old) (W.taken out.new)
+    ensures { WritesText (summary (world_of world.now)) (W.taken out.old) (W.taken out.new)
         (W.faults out.old) (W.faults out.new) result }
 {
     let chosen = match world.chosen_prefix() {

@@ -30,8 +30,9 @@ use Rattle.cx_model.specs.Replica.{ReplicaDurable, held, notes_of, pieces, repli
 use Rattle.cx_model.specs.Rules.{Rules, folded}
 use Rattle.cx_model.specs.Turn.{snap_turn, turn, turn_with}
 use Rattle.cx_model.specs.Unbatcher.{unbatcher_rules}
-use Rattle.cx_model.specs.World.{World, Roles, act_of, change, come, durable_part, kept_by, list_after, list_after_kept, run}
-use Rattle.cx_model.specs.World.{step, turn_at, turn_found}
+use Rattle.cx_model.specs.World.{World, act_of, change, come, durable_part, kept_by, list_after, list_after_kept, run}
+use Rattle.cx_model.specs.World.{step}
+use Rattle.cx_model.specs.State.{State, plain_volatile, batcher_volatile, leader_volatile, proxy_volatile, replica_volatile, reader_volatile, replacer_volatile}
 use Rattle.cx_inv_open.specs.Reopened.{stored_as}
 use Rattle.cx_inv_run.specs.Kinds.{IsKeeper, IsWriter}
 use Rattle.cx_inv_run.proofs.KindLaws.{kinds_are_so}
@@ -105,37 +106,19 @@ cut_snapped {D} {V} rules c to me what d (Some v) h = go (rules.snap c to d v) h
     go None h = cc
     go (Some first) h = record { lost = refl; kept_too = h }
 
-cut_found : {D V : Type 0} (rules : Rules D V) (c : Cluster) (to me : RoleId) (what : Written)
-    (kept : List KeptRecord) (act : Cut → Act) → Cuts rules c to me what (durable_part rules to kept) act
-    → (roles : List (Option V)) (o : Option (Option V))
-    → (turn_found rules c to kept (act Whole) roles o).kept ≡ kept_by me (Some what)
-    → CutKeeps me what ((turn_found rules c to kept (act Torn) roles o).kept)
-    ((turn_found rules c to kept (act Kept) roles o).kept)
-cut_found rules c to me what kept act cuts roles None h = cc
-cut_found rules c to me what kept act cuts roles (Some running) h = cuts running h
-
-cut_at : {D V : Type 0} (rules : Rules D V) (c : Cluster) (to me : RoleId) (what : Written) (kept : List KeptRecord)
-    (i : Input) (roles : List (Option V))
-    → (turn_at rules c to kept (Give i Whole) roles).kept ≡ kept_by me (Some what)
-    → CutKeeps me what ((turn_at rules c to kept (Give i Torn) roles).kept)
-    ((turn_at rules c to kept (Give i Kept) roles).kept)
-cut_at rules c to me what kept i roles h =
-    cut_found rules c to me what kept (Give i) (cut_given rules c to me what (durable_part rules to kept) i) roles
-    (slice_get roles to.index) h
-
-cut_act : (c : Cluster) (roles : Roles) (kept : List KeptRecord) (i : Input) (to me : RoleId) (what : Written)
+cut_act : (c : Cluster) (roles : RoleId → State) (kept : List KeptRecord) (i : Input) (to me : RoleId) (what : Written)
     (k : Kind) → (act_of c roles kept (Give i Whole) to k).kept ≡ kept_by me (Some what)
     → CutKeeps me what ((act_of c roles kept (Give i Torn) to k).kept) ((act_of c roles kept (Give i Kept) to k).kept)
 cut_act c roles kept i to me what kind.Client h = cc
-cut_act c roles kept i to me what kind.Batcher h = cut_at batcher_rules c to me what kept i roles.batchers h
-cut_act c roles kept i to me what kind.Leader h = cut_at leader_rules c to me what kept i roles.leaders h
-cut_act c roles kept i to me what kind.Proxy h = cut_at proxy_rules c to me what kept i roles.proxies h
-cut_act c roles kept i to me what kind.Acceptor h = cut_at acceptor_rules c to me what kept i roles.acceptors h
-cut_act c roles kept i to me what kind.Matchmaker h = cut_at matchmaker_rules c to me what kept i roles.matchmakers h
-cut_act c roles kept i to me what kind.Replica h = cut_at replica_rules c to me what kept i roles.replicas h
-cut_act c roles kept i to me what kind.Unbatcher h = cut_at unbatcher_rules c to me what kept i roles.unbatchers h
-cut_act c roles kept i to me what kind.Reader h = cut_at reader_rules c to me what kept i roles.readers h
-cut_act c roles kept i to me what kind.Replacer h = cut_at replacer_rules c to me what kept i roles.replacers h
+cut_act c roles kept i to me what kind.Batcher h = cut_given batcher_rules c to me what (durable_part batcher_rules to kept) i (batcher_volatile (roles to)) h
+cut_act c roles kept i to me what kind.Leader h = cut_given leader_rules c to me what (durable_part leader_rules to kept) i (leader_volatile (roles to)) h
+cut_act c roles kept i to me what kind.Proxy h = cut_given proxy_rules c to me what (durable_part proxy_rules to kept) i (proxy_volatile (roles to)) h
+cut_act c roles kept i to me what kind.Acceptor h = cut_given acceptor_rules c to me what (durable_part acceptor_rules to kept) i (plain_volatile (roles to)) h
+cut_act c roles kept i to me what kind.Matchmaker h = cut_given matchmaker_rules c to me what (durable_part matchmaker_rules to kept) i (plain_volatile (roles to)) h
+cut_act c roles kept i to me what kind.Replica h = cut_given replica_rules c to me what (durable_part replica_rules to kept) i (replica_volatile (roles to)) h
+cut_act c roles kept i to me what kind.Unbatcher h = cut_given unbatcher_rules c to me what (durable_part unbatcher_rules to kept) i (plain_volatile (roles to)) h
+cut_act c roles kept i to me what kind.Reader h = cut_given reader_rules c to me what (durable_part reader_rules to kept) i (reader_volatile (roles to)) h
+cut_act c roles kept i to me what kind.Replacer h = cut_given replacer_rules c to me what (durable_part replacer_rules to kept) i (replacer_volatile (roles to)) h
 
 cut_come : (w : World) (me : RoleId) (what : Written) (o : Option Letter)
     → (come w Whole o).kept ≡ kept_by me (Some what)
@@ -153,9 +136,7 @@ cut_change w (event.Replace x set cut) me what may h =
     cut_act w.cluster w.roles w.kept (input.Order (order.Replace set)) (role kind.Replacer x) me what kind.Replacer h
 cut_change w (event.Snap p cut) me what may h =
     let to = role kind.Replica p in
-    cut_found replica_rules w.cluster to me what w.kept Snap
-    (cut_snapped replica_rules w.cluster to me what (durable_part replica_rules to w.kept)) w.roles.replicas
-    (slice_get w.roles.replicas p) h
+    cut_snapped replica_rules w.cluster to me what (durable_part replica_rules to w.kept) (replica_volatile (w.roles to)) h
 cut_change w (event.Write command batcher) me what may h = absurd may
 cut_change w (event.Read client seq floor reader replica key) me what may h = absurd may
 cut_change w (event.Session client seq floor replica key) me what may h = absurd may

@@ -1,5 +1,5 @@
 -- A hosted role under the name of its seat.
-use Rattle.std.specs.Prelude.{◌≡◌, Bool, false, IsTrue, Option}
+use Rattle.std.specs.Prelude.{◌≡◌, ◌+◌, ℕ, min, Bool, false, IsTrue, Option, None, Some, if◌then◌else◌}
 use Rattle.std.specs.Option.{option_map_or}
 use Rattle.cx_base.specs.declared.role.RoleId.{RoleId}
 use Rattle.cx_model.specs.Leader.{LeaderDurable, LeaderVolatile}
@@ -7,7 +7,9 @@ use Rattle.cx_model.specs.Rules.{Running}
 use Rattle.cx_seat.specs.declared.guest.Guest.{Guest}
 use Rattle.cx_seat.specs.declared.guest.Guest.TheVariants as guest
 use Rattle.cx_seat.specs.Guest.{hosted_of, who}
-use Rattle.cx_course.specs.Hosted.{is_live_role}
+use Rattle.cx_client.specs.Client.{is_finished, left}
+use Rattle.cx_client.specs.Window.{floor_for}
+use Rattle.cx_course.specs.Hosted.{Hosted, ClientAt, is_live_role}
 
 -- the role by this name: what a failed append leaves of a role has no name of its own
 abbrev pub named : {K : Type 0} → RoleId → Guest K → Guest K
@@ -30,3 +32,8 @@ IsNamed me h = IsTrue (is_live_role (hosted_of h)) → me ≡ who h
 abbrev pub is_leader_so : (Running LeaderDurable LeaderVolatile → Bool)
     → Option (Running LeaderDurable LeaderVolatile) → Bool
 is_leader_so test l = option_map_or test l false
+
+-- the number of a client's first request that isn't completed, where there is one: the next one after its floor
+abbrev pub unanswered : Hosted → Option ℕ
+unanswered (ClientAt s) = if is_finished s then None else Some (min (floor_for (left s) + 1) 18446744073709551615)
+unanswered other = None

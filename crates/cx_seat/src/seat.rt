@@ -9,9 +9,9 @@ ghost use Rattle.cx_seat.specs.Guest.{MakesRow, Performs, hosted_of, keeper_of, 
 ghost use Rattle.cx_course.specs.Course.{requests_by};
 ghost use Rattle.cx_course.specs.Hosted.{ClientAt, starting_step, client_given, does, given, is_idle_leader, is_live_role, snapped};
 ghost use Rattle.cx_course.specs.Run.{has_finished, is_client};
-ghost use Rattle.cx_course.specs.Tending.{completed, held_of, is_of_kind, leader_of, standing_of};
+ghost use Rattle.cx_course.specs.Tending.{awaits_votes_at, completed, held_of, is_of_kind, leader_of, standing_of};
 ghost use Rattle.cx_seat.specs.Opening.{holds_record};
-ghost use Rattle.cx_seat.specs.Seat.{is_leader_so};
+ghost use Rattle.cx_seat.specs.Seat.{is_leader_so, unanswered};
 ghost use Rattle.cx_record.specs.Numbers.{has_room};
 
 use crate::Guest;
@@ -100,7 +100,7 @@ fn step_alone<R: Role>(
 }
 
 // A client takes what it is given, and prints the line of a datagram that completes its request.
-#[tactic(auto, using(crate::proofs::ClientName::takes_name))]
+#[tactic(auto, using(crate::proofs::ClientName::takes_name, crate::proofs::ClientName::ticks_name))]
 fn give_client(
     client: &mut Client,
     index: u16,
@@ -204,6 +204,16 @@ fn standing_in(leader: &Leader) -> Standing
     }
 }
 
+// The number of a client's first request that isn't answered, if there is one.
+fn first_left(client: &Client) -> Option<u64>
+    ensures { result ≡ unanswered (ClientAt client.now) }
+{
+    if client.finished() {
+        return None;
+    }
+    Some(client.floor().saturating_add(1))
+}
+
 // The keeper of a hosted role's records, where it has any.
 fn keeper_in<K>(guest: Guest<K>) -> Option<K>
     ensures { result ≡ keeper_of guest }
@@ -275,6 +285,16 @@ impl<K: Renew> Seat<K> {
         }
     }
 
+    /// Whether it is a proxy leader that waits for votes.
+    pub fn awaits_votes(&self) -> bool
+        ensures { result ≡ awaits_votes_at (hosted_of self.now) }
+    {
+        match &self.guest {
+            Guest::Proxy { role } => role.awaits_votes(),
+            _ => false,
+        }
+    }
+
     /// How many slots its replica holds, 0 where it is none.
     pub fn held(&self) -> u64
         ensures { result ≡ held_of (hosted_of self.now) }
@@ -316,6 +336,16 @@ impl<K: Renew> Seat<K> {
         match &self.guest {
             Guest::Client { role } => role.finished(),
             _ => true,
+        }
+    }
+
+    /// The number of its client's first request that isn't answered, where it has not finished.
+    pub fn unanswered(&self) -> Option<u64>
+        ensures { result ≡ unanswered (hosted_of self.now) }
+    {
+        match &self.guest {
+            Guest::Client { role } => first_left(role),
+            _ => None,
         }
     }
 

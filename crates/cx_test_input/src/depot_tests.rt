@@ -205,3 +205,32 @@ fn a_file_that_is_no_journal_is_refused(rt: HostRuntime) -> Result<(), Fail> {
     }
     Ok(())
 }
+
+// What is told of the acceptor's file where it can't be opened.
+fn told(rt: &HostRuntime) -> Result<String, Fail> {
+    let mut depot = FileDepot::new(rt.alloc(), rt, &[acceptor()])?;
+    if depot.trouble(acceptor()).is_some() || depot.open(acceptor(), 0).is_ok() {
+        return Err("the file is opened".into());
+    }
+    let Some(trouble) = depot.trouble(acceptor()) else {
+        return Err("nothing is told".into());
+    };
+    Ok(format!(in rt.alloc(); "{trouble}")?)
+}
+
+#[test]
+fn a_depot_tells_why_a_file_is_not_opened(rt: HostRuntime) -> Result<(), Fail> {
+    fs::create_dir(&rt, NAME)?;
+    let directory = told(&rt)?;
+    fs::remove_dir(&rt, NAME)?;
+    fs::write(&rt, NAME, "text")?;
+    let text = told(&rt)?;
+    fs::remove_file(&rt, NAME)?;
+    assert!(rt;
+        directory.as_str() == "compax-acceptor-65535.journal: Is a directory (os error 21)"
+    );
+    assert!(rt;
+        text.as_str() == "compax-acceptor-65535.journal: by its first bytes it is no journal"
+    );
+    Ok(())
+}

@@ -3,6 +3,7 @@
 use cx_base::{Kind, RoleId};
 use cx_edge::{Front, Link, LinkFailing, LinkRoom, MemLink, TakeEnd, UdpLink};
 use std::alloc::Global;
+use std::net::UdpSocket;
 use std::test::Fail;
 
 const ROOM: LinkRoom = LinkRoom {
@@ -84,5 +85,27 @@ fn a_role_without_a_socket_sends_nothing(rt: HostRuntime) -> Result<(), Fail> {
     assert!(rt; link.bind(leader(), 0).is_ok());
     assert!(rt; link.bind(leader(), 0).is_err());
     assert!(rt; link.send(RoleId::new(Kind::Leader, 1), 1, &[1]).is_err());
+    Ok(())
+}
+
+// What is told of the last call that failed.
+fn told<N>(alloc: Global, link: &UdpLink<N>) -> Result<String, Fail> {
+    let Some(trouble) = link.trouble() else {
+        return Err("nothing is told".into());
+    };
+    Ok(format!(in alloc; "{trouble}")?)
+}
+
+#[test]
+fn a_link_tells_what_the_system_said(rt: HostRuntime) -> Result<(), Fail> {
+    let alloc = rt.alloc();
+    let holder = UdpSocket::bind(&rt, "127.0.0.1:0")?;
+    let port = holder.local_addr()?.port();
+    let mut link = UdpLink::new(alloc, &rt, 2)?;
+    assert!(rt; link.bind(leader(), 0).is_ok());
+    assert!(rt; link.trouble().is_none());
+    assert!(rt; link.bind(RoleId::new(Kind::Leader, 1), port).is_err());
+    let expected = format!(in alloc; "port {port}: Address already in use (os error 98)")?;
+    assert!(rt; told(alloc, &link)? == expected);
     Ok(())
 }

@@ -164,7 +164,8 @@ fn stop_of(kind: Kind, side: u8, stop: Option<Stop>) -> Option<u64> {
     }
 }
 
-fn link(alloc: Global, fronts: &[Front]) -> Result<MemLink, Fail> {
+/// A link in memory, with these datagrams in front of others.
+pub(crate) fn link(alloc: Global, fronts: &[Front]) -> Result<MemLink, Fail> {
     let failing = LinkFailing {
         binds: Vec::new(alloc),
         sends: Vec::new(alloc),

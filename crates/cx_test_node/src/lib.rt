@@ -12,4 +12,6 @@ mod reader_tests;
 #[cfg(test)]
 mod record_tests;
 #[cfg(test)]
+mod remark_tests;
+#[cfg(test)]
 mod renewal_tests;

@@ -1,19 +1,20 @@
--- One more seat that was opened without records.
-use Rattle.std.proofs.Common.{◌≡◌, ◌<◌, ◌+◌, ◌-◌, ℕ, zero, suc, List, [], ◌∷◌, ◌++◌, length, Some, ap, sym, ◌∙◌, subst, refl, inl, inr, ◌⊎◌, arith}
-use Rattle.std.specs.Prelude.{slice_get}
-use Rattle.std.proofs.lemmas.Option.{same_Some}
+-- Seats that are opened without records.
+use Rattle.std.proofs.Common.{◌≡◌, ℕ, zero, suc, true, false, List, [], ◌∷◌, ◌++◌, length, Some, ap, sym, ◌∙◌, subst, refl, inl, inr, ◌⊎◌, arith}
+use Rattle.std.specs.Prelude.{nat_lt, slice_get}
+use Rattle.std.proofs.lemmas.Bool.Decides.{nat_tests}
+use Rattle.std.proofs.lemmas.Option.{same_Some, slice_get_cases}
+use Rattle.cx_base.specs.Cluster.{count_of}
+use Rattle.cx_base.specs.Role.{role}
 use Rattle.cx_base.specs.declared.cluster.Cluster.{Cluster}
 use Rattle.cx_base.specs.declared.role.Kind.{Kind}
+use Rattle.cx_base.specs.declared.role.Kind.TheVariants as kind
+use Rattle.cx_model.specs.Names.{names_role}
+use Rattle.cx_model.specs.Outcome.{either_way}
 use Rattle.cx_model.specs.Rules.{Rules, Running}
-use Rattle.cx_model.specs.World.{fresh_roles}
-use Rattle.cx_world.specs.Seat.{Seat, volatile_of, roles_in, IsSeat, AreSeats}
-
-pub roles_append : {S D V : Type 0} (state : S → Running D V) (seats : List (Seat S)) (seat : Seat S) → roles_in state (seats ++ seat ∷ []) ≡ roles_in state seats ++ volatile_of state seat.role ∷ []
-roles_append state [] seat = refl
-roles_append state (s ∷ seats) seat = ap (λ l. volatile_of state s.role ∷ l) (roles_append state seats seat)
-
-pub fresh_step : {V : Type 0} (v : V) (i count : ℕ) → i < count → fresh_roles v (count - i) ≡ Some v ∷ fresh_roles v (count - (i + 1))
-fresh_step v i count below = let e : count - i ≡ suc (count - (i + 1)) = omega arith in rw e refl
+use Rattle.cx_model.specs.State.{State, Down, state_of, fresh_state}
+use Rattle.cx_model.specs.World.{start}
+use Rattle.cx_world.specs.Seat.{Seat, AreJustOpened, AreSeats}
+use Rattle.cx_world.specs.World.{AreOfKind, state_at, volatile_in}
 
 get_last : {X : Type 0} (xs : List X) (x y : X) (j : ℕ) → slice_get (xs ++ x ∷ []) j ≡ Some y → (slice_get xs j ≡ Some y) ⊎ ((j ≡ length xs) × (x ≡ y))
 get_last [] x y zero e = inr (refl, same_Some x y e)
@@ -24,8 +25,32 @@ get_last (z ∷ xs) x y (suc j) e = elim (get_last xs x y j e) [
   | inr p ↦ inr ((let q = p.0 in omega arith), p.1)
 ]
 
-pub one_more_seat : {S D V : Type 0} (rules : Rules D V) (c : Cluster) (k : Kind) (seats : List (Seat S)) (seat : Seat S) (i : ℕ) → AreSeats rules c k [] seats → length seats ≡ i → IsSeat rules c (record { kind = k; index = i }) [] seat → AreSeats rules c k [] (seats ++ seat ∷ [])
-one_more_seat rules c k seats seat i are size is j there e = elim (get_last seats seat there j e) [
-  | inl p ↦ are j there p
-  | inr p ↦ subst (λ n. IsSeat rules c (record { kind = k; index = n }) [] there) (sym (p.0 ∙ size)) (subst (λ s. IsSeat rules c (record { kind = k; index = i }) [] s) p.1 is)
+-- what holds of each, at its place, and of one more
+pub one_more : {X : Type 0} (P : ℕ → X → Type 0) (xs : List X) (x : X) (i : ℕ) → ((j : ℕ) (y : X) → slice_get xs j ≡ Some y → P j y) → length xs ≡ i → P i x
+    → (j : ℕ) (y : X) → slice_get (xs ++ x ∷ []) j ≡ Some y → P j y
+one_more P xs x i are size is j y e = elim (get_last xs x y j e) [
+  | inl p ↦ are j y p
+  | inr p ↦ subst (λ n. P n y) (sym (p.0 ∙ size)) (subst (λ z. P i z) p.1 is)
 ]
+
+module _ {D V : Type 0} (rules : Rules D V) (make : V → State) (c : Cluster) (k : Kind) (seats : List (Seat (Running D V))) (fresh : fresh_state c k ≡ make (rules.fresh c))
+    (count : length seats ≡ count_of c k) (opened : AreJustOpened rules (λ s. s) c seats) (lists : AreSeats rules c k [] seats) where
+  state : (i : ℕ) → (start c).roles (role k i) ≡ state_at make seats i
+  state i = elim ((slice_get_cases seats i).1) [
+    | inl some ↦
+        let within = some.1 in
+        let below : nat_lt i (count_of c k) ≡ true = subst (λ n. nat_lt i n ≡ true) count (grind (arith, nat_tests)) in
+        rw below (fresh ∙ sym (ap (λ o. state_of make (volatile_in o)) some.2 ∙ ap (state_of make) (opened i some.0 some.2)))
+    | inr past ↦
+        let beyond = past.0 in
+        let above : nat_lt i (count_of c k) ≡ false = subst (λ n. nat_lt i n ≡ false) count (grind (arith, nat_tests)) in
+        rw above (sym (ap (λ o. state_of make (volatile_in o)) past.1))
+  ]
+
+  -- the seats of a kind are those of the world in which nothing has happened
+  pub opened_kind : AreOfKind rules make c k (start c).roles [] seats
+  opened_kind = record { count = count; states = state; lists = lists }
+
+-- a client has no state
+pub no_client : (c : Cluster) (i : ℕ) → (start c).roles (role kind.Client i) ≡ Down
+no_client c i = either_way (λ s. s ≡ Down) (names_role c (role kind.Client i)) Down Down refl refl

@@ -7,26 +7,18 @@ use Rattle.cx_base.specs.Asked.{is_valid_event}
 use Rattle.cx_base.specs.declared.cluster.Cluster.{Cluster}
 use Rattle.cx_base.specs.declared.event.Event.{Event}
 use Rattle.cx_base.specs.declared.event.Happened.{Happened}
-use Rattle.cx_base.specs.declared.role.Kind.TheVariants as kind
 use Rattle.cx_base.specs.declared.role.RoleId.{RoleId}
 use Rattle.cx_base.specs.declared.why.Why.{Why}
-use Rattle.cx_model.specs.Acceptor.{acceptor_rules}
-use Rattle.cx_model.specs.Batcher.{batcher_rules}
-use Rattle.cx_model.specs.Leader.{leader_rules}
-use Rattle.cx_model.specs.Matchmaker.{matchmaker_rules}
-use Rattle.cx_model.specs.Proxy.{proxy_rules}
-use Rattle.cx_model.specs.Reader.{reader_rules}
-use Rattle.cx_model.specs.Replacer.{replacer_rules}
-use Rattle.cx_model.specs.Replica.{replica_rules}
-use Rattle.cx_model.specs.Unbatcher.{unbatcher_rules}
-use Rattle.cx_model.specs.World.{World, Roles, change, step, start, fresh_roles, run, run_from, event_list}
+use Rattle.cx_base.specs.Role.{role}
+use Rattle.cx_model.specs.State.{State}
+use Rattle.cx_model.specs.World.{World, change, step, start, run, run_from, event_list}
 use Rattle.cx_letter.specs.Letter.{Letter}
 use Rattle.cx_letter.specs.declared.input.KeptRecord.{KeptRecord}
 use Rattle.cx_model.specs.Heard.{heard_at}
 use Rattle.cx_world.specs.Heard.{Hears, Raised, heard_below}
-use Rattle.cx_world.specs.Seat.{AreSeats}
-use Rattle.cx_world.specs.World.{SeatLists, IsChange, IsUnspentWorld, are_taken, seat_roles, volatiles}
+use Rattle.cx_world.specs.World.{SeatLists, HasSeats, IsChange, IsUnspentWorld, are_taken, seat_roles}
 use Rattle.cx_world.proofs.Hearing.{change_hears, hears_after, heard_below_after}
+use Rattle.cx_world.proofs.Seats.{states_are}
 
 run_one : (w : World) (es : List Event) (e : Event) → run_from w (es ++ e ∷ []) ≡ step (run_from w es) e
 run_one w [] e = refl
@@ -36,10 +28,10 @@ event_list_one : (hs : List Happened) (h : Happened) → event_list (hs ++ h ∷
 event_list_one [] h = refl
 event_list_one (g ∷ hs) h = ap (λ l. g.event ∷ l) (event_list_one hs h)
 
-abbrev make_world : Cluster → Roles → List Happened → List KeptRecord → List Letter → World
+abbrev make_world : Cluster → (RoleId → State) → List Happened → List KeptRecord → List Letter → World
 make_world c roles events kept sent = record { cluster = c; roles = roles; events = events; kept = kept; sent = sent }
 
-same_world : (c : Cluster) (r s : Roles) (e f : List Happened) (k l : List KeptRecord) (d g : List Letter) → r ≡ s → e ≡ f → k ≡ l → d ≡ g → make_world c r e k d ≡ make_world c s f l g
+same_world : (c : Cluster) (r s : RoleId → State) (e f : List Happened) (k l : List KeptRecord) (d g : List Letter) → r ≡ s → e ≡ f → k ≡ l → d ≡ g → make_world c r e k d ≡ make_world c s f l g
 same_world c r s e f k l d g p q t u = cc
 
 -- one event more is one that the world takes
@@ -48,6 +40,18 @@ all_taken_after old new e u taken valid more =
     ap (λ l. are_taken l) more ∙ ap (λ l. list_all is_valid_event l) (event_list_one old (record { event = e; why = u }))
     ∙ list_all-append is_valid_event (event_list old) (e ∷ []) ∙ rw (taken, valid) refl
 
+-- what follows a change of the seats, as it is written into the histories, is the step
+pub stepped : (w : World) (e : Event) (at : Option RoleId) (u : Why) (r : Option KeptRecord) (seats : SeatLists) (sends : List Letter) → IsChange w (change w e) at u r seats sends
+    → (events : List Happened) (kept : List KeptRecord) (sent : List Letter)
+    → events ≡ w.events ++ record { event = e; why = u } ∷ [] → kept ≡ w.kept ++ option_to_list r → sent ≡ w.sent ++ sends
+    → make_world w.cluster (seat_roles seats) events kept sent ≡ step w e
+unfolding step
+stepped w e at u r seats sends ch events kept sent same_events same_kept same_sent =
+    let to = change w e in
+    same_world w.cluster (seat_roles seats) to.roles events (w.events ++ record { event = e; why = to.why } ∷ []) kept (w.kept ++ to.kept) sent (w.sent ++ to.sends)
+    (sym (states_are w.cluster to.roles (w.kept ++ to.kept) seats ch.seats)) (same_events ∙ ap (λ x. w.events ++ record { event = e; why = x } ∷ []) ch.why)
+    (same_kept ∙ ap (λ l. w.kept ++ l) ch.kept) (same_sent ∙ ap (λ l. w.sent ++ l) ch.sends)
+
 pub held_after : (w : World) (e : Event) (at : Option RoleId) (u : Why) (r : Option KeptRecord) (seats : SeatLists) (sends : List Letter)
     → IsChange w (change w e) at u r seats sends → w ≡ run w.cluster (event_list w.events) → are_taken w.events ≡ true → is_valid_event e ≡ true
     → (numbers raised : List ℕ) → Hears numbers w.sent w.events → list_all (heard_below (length w.sent)) w.events ≡ true
@@ -55,43 +59,23 @@ pub held_after : (w : World) (e : Event) (at : Option RoleId) (u : Why) (r : Opt
     → (events : List Happened) (kept : List KeptRecord) (sent out : List Letter)
     → events ≡ w.events ++ record { event = e; why = u } ∷ [] → kept ≡ w.kept ++ option_to_list r → sent ≡ w.sent ++ sends → out ≡ []
     → IsUnspentWorld (make_world w.cluster (seat_roles seats) events kept sent) seats raised out
-unfolding step
 held_after w e at u r seats sends ch ran taken valid numbers raised hears all told events kept sent out same_events same_kept same_sent empty =
     let to = change w e in
     let all_kept : kept ≡ w.kept ++ to.kept = same_kept ∙ ap (λ l. w.kept ++ l) ch.kept in
-    let stepped : make_world w.cluster (seat_roles seats) events kept sent ≡ step w e =
-    same_world w.cluster (seat_roles seats) to.roles events (w.events ++ record { event = e; why = to.why } ∷ []) kept (w.kept ++ to.kept) sent (w.sent ++ to.sends)
-    (sym ch.seats.roles) (same_events ∙ ap (λ x. w.events ++ record { event = e; why = x } ∷ []) ch.why) all_kept (same_sent ∙ ap (λ l. w.sent ++ l) ch.sends) in
     let listed : event_list events ≡ event_list w.events ++ e ∷ [] = ap (λ l. event_list l) same_events ∙ event_list_one w.events (record { event = e; why = u }) in
     let one : heard_below (length w.sent) (record { event = e; why = u }) ≡ true = change_hears w e u ch.why in
     record {
       out = empty;
-      seats = record {
-        roles = refl;
-        batchers = subst (λ l. AreSeats batcher_rules w.cluster kind.Batcher l seats.batchers) (sym all_kept) ch.seats.batchers;
-        leaders = subst (λ l. AreSeats leader_rules w.cluster kind.Leader l seats.leaders) (sym all_kept) ch.seats.leaders;
-        proxies = subst (λ l. AreSeats proxy_rules w.cluster kind.Proxy l seats.proxies) (sym all_kept) ch.seats.proxies;
-        acceptors = subst (λ l. AreSeats acceptor_rules w.cluster kind.Acceptor l seats.acceptors) (sym all_kept) ch.seats.acceptors;
-        matchmakers = subst (λ l. AreSeats matchmaker_rules w.cluster kind.Matchmaker l seats.matchmakers) (sym all_kept) ch.seats.matchmakers;
-        replicas = subst (λ l. AreSeats replica_rules w.cluster kind.Replica l seats.replicas) (sym all_kept) ch.seats.replicas;
-        unbatchers = subst (λ l. AreSeats unbatcher_rules w.cluster kind.Unbatcher l seats.unbatchers) (sym all_kept) ch.seats.unbatchers;
-        readers = subst (λ l. AreSeats reader_rules w.cluster kind.Reader l seats.readers) (sym all_kept) ch.seats.readers;
-        replacers = subst (λ l. AreSeats replacer_rules w.cluster kind.Replacer l seats.replacers) (sym all_kept) ch.seats.replacers;
-      };
+      seats = subst (λ l. HasSeats w.cluster (seat_roles seats) l seats) (sym all_kept)
+          (subst (λ r. HasSeats w.cluster r (w.kept ++ to.kept) seats) (states_are w.cluster to.roles (w.kept ++ to.kept) seats ch.seats) ch.seats);
       hears = subst (λ l. Hears raised l events) (sym same_sent) (subst (λ l. Hears raised (w.sent ++ sends) l) (sym same_events)
           (hears_after numbers raised w.sent sends w.events (record { event = e; why = u }) hears all one told));
       hears_sent = subst (λ l. list_all (heard_below (length l)) events ≡ true) (sym same_sent) (subst (λ l. list_all (heard_below (length (w.sent ++ sends))) l ≡ true) (sym same_events)
           (heard_below_after w.sent sends w.events (record { event = e; why = u }) all one));
-      ran = stepped ∙ ap (λ x. step x e) ran ∙ sym (run_one _ (event_list w.events) e) ∙ ap (λ l. run w.cluster l) (sym listed);
+      ran = stepped w e at u r seats sends ch events kept sent same_events same_kept same_sent ∙ ap (λ x. step x e) ran ∙ sym (run_one _ (event_list w.events) e) ∙ ap (λ l. run w.cluster l) (sym listed);
       taken = all_taken_after w.events events e u taken valid same_events;
     }
 
 -- seats that were just opened are those of the world in which nothing has happened
-pub same_start : (c : Cluster) (seats : SeatLists)
-    → volatiles seats.batchers ≡ fresh_roles (batcher_rules.fresh c) c.batchers → volatiles seats.leaders ≡ fresh_roles (leader_rules.fresh c) c.leaders
-    → volatiles seats.proxies ≡ fresh_roles (proxy_rules.fresh c) c.proxies → volatiles seats.acceptors ≡ fresh_roles (acceptor_rules.fresh c) c.acceptors
-    → volatiles seats.matchmakers ≡ fresh_roles (matchmaker_rules.fresh c) c.pool → volatiles seats.replicas ≡ fresh_roles (replica_rules.fresh c) c.replicas
-    → volatiles seats.unbatchers ≡ fresh_roles (unbatcher_rules.fresh c) c.unbatchers → volatiles seats.readers ≡ fresh_roles (reader_rules.fresh c) c.readers
-    → volatiles seats.replacers ≡ fresh_roles (replacer_rules.fresh c) c.replacers
-    → make_world c (seat_roles seats) [] [] [] ≡ start c
-same_start c seats p q r s t u v x y = rw (p, q, r, s, t, u, v, x, y) refl
+pub same_start : (c : Cluster) (seats : SeatLists) → HasSeats c (start c).roles [] seats → make_world c (seat_roles seats) [] [] [] ≡ start c
+same_start c seats has = same_world c (seat_roles seats) (start c).roles [] [] [] [] [] [] (sym (states_are c (start c).roles [] seats has)) refl refl refl

@@ -1,5 +1,5 @@
 -- A role with its records, running or not.
-use Rattle.std.specs.Prelude.{◌≡◌, ℕ, Bool, true, false, IsTrue, List, [], ◌∷◌, Option, None, Some, slice_get, slice_index_or, slice_set}
+use Rattle.std.specs.Prelude.{◌≡◌, ℕ, Bool, true, false, IsTrue, List, [], Option, None, Some, slice_get, slice_index_or, slice_set}
 use Rattle.std.specs.Option.{ForSome}
 use Rattle.cx_base.specs.declared.cluster.Cluster.{Cluster}
 use Rattle.cx_letter.specs.Letter.{Letter}
@@ -101,11 +101,6 @@ TurnsFound rules state act i (Some seat) old new w r sent =
 abbrev pub TurnsAt : {S D V : Type 0} → Rules D V → (S → Running D V) → Act → ℕ → List (Seat S) → List (Seat S) → Why → Option Written → List Letter → Type 0
 TurnsAt rules state act i old new w r sent = TurnsFound rules state act i (slice_get old i) old new w r sent
 
--- the volatile parts of the roles
-abbrev pub roles_in : {S D V : Type 0} → (S → Running D V) → List (Seat S) → List (Option V)
-roles_in state [] = []
-roles_in state (seat ∷ seats) = volatile_of state seat.role ∷ roles_in state seats
-
 -- a seat of this role, with its list by the history
 pub record IsSeat {S D V : Type 0} (rules : Rules D V) (c : Cluster) (who : RoleId) (kept : List KeptRecord) (seat : Seat S) : Type 0 where
   pub cluster : seat.cluster ≡ c
@@ -114,3 +109,7 @@ pub record IsSeat {S D V : Type 0} (rules : Rules D V) (c : Cluster) (who : Role
 
 abbrev pub AreSeats : {S D V : Type 0} → Rules D V → Cluster → Kind → List KeptRecord → List (Seat S) → Type 0
 AreSeats {S} rules c k kept seats = (i : ℕ) (seat : Seat S) → slice_get seats i ≡ Some seat → IsSeat rules c (record { kind = k; index = i }) kept seat
+
+-- each of them runs and was just opened
+abbrev pub AreJustOpened : {S D V : Type 0} → Rules D V → (S → Running D V) → Cluster → List (Seat S) → Type 0
+AreJustOpened {S} rules state c seats = (i : ℕ) (seat : Seat S) → slice_get seats i ≡ Some seat → volatile_of state seat.role ≡ Some (rules.fresh c)

@@ -1,10 +1,14 @@
--- The world as contracts see it: the model's world, and whether a step was cut off.
-use Rattle.std.specs.Prelude.{◌≡◌, ℕ, Bool, true, List, [], ◌++◌, Option, length, option_to_list}
+-- The world as contracts see it: its seats in lists, since a value can have no function, its histories, and whether a step was cut off. `world_of` is
+-- the model's world.
+use Rattle.std.specs.Prelude.{◌≡◌, ℕ, Bool, true, List, [], ◌++◌, Option, None, Some, length, slice_get, option_to_list}
 use Rattle.std.specs.List.{list_all}
 use Rattle.cx_base.specs.Asked.{is_valid_event}
+use Rattle.cx_base.specs.Cluster.{count_of}
+use Rattle.cx_base.specs.Role.{role}
 use Rattle.cx_base.specs.declared.cluster.Cluster.{Cluster}
 use Rattle.cx_base.specs.declared.event.Event.{Event}
 use Rattle.cx_base.specs.declared.event.Happened.{Happened}
+use Rattle.cx_base.specs.declared.role.Kind.{Kind}
 use Rattle.cx_base.specs.declared.role.Kind.TheVariants as kind
 use Rattle.cx_base.specs.declared.role.RoleId.{RoleId}
 use Rattle.cx_base.specs.declared.why.Why.{Why}
@@ -17,21 +21,18 @@ use Rattle.cx_model.specs.Proxy.{ProxyVolatile, proxy_rules}
 use Rattle.cx_model.specs.Reader.{ReaderDurable, ReaderVolatile, reader_rules}
 use Rattle.cx_model.specs.Replacer.{ReplacerDurable, ReplacerVolatile, replacer_rules}
 use Rattle.cx_model.specs.Replica.{ReplicaDurable, ReplicaVolatile, replica_rules}
-use Rattle.cx_model.specs.Rules.{Running}
+use Rattle.cx_model.specs.Rules.{Rules, Running}
+use Rattle.cx_model.specs.State.{State, Down, BatcherIn, LeaderIn, ProxyIn, ReplicaIn, ReaderIn, ReplacerIn, plain, state_of}
 use Rattle.cx_model.specs.Unbatcher.{unbatcher_rules}
 use Rattle.cx_history.specs.Begins.{IsPrefix}
-use Rattle.cx_model.specs.World.{World, Roles, Change, change, step, run, event_list}
+use Rattle.cx_model.specs.World.{World, Change, change, step, run, event_list}
 use Rattle.cx_letter.specs.Letter.{Letter}
 use Rattle.cx_letter.specs.declared.input.KeptRecord.{KeptRecord}
 use Rattle.cx_trace.specs.declared.effect.Effect.{Effect}
 use Rattle.cx_world.specs.Heard.{Hears, heard_below}
-use Rattle.cx_world.specs.Seat.{Seat, AreSeats, roles_in}
+use Rattle.cx_world.specs.Seat.{Seat, AreSeats, volatile_of}
 use Rattle.cx_world.specs.declared.turned.Changed.{Changed}
 use Rattle.cx_world.specs.declared.change.Seats.{Seats}
-
-pub record WorldState : Type 0 where
-  pub world : World
-  pub spent : Bool
 
 -- each history begins with that from before
 pub record BeginWith (old new : World) : Type 0 where
@@ -49,9 +50,6 @@ effect_of w e =
       first = length w.sent;
       end = length (step w e).sent;
     }
-
-abbrev pub volatiles : {D V : Type 0} → List (Seat (Running D V)) → List (Option V)
-volatiles seats = roles_in (λ s. s) seats
 
 -- the seats, by kind
 pub record SeatLists : Type 0 where
@@ -79,32 +77,63 @@ lists_of seats =
       replacers = seats.replacers.items;
     }
 
-abbrev pub seat_roles : SeatLists → Roles
-seat_roles seats =
-    record {
-      batchers = volatiles seats.batchers;
-      leaders = volatiles seats.leaders;
-      proxies = volatiles seats.proxies;
-      acceptors = volatiles seats.acceptors;
-      matchmakers = volatiles seats.matchmakers;
-      replicas = volatiles seats.replicas;
-      unbatchers = volatiles seats.unbatchers;
-      readers = volatiles seats.readers;
-      replacers = volatiles seats.replacers;
-    }
+-- the volatile part of the role at a seat, if there is one and it runs
+abbrev pub volatile_in : {D V : Type 0} → Option (Seat (Running D V)) → Option V
+volatile_in None = None
+volatile_in (Some seat) = volatile_of (λ s. s) seat.role
 
--- the seats of a world: the roles that run, and each role's list by the history of changes
-pub record HasSeats (c : Cluster) (r : Roles) (kept : List KeptRecord) (seats : SeatLists) : Type 0 where
-  pub roles : r ≡ seat_roles seats
-  pub batchers : AreSeats batcher_rules c kind.Batcher kept seats.batchers
-  pub leaders : AreSeats leader_rules c kind.Leader kept seats.leaders
-  pub proxies : AreSeats proxy_rules c kind.Proxy kept seats.proxies
-  pub acceptors : AreSeats acceptor_rules c kind.Acceptor kept seats.acceptors
-  pub matchmakers : AreSeats matchmaker_rules c kind.Matchmaker kept seats.matchmakers
-  pub replicas : AreSeats replica_rules c kind.Replica kept seats.replicas
-  pub unbatchers : AreSeats unbatcher_rules c kind.Unbatcher kept seats.unbatchers
-  pub readers : AreSeats reader_rules c kind.Reader kept seats.readers
-  pub replacers : AreSeats replacer_rules c kind.Replacer kept seats.replacers
+abbrev pub state_at : {D V : Type 0} → (V → State) → List (Seat (Running D V)) → ℕ → State
+state_at make seats i = state_of make (volatile_in (slice_get seats i))
+
+abbrev pub kind_state : SeatLists → ℕ → Kind → State
+kind_state seats i kind.Client = Down
+kind_state seats i kind.Batcher = state_at BatcherIn seats.batchers i
+kind_state seats i kind.Leader = state_at LeaderIn seats.leaders i
+kind_state seats i kind.Proxy = state_at ProxyIn seats.proxies i
+kind_state seats i kind.Acceptor = state_at plain seats.acceptors i
+kind_state seats i kind.Matchmaker = state_at plain seats.matchmakers i
+kind_state seats i kind.Replica = state_at ReplicaIn seats.replicas i
+kind_state seats i kind.Unbatcher = state_at plain seats.unbatchers i
+kind_state seats i kind.Reader = state_at ReaderIn seats.readers i
+kind_state seats i kind.Replacer = state_at ReplacerIn seats.replacers i
+
+-- the states of all roles, by name
+abbrev pub seat_roles : SeatLists → RoleId → State
+seat_roles seats a = kind_state seats a.index a.kind
+
+pub record WorldState : Type 0 where
+  pub cluster : Cluster
+  pub seats : SeatLists
+  pub events : List Happened
+  pub kept : List KeptRecord
+  pub sent : List Letter
+  pub spent : Bool
+
+-- the world of the model
+abbrev pub world_of : WorldState → World
+world_of s = record { cluster = s.cluster; roles = seat_roles s.seats; events = s.events; kept = s.kept; sent = s.sent }
+
+-- a seat for each name of a kind, with the state of its role, and its list by the history of changes; a client has none
+pub record AreOfKind {D V : Type 0} (rules : Rules D V) (make : V → State) (c : Cluster) (k : Kind) (roles : RoleId → State) (kept : List KeptRecord) (seats : List (Seat (Running D V))) : Type 0 where
+  pub count : length seats ≡ count_of c k
+  pub states : (i : ℕ) → roles (role k i) ≡ state_at make seats i
+  pub lists : AreSeats rules c k kept seats
+
+abbrev pub HasKind : Cluster → (RoleId → State) → List KeptRecord → SeatLists → Kind → Type 0
+HasKind c roles kept seats kind.Client = (i : ℕ) → roles (role kind.Client i) ≡ Down
+HasKind c roles kept seats kind.Batcher = AreOfKind batcher_rules BatcherIn c kind.Batcher roles kept seats.batchers
+HasKind c roles kept seats kind.Leader = AreOfKind leader_rules LeaderIn c kind.Leader roles kept seats.leaders
+HasKind c roles kept seats kind.Proxy = AreOfKind proxy_rules ProxyIn c kind.Proxy roles kept seats.proxies
+HasKind c roles kept seats kind.Acceptor = AreOfKind acceptor_rules plain c kind.Acceptor roles kept seats.acceptors
+HasKind c roles kept seats kind.Matchmaker = AreOfKind matchmaker_rules plain c kind.Matchmaker roles kept seats.matchmakers
+HasKind c roles kept seats kind.Replica = AreOfKind replica_rules ReplicaIn c kind.Replica roles kept seats.replicas
+HasKind c roles kept seats kind.Unbatcher = AreOfKind unbatcher_rules plain c kind.Unbatcher roles kept seats.unbatchers
+HasKind c roles kept seats kind.Reader = AreOfKind reader_rules ReaderIn c kind.Reader roles kept seats.readers
+HasKind c roles kept seats kind.Replacer = AreOfKind replacer_rules ReplacerIn c kind.Replacer roles kept seats.replacers
+
+-- the seats of a world
+pub record HasSeats (c : Cluster) (roles : RoleId → State) (kept : List KeptRecord) (seats : SeatLists) : Type 0 where
+  pub each : (k : Kind) → HasKind c roles kept seats k
 
 -- a change was made to the seats
 pub record IsChange (w : World) (ch : Change) (who : Option RoleId) (u : Why) (r : Option KeptRecord) (new : SeatLists) (sent : List Letter) : Type 0 where

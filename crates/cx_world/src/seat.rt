@@ -1,17 +1,16 @@
 //! A role with its keeper, running or not.
 
-ghost use Rattle.std.specs.Prelude.{◌≡◌, [], false, IfOk, IsErrOf, IsTrue, None, OnOk, Some, true};
+ghost use Rattle.std.specs.Prelude.{◌≡◌, [], false, IfOk, IsErrOf, IsTrue, length, None, OnOk, Some, true};
 ghost use Rattle.cx_base.specs.Cluster.{count_of};
 ghost use Rattle.cx_model.specs.Replica.{replica_rules};
 ghost use Rattle.cx_model.specs.Rules.{Rules, Running, opened, outcome_of, refused};
-ghost use Rattle.cx_model.specs.World.{fresh_roles};
 ghost use Rattle.cx_letter.specs.declared.input.Act.TheVariants.{Give, Snap, Stop, Wake};
 ghost use Rattle.cx_keep.specs.declared.keeper.KeepFault.TheVariants as fault;
 ghost use Rattle.cx_keep.specs.Keeper.{all_fit};
 ghost use Rattle.cx_role.specs.Role.{IsStep, MayKeep};
 ghost use Rattle.cx_role.specs.Wake.{refused_behind, reopened};
 ghost use Rattle.cx_world.specs.LastKeeper.{last_append_gives, list_kept, tells_nothing};
-ghost use Rattle.cx_world.specs.Seat.{AreSeats, IsRoleOfRules, IsTurned, is_snap, roles_in, Seat, seat_turn, StandsByStore, TurnsAt, volatile_of, why_of_cut};
+ghost use Rattle.cx_world.specs.Seat.{AreJustOpened, AreSeats, IsRoleOfRules, IsTurned, is_snap, Seat, seat_turn, StandsByStore, TurnsAt, volatile_of, why_of_cut};
 
 use crate::last_keeper::LastKeeper;
 use crate::turned::Turned;
@@ -322,8 +321,8 @@ pub fn open_all<R: Role + Drop>(
     requires kind { kind ≡ R.rules.kind }
     requires count { count ≡ count_of cluster.now kind }
     requires whole { R.rules.whole R.rules.empty ≡ true }
-    ensures roles { IfOk result (λ seats. roles_in R.state seats.items
-        ≡ fresh_roles (R.rules.fresh cluster.now) count) }
+    ensures count { IfOk result (λ seats. length seats.items ≡ count) }
+    ensures fresh { IfOk result (λ seats. AreJustOpened R.rules R.state cluster.now seats.items) }
     ensures seats { IfOk result (λ seats. AreSeats R.rules cluster.now kind [] seats.items) }
 {
     let mut seats = Vec::with_capacity(alloc, count as usize)?;

@@ -9,7 +9,7 @@ ghost use Rattle.cx_world.specs.Counts.{counts_of};
 ghost use Rattle.cx_world.specs.Folded.{folded_of};
 ghost use Rattle.cx_history.specs.Begins.{IsPrefix};
 ghost use Rattle.cx_history.specs.Kept.{all_changes_fit, changes_kept};
-ghost use Rattle.cx_world.specs.World.{BeginWith, are_taken, effect_of};
+ghost use Rattle.cx_world.specs.World.{BeginWith, HasSeats, are_taken, effect_of, lists_of, world_of};
 
 use crate::change::{Seats, change};
 use crate::counts::{Counts, count};
@@ -50,13 +50,11 @@ impl Model for World {
     ghost use Rattle.cx_world.specs.World.{IsUnspentWorld, seat_roles, lists_of};
 
     ghost view = { λ w. record {
-      world = record {
-        cluster = w.cluster;
-        roles = seat_roles (lists_of w.seats);
-        events = w.events;
-        kept = w.kept;
-        sent = w.sent;
-      };
+      cluster = w.cluster;
+      seats = lists_of w.seats;
+      events = w.events;
+      kept = w.kept;
+      sent = w.sent;
       spent = w.spent;
     } };
 
@@ -68,6 +66,23 @@ impl Model for World {
           kept = w.kept;
           sent = w.sent;
         }) (lists_of w.seats) w.heard w.out.list };
+}
+
+// All roles running, with no records.
+fn open_seats(alloc: Global, cluster: &Cluster) -> Result<Seats, NoMemory>
+    ensures { IfOk result (λ seats. HasSeats cluster.now (start cluster.now).roles [] (lists_of seats)) }
+{
+    Ok(Seats {
+        batchers: open_all(alloc, cluster, Kind::Batcher, cluster.batchers)?,
+        leaders: open_all(alloc, cluster, Kind::Leader, cluster.leaders)?,
+        proxies: open_all(alloc, cluster, Kind::Proxy, cluster.proxies)?,
+        acceptors: open_all(alloc, cluster, Kind::Acceptor, cluster.acceptors)?,
+        matchmakers: open_all(alloc, cluster, Kind::Matchmaker, cluster.pool)?,
+        replicas: open_all(alloc, cluster, Kind::Replica, cluster.replicas)?,
+        unbatchers: open_all(alloc, cluster, Kind::Unbatcher, cluster.unbatchers)?,
+        readers: open_all(alloc, cluster, Kind::Reader, cluster.readers)?,
+        replacers: open_all(alloc, cluster, Kind::Replacer, cluster.replacers)?,
+    })
 }
 
 // Notes the change of a store, where there was one.
@@ -111,19 +126,10 @@ fn note(
 impl World {
     /// All roles run, with no records, and nothing has happened.
     pub fn new(alloc: Global, cluster: Cluster) -> Result<World, NoMemory>
-        ensures { IfOk result (λ world. world ≡ record { world = start cluster; spent = false }) }
+        ensures world { IfOk result (λ world. world_of world ≡ start cluster) }
+        ensures fresh { IfOk result (λ world. world.spent ≡ false) }
     {
-        let seats = Seats {
-            batchers: open_all(alloc, &cluster, Kind::Batcher, cluster.batchers)?,
-            leaders: open_all(alloc, &cluster, Kind::Leader, cluster.leaders)?,
-            proxies: open_all(alloc, &cluster, Kind::Proxy, cluster.proxies)?,
-            acceptors: open_all(alloc, &cluster, Kind::Acceptor, cluster.acceptors)?,
-            matchmakers: open_all(alloc, &cluster, Kind::Matchmaker, cluster.pool)?,
-            replicas: open_all(alloc, &cluster, Kind::Replica, cluster.replicas)?,
-            unbatchers: open_all(alloc, &cluster, Kind::Unbatcher, cluster.unbatchers)?,
-            readers: open_all(alloc, &cluster, Kind::Reader, cluster.readers)?,
-            replacers: open_all(alloc, &cluster, Kind::Replacer, cluster.replacers)?,
-        };
+        let seats = open_seats(alloc, &cluster)?;
         Ok(World {
             alloc,
             cluster,
@@ -143,12 +149,13 @@ impl World {
     pub fn step(&mut self, event: &Event) -> Result<Effect, NoMemory>
         requires fresh { self.old.spent ≡ false }
         requires taken { IsTrue (is_valid_event event.now) }
-        ensures ok { OnOk result (self.new ≡ record { world = step self.old.world event.now; spent = false }) }
-        ensures effect { IfOk result (λ effect. effect ≡ effect_of self.old.world event.now) }
-        ensures lawful { OnOk result (IsLawful self.new.world.cluster (event_list self.new.world.events)) }
-        ensures all_taken { OnOk result (are_taken self.new.world.events ≡ true) }
+        ensures ok { OnOk result (world_of self.new ≡ step (world_of self.old) event.now) }
+        ensures unspent { OnOk result (self.new.spent ≡ false) }
+        ensures effect { IfOk result (λ effect. effect ≡ effect_of (world_of self.old) event.now) }
+        ensures lawful { OnOk result (IsLawful self.new.cluster (event_list self.new.events)) }
+        ensures all_taken { OnOk result (are_taken self.new.events ≡ true) }
         ensures spent { OnErr result (self.new.spent ≡ true) }
-        ensures begun { OnErr result (BeginWith self.old.world self.new.world) }
+        ensures begun { OnErr result (BeginWith (world_of self.old) (world_of self.new)) }
     {
         self.spent = true;
         let first = self.sent.len();
@@ -189,21 +196,21 @@ impl World {
 
     /// The cluster.
     pub fn cluster(&self) -> &Cluster
-        ensures { result.now ≡ self.now.world.cluster }
+        ensures { result.now ≡ self.now.cluster }
     {
         &self.cluster
     }
 
     /// The datagrams that were sent, numbered from 0.
     pub fn sent(&self) -> &Sent
-        ensures { result.now ≡ self.now.world.sent }
+        ensures { result.now ≡ self.now.sent }
     {
         &self.sent
     }
 
     /// The datagram of this number, None exactly where it wasn't sent.
     pub fn datagram(&self, number: u64) -> Result<Option<Datagram>, NoMemory>
-        ensures { IfOk result (λ datagram. datagram ≡ slice_get self.now.world.sent number) }
+        ensures { IfOk result (λ datagram. datagram ≡ slice_get self.now.sent number) }
     {
         self.sent.get(number)
     }
@@ -211,23 +218,23 @@ impl World {
     /// The values chosen in slot 0, 1 and so on, up to the first slot without one; from the kept votes and rounds alone. In a world
     /// that isn't spent it is the one command list.
     pub fn chosen_prefix(&self) -> Result<Chosen<'_>, NoMemory>
-        ensures prefix { IfOk result (λ values. values ≡ chosen_prefix self.now.world.kept) }
+        ensures prefix { IfOk result (λ values. values ≡ chosen_prefix self.now.kept) }
         ensures agreed { self.now.spent ≡ false
-            → IfOk result (λ values. IsCommandList self.now.world.cluster self.now.world.kept values) }
+            → IfOk result (λ values. IsCommandList self.now.cluster self.now.kept values) }
     {
         chosen_prefix(self.alloc, &self.kept)
     }
 
     /// How many values a replica kept, and the map that they leave.
     pub fn folded(&self, replica: u16) -> Result<Folded, NoMemory>
-        ensures { IfOk result (λ folded. folded ≡ folded_of replica self.now.world.kept) }
+        ensures { IfOk result (λ folded. folded ≡ folded_of replica self.now.kept) }
     {
         folded(self.alloc, &self.kept, replica)
     }
 
     /// How much has happened.
     pub fn counts(&self) -> Counts
-        ensures { result ≡ counts_of self.now.world }
+        ensures { result ≡ counts_of (world_of self.now) }
     {
         count(&self.events, &self.kept, &self.sent)
     }
@@ -236,9 +243,9 @@ impl World {
     /// holds of it.
     pub fn law(&self)
         requires { self.now.spent ≡ false }
-        ensures run { self.now.world ≡ run self.now.world.cluster (event_list self.now.world.events) }
-        ensures lawful { IsLawful self.now.world.cluster (event_list self.now.world.events) }
-        ensures all_taken { are_taken self.now.world.events ≡ true }
+        ensures run { world_of self.now ≡ run self.now.cluster (event_list self.now.events) }
+        ensures lawful { IsLawful self.now.cluster (event_list self.now.events) }
+        ensures all_taken { are_taken self.now.events ≡ true }
     {
         let _ = &self.spent;
     }

@@ -1,4 +1,4 @@
-use Rattle.cx_client.proofs.Steps.{answer_completes, takes_none, takes_one, ticks_same}
+use Rattle.cx_client.proofs.Steps.{answer_completes, takes_none, takes_one, ticks_none, ticks_same}
 use Rattle.cx_client.proofs.law.completes_once.Goals as goal
 
 pub returns-clause-one : goal.returns-clause-one
@@ -11,4 +11,7 @@ pub returns-clause-answered : goal.returns-clause-answered
 returns-clause-answered c = answer_completes
 
 pub returns-clause-ticks : goal.returns-clause-ticks
-returns-clause-ticks c = ticks_same
+returns-clause-ticks c = ticks_none
+
+pub returns-clause-same : goal.returns-clause-same
+returns-clause-same c = ticks_same

@@ -1,17 +1,10 @@
-use Rattle.std.proofs.Common.{◌≡◌, ◌+◌, Bool, arith, refl, sym, ap, ◌∙◌, subst}
+use Rattle.std.proofs.Common.{◌≡◌, ◌+◌, arith, refl, sym, ◌∙◌, subst}
 use Rattle.std.specs.Str.Lines.{strip_carriage_return}
 use Rattle.cx_base.specs.Faults.{Rises}
-use Rattle.cx_model.specs.World.{World, start}
-use Rattle.cx_world.specs.World.{WorldState}
+use Rattle.cx_model.specs.World.{start}
 use Rattle.cx_replay.specs.Streamed.{Spells, WritesFront}
 use Rattle.cx_replay.proofs.Along.{Along, begins_along, goes_along, writes_along, fails_along, ends_along, ends_last, stops_at_line, stops_at_last, stops_long, stops_failed}
 use Rattle.cx_replay.proofs.running.run_each.Goals as goal
-
-abbrev world_of : WorldState → World
-world_of s = s.world
-
-abbrev spent_of : WorldState → Bool
-spent_of s = s.spent
 
 pub loop-lines-init : goal.loop-lines-init
 loop-lines-init g c =
@@ -22,9 +15,9 @@ loop-lines-init g c =
     let writes = g.W.Sink.faults c.args.out.now in
     record {
       along = λ left b.
-          subst (λ w. Along cluster left input buffered 0 w out out c.args.text.now.items writes writes) (sym (ap world_of c.requires.fresh))
+          subst (λ w. Along cluster left input buffered 0 w out out c.args.text.now.items writes writes) (sym c.requires.begun)
           (subst (λ l. Along cluster left input buffered 0 (start cluster) out out l writes writes) (sym c.requires.none) (begins_along cluster left input buffered out writes b));
-      running = ap spent_of c.requires.fresh;
+      running = c.requires.fresh;
       count = omega arith;
       read = refl;
     }
@@ -40,7 +33,7 @@ returns-then-not-write_printed-clause-runs g c = λ left b.
     let ran = c.in_default.ensures in
     let gives = c.in-Line.ensures.gives in
     let on = goes_along _ _ _ _ _ _ _ _ _ _ _ (c.loop-lines.invariant.along left b) _ c.next.new.self.buffered gives.part ran.event _ _ gives.free gives.hands
-    (subst (λ l. Spells c.args.cluster.now (c.loop-lines.number + 1) l ran.event) (c.text-next.ensures ∙ gives.text) ran.spells) (ap world_of ran.world) ran.printed in (
+    (subst (λ l. Spells c.args.cluster.now (c.loop-lines.number + 1) l ran.event) (c.text-next.ensures ∙ gives.text) ran.spells) ran.world ran.printed in (
       subst (λ k. Rises k (g.W.Sink.faults c.write_printed.new.out)) on.written.still (c.write_printed.ensures.cause c.if-not-write_printed.true),
       fails_along _ _ _ _ _ _ _ _ _ _ _ on (g.W.Sink.taken c.write_printed.new.out)
           (subst (WritesFront c.run_line.new.text.items c.write_printed.new.text.items (g.W.Sink.taken c.loop-lines.out) (g.W.Sink.taken c.write_printed.new.out)) c.if-not-write_printed.true c.write_printed.ensures.front),
@@ -54,9 +47,9 @@ loop-lines-preserved g c =
     record {
       along = λ left b.
           let on = goes_along _ _ _ _ _ _ _ _ _ _ _ (c.loop-lines.invariant.along left b) _ c.next.new.self.buffered gives.part ran.event _ _ gives.free gives.hands
-          (subst (λ l. Spells c.args.cluster.now (c.loop-lines.number + 1) l ran.event) (c.text-next.ensures ∙ gives.text) ran.spells) (ap world_of ran.world) ran.printed in
+          (subst (λ l. Spells c.args.cluster.now (c.loop-lines.number + 1) l ran.event) (c.text-next.ensures ∙ gives.text) ran.spells) ran.world ran.printed in
           writes_along _ _ _ _ _ _ _ _ _ _ _ on c.write_printed.new.text.items (g.W.Sink.taken c.write_printed.new.out) (g.W.Sink.faults c.write_printed.new.out) front (c.write_printed.ensures.still c.if-not-write_printed.false);
-      running = ap spent_of ran.world;
+      running = ran.unspent;
       count = ran.counted;
       read = c.in-Line.ensures.still (λ e. cc) ∙ c.loop-lines.invariant.read;
     }
@@ -75,7 +68,7 @@ returns-in-Last-clause-runs g c = λ left b.
     let ran = c.in_default-run_line.ensures in
     let spells : Spells c.args.cluster.now (c.loop-lines.number + 1) (strip_carriage_return gives.part) ran.event =
     subst (λ l. Spells c.args.cluster.now (c.loop-lines.number + 1) l ran.event) (c.text-last.ensures ∙ gives.text) ran.spells in
-    (read, along.written.still, ends_last _ _ _ _ _ _ _ _ _ _ _ _ along gives.part ran.event _ _ gives.free gives.some gives.hands gives.at_end spells (ap world_of ran.world) ran.printed)
+    (read, along.written.still, ends_last _ _ _ _ _ _ _ _ _ _ _ _ along gives.part ran.event _ _ gives.free gives.some gives.hands gives.at_end spells ran.world ran.printed)
 
 pub returns-in-End-clause-runs : goal.returns-in-End-clause-runs
 returns-in-End-clause-runs g c = λ left b.

@@ -2,6 +2,7 @@ use Rattle.std.proofs.Common.{◌∙◌, subst, sym}
 use Rattle.std.specs.Io.KnownBytes.{Appends}
 use Rattle.cx_base.specs.Faults.{Rises}
 use Rattle.cx_edge.specs.Sink.{AppendsPart, WritesAll}
+use Rattle.cx_world.specs.World.{world_of}
 use Rattle.cx_replay.specs.Replay.{Replayed}
 use Rattle.cx_replay.specs.Streamed.{Sums}
 use Rattle.cx_replay.proofs.Along.{sums_comes, sums_replayed}
@@ -13,7 +14,7 @@ returns-then-not-write_all-clause-comes g c = tt
 
 pub returns-in-Whole-clause-comes : goal.returns-in-Whole-clause-comes
 returns-in-Whole-clause-comes g c =
-    sums_comes c.run_each.new.world.world (g.W.Sink.taken c.write_all.new.sink) (g.W.Sink.taken c.sum.new.out) (g.W.Sink.faults c.write_all.new.sink)
+    sums_comes (world_of c.run_each.new.world) (g.W.Sink.taken c.write_all.new.sink) (g.W.Sink.taken c.sum.new.out) (g.W.Sink.faults c.write_all.new.sink)
     (g.W.Sink.faults c.sum.new.out) c.sum.result c.sum.ensures
 
 pub returns-then-not-write_all-2-clause-comes : goal.returns-then-not-write_all-2-clause-comes
@@ -38,7 +39,7 @@ returns-in-Whole-clause-replayed g c = λ left b.
     let written = subst (λ whole. WritesAll (g.W.Sink.taken c.run_each.new.out) (g.W.Sink.taken c.write_all.new.sink) whole c.deref.result.now) c.if-not-write_all.false c.write_all.ensures.bytes in
     let at_end = runs.2.whole (g.W.Sink.taken c.write_all.new.sink) (subst (Appends (g.W.Sink.taken c.run_each.new.out) (g.W.Sink.taken c.write_all.new.sink)) c.deref.ensures.value written) in
     sums_replayed _ _ _ _ _ _ _ _ _ _ _ runs.0 at_end c.sum.result
-    (subst (λ k. Sums c.run_each.new.world.world (g.W.Sink.taken c.write_all.new.sink) (g.W.Sink.taken c.sum.new.out) k (g.W.Sink.faults c.sum.new.out) c.sum.result) (c.write_all.ensures.still c.if-not-write_all.false ∙ runs.1) c.sum.ensures)
+    (subst (λ k. Sums (world_of c.run_each.new.world) (g.W.Sink.taken c.write_all.new.sink) (g.W.Sink.taken c.sum.new.out) k (g.W.Sink.faults c.sum.new.out) c.sum.result) (c.write_all.ensures.still c.if-not-write_all.false ∙ runs.1) c.sum.ensures)
 
 pub returns-then-not-write_all-2-clause-replayed : goal.returns-then-not-write_all-2-clause-replayed
 returns-then-not-write_all-2-clause-replayed g c = λ left b.

@@ -10,7 +10,7 @@ use Rattle.cx_replay.proofs.summing.write_replicas.Goals as goal
 
 pub returns-in-Err : goal.returns-in-Err
 returns-in-Err g c =
-    let w = c.args.world.now.world in
+    let w = c.args.world.now in
     let n : ℕ = c.loop-replica.replica in
     let cluster : Cluster = w.cluster in
     let fold : ℕ → Folded = λ p. folded_of p w.kept in
@@ -24,7 +24,7 @@ returns-in-Err g c =
 
 pub loop-replica-preserved : goal.loop-replica-preserved
 loop-replica-preserved g c =
-    let w = c.args.world.now.world in
+    let w = c.args.world.now in
     let n : ℕ = c.loop-replica.replica in
     let cluster : Cluster = w.cluster in
     let fold : ℕ → Folded = λ p. folded_of p w.kept in

@@ -5,12 +5,13 @@ use Rattle.cx_model.specs.World.{World}
 use Rattle.cx_replay.specs.Replay.{summary}
 use Rattle.cx_trace.specs.Summary.{chosen_text, replicas_text, slots_text}
 use Rattle.cx_world.specs.Folded.{folded_of}
+use Rattle.cx_world.specs.World.{world_of}
 use Rattle.cx_replay.proofs.Pieces.{Writing, summary_parts, writing_begins, writing_goes, writing_last, writing_stops}
 use Rattle.cx_replay.proofs.summing.write_summary.Goals as goal
 
 pub returns-in-Err-write_put : goal.returns-in-Err-write_put
 returns-in-Err-write_put g c =
-    let w : World = c.args.world.now.world in
+    let w : World = world_of c.args.world.now in
     let chosen : List Value = c.in-Ok.chosen in
     let first : List ℕ = chosen_text (length chosen) in
     let rest : List ℕ = slots_text 0 [] chosen ++ replicas_text 0 (map (λ p. folded_of p w.kept) (below w.cluster.replicas)) in
@@ -22,7 +23,7 @@ returns-in-Err-write_put g c =
 
 pub returns-in-Err-write_slots : goal.returns-in-Err-write_slots
 returns-in-Err-write_slots g c =
-    let w : World = c.args.world.now.world in
+    let w : World = world_of c.args.world.now in
     let chosen : List Value = c.in-Ok.chosen in
     let first : List ℕ = chosen_text (length chosen) in
     let last : List ℕ = replicas_text 0 (map (λ p. folded_of p w.kept) (below w.cluster.replicas)) in
@@ -37,7 +38,7 @@ returns-in-Err-write_slots g c =
 
 pub returns : goal.returns
 returns g c =
-    let w : World = c.args.world.now.world in
+    let w : World = world_of c.args.world.now in
     let chosen : List Value = c.in-Ok.chosen in
     let first : List ℕ = chosen_text (length chosen) in
     let last : List ℕ = replicas_text 0 (map (λ p. folded_of p w.kept) (below w.cluster.replicas)) in

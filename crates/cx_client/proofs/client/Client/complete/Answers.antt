@@ -13,9 +13,9 @@ bring_forward-requires c =
 pub invariant_of-self : goal.invariant_of-self
 invariant_of-self c =
     let inside = subst (λ (s : ClientState). c.args.place < length (left s)) (sym c.self.view_is) c.requires in
-    completed_client _ c.args.place _ c.self.invariant inside c.bring_forward.ensures
+    completed_client _ c.args.place _ _ c.self.invariant inside c.set_back-self-inside.ensures c.bring_forward.ensures
 
 pub returns : goal.returns
 returns c = λ d. rw (← c.self.view_is)
     (let inside = subst (λ (s : ClientState). c.args.place < length (left s)) (sym c.self.view_is) c.requires in
-    completed_state _ c.args.place d _ c.self.invariant inside (c.bring_forward.ensures d))
+    completed_state _ c.args.place d _ _ c.self.invariant inside c.set_back-self-inside.ensures (c.bring_forward.ensures d))

@@ -1,4 +1,5 @@
-use Rattle.std.proofs.Common.{◌≡◌, List, ap, sym, ◌∙◌}
+use Rattle.std.proofs.Common.{List, ap, subst, ◌∙◌}
+use Rattle.std.specs.Prelude.{IfOk}
 use Rattle.cx_base.specs.declared.command.Value.{Value}
 use Rattle.cx_model.specs.World.{World}
 use Rattle.cx_promises.specs.Lawful.{IsCommandList}
@@ -13,7 +14,6 @@ returns-clause-agreed c =
     let w : World = record { cluster = fields.cluster; roles = seat_roles (lists_of fields.seats); events = fields.events; kept = fields.kept; sent = fields.sent } in
     λ fresh.
     let holds = c.self.invariant (ap (λ (x : WorldState). x.spent) c.self.view_is ∙ fresh) in
-    let seen : WorldState = c.args.self.now in
-    let same : seen.world ≡ w = sym (ap (λ (x : WorldState). x.world) c.self.view_is) in
-    rw same (ok_then _ (λ (values : List Value). IsCommandList w.cluster w.kept values) c.chosen_prefix.result
+    subst (λ (x : WorldState). IfOk c.chosen_prefix.result (λ (values : List Value). IsCommandList x.cluster x.kept values)) c.self.view_is
+    (ok_then _ (λ (values : List Value). IsCommandList w.cluster w.kept values) c.chosen_prefix.result
     (λ values is. list_of_run w holds.ran values is) c.chosen_prefix.ensures)

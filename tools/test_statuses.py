@@ -1,0 +1,42 @@
+"""Tests of statuses.py: the table in docs/INPUT.md has what the program says, and the line is found among others."""
+
+import re
+import unittest
+
+from headers import TOP
+from statuses import line_of, lines_by_status
+
+RUNS = TOP / "crates/compax/runs"
+LINES = TOP / "crates/compax/src/line.rt"
+
+
+class StatusesTest(unittest.TestCase):
+    def test_the_lines_of_the_program(self) -> None:
+        """Each text in its source is the beginning of a line in the table, and the other way round."""
+        beginnings = {text for text in re.findall(r'b"([a-z ]+:? ?)(?:\\n)?"', LINES.read_text()) if text not in (" at ", ":")}
+        table = {re.match("[a-z: ]*", line.pattern)[0] for line in lines_by_status().values() if line.pattern}
+        self.assertEqual(beginnings, table)
+        self.assertGreater(len(table), 10)
+
+    def test_the_stored_runs(self) -> None:
+        """Each ends as the table says; of 9 and 12 none is stored that says so."""
+        seen = set()
+        for run in sorted(RUNS.iterdir()):
+            stored = {name: (run / name).read_text() if (run / name).exists() else "" for name in ("status", "stderr", "outside")}
+            status = int(stored["status"] or 0)
+            if "stderr full" not in stored["outside"]:
+                self.assertRegex(stored["stderr"].removesuffix("\n"), f"^{lines_by_status()[status].pattern}$", run.name)
+                seen.add(status)
+        self.assertLessEqual({0, 2, 3, 4, 5, 6, 7, 8, 10, 11}, seen)
+
+    def test_the_line_among_others(self) -> None:
+        for status, said, line in ((6, "link failed\nport 21003: Address already in use\n", "link failed"),
+                                   (7, "a word\nstore failed: replica:1\ncompax-replica-1.other: No space left\n", "store failed: replica:1"),
+                                   (10, "bad store: match:0 at 5\n", "bad store: match:0 at 5"), (2, "bad words\n", "bad words"),
+                                   (7, "link failed\n", "link failed"), (-9, "", "it said nothing"), (0, "", "it said nothing"),
+                                   (99, "one\ntwo\n", "one; two")):
+            self.assertEqual(line_of(status, said), line)
+
+
+if __name__ == "__main__":
+    unittest.main()
