@@ -26,7 +26,7 @@ use Rattle.cx_letter.specs.declared.message.Msg.TheVariants as msg
 use Rattle.cx_script.specs.Names.{names_event}
 use Rattle.cx_script.specs.Requests.{IsScript, asks, number_of, rise_above}
 use Rattle.cx_client.specs.Asking.{one_further, set_back, shifted}
-use Rattle.cx_client.specs.declared.asking.Asking.{Asking}
+use Rattle.cx_client.specs.declared.asking.ClientOptions.{ClientOptions}
 use Rattle.cx_client.specs.Client.{ClientMoved, ClientState, IsClient, Moves, again, again_letters, answer_number, client_completes, client_hears, client_opened, client_start, client_takes, client_ticks, client_told, client_waits, after_completion, hearing, is_finished, left, client_stays}
 use Rattle.cx_client.specs.Completes.{IsAnswerToRequest, CompletesRequest, AreFromClient, IsSent, TellsFloor, TellsHeard, heard_after, msg_has_floor, tells_heard}
 use Rattle.cx_client.specs.Window.{floor_for, has_number, is_outstanding, newly, outstanding, request_letters, event_with_floor, without_request}
@@ -271,9 +271,9 @@ further_is_client s o is = record {
   heard = is.heard;
 }
 
-pub opened_is_client : (c : Cluster) (index : ℕ) (script : List Event) (asking : Asking) → IsScript c index script → 1 ≤ asking.window → asking.window ≤ 64
-    → IsClient (client_opened c (role Client index) script asking)
-opened_is_client c index script asking is some fits = record { me = refl; completed = refl; script = is; done = omega arith; some_window = some; window_fits = fits; heard = zero_fits }
+pub opened_is_client : (c : Cluster) (index : ℕ) (script : List Event) (options : ClientOptions) → IsScript c index script → 1 ≤ options.window → options.window ≤ 64
+    → IsClient (client_opened c (role Client index) script options)
+opened_is_client c index script options is some fits = record { me = refl; completed = refl; script = is; done = omega arith; some_window = some; window_fits = fits; heard = zero_fits }
 
 pub completed_is_client : (s : ClientState) (n : ℕ) (e : Event) → IsClient s → Member e (left s) → number_of e ≡ n → IsClient (after_completion n s)
 completed_is_client s n e is here number = go (is_completed s n e is here number)

@@ -9,7 +9,7 @@ use Rattle.cx_base.specs.declared.why.Why.{Why}
 use Rattle.cx_base.specs.declared.why.Why.TheVariants.{Heard, Idle, Resent, Stranger}
 use Rattle.cx_base.specs.Role.{role, same_role}
 use Rattle.cx_client.specs.Asking.{one_further, set_back, shifted}
-use Rattle.cx_client.specs.declared.asking.Asking.{Asking}
+use Rattle.cx_client.specs.declared.asking.ClientOptions.{ClientOptions}
 use Rattle.cx_client.specs.Window.{floor_for, has_number, is_outstanding, newly, outstanding, request_letters, without_request}
 use Rattle.cx_field.specs.Fields.{mark}
 use Rattle.cx_model.specs.Heard.{mark_told}
@@ -47,9 +47,9 @@ pub record IsClient (s : ClientState) : Type 0 where
   pub heard : IsTrue (mark.fits s.heard)
 
 -- a client at its beginning
-abbrev pub client_opened : Cluster → RoleId → List Event → Asking → ClientState
-client_opened c me script asking =
-    record { cluster = c; me = me; script = script; done = 0; window = asking.window; heard = 0; shift = if asking.others then Some 0 else None }
+abbrev pub client_opened : Cluster → RoleId → List Event → ClientOptions → ClientState
+client_opened c me script options =
+    record { cluster = c; me = me; script = script; done = 0; window = options.window; heard = 0; shift = if options.others then Some 0 else None }
 
 abbrev pub is_finished : ClientState → Bool
 is_finished s = s.done == length s.script

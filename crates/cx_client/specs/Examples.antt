@@ -15,7 +15,7 @@ use Rattle.cx_model.specs.Examples.{one_of_each}
 use Rattle.cx_letter.specs.Letter.{Letter, letter}
 use Rattle.cx_letter.specs.declared.message.Msg.{Msg}
 use Rattle.cx_letter.specs.declared.message.Msg.TheVariants as msg
-use Rattle.cx_client.specs.declared.asking.Asking.{Asking}
+use Rattle.cx_client.specs.declared.asking.ClientOptions.{ClientOptions}
 use Rattle.cx_client.specs.Client.{ClientState, client_hears, client_opened, client_start, client_takes, client_ticks}
 
 -- the request of a number
@@ -75,7 +75,7 @@ spread =
     }
 
 -- a command to batcher 1, a read of reader 1 and replica 2, and a session with replica 2
-abbrev asking : Asking → ClientState
+abbrev asking : ClientOptions → ClientState
 asking how = client_opened spread (role Client 0)
     (event.Write (record { client = 0; seq = 1; floor = 0; op = Del (97 ∷ []) }) 1 ∷ event.Read 0 2 1 1 2 (97 ∷ []) ∷ event.Session 0 3 2 2 (97 ∷ []) ∷ []) how
 

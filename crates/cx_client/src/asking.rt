@@ -5,7 +5,7 @@ ghost use Rattle.cx_client.specs.Asking.{further, one_further, set_back};
 
 /// How many requests of a client may be outstanding at a time, and whether it asks others when it asks again.
 #[derive(Clone, Copy, Debug, PartialEq, Eq)]
-pub struct Asking {
+pub struct ClientOptions {
     pub window: u8,
     pub others: bool,
 }

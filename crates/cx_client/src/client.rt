@@ -10,7 +10,7 @@ ghost use Rattle.cx_field.specs.Fields as field;
 ghost use Rattle.cx_model.specs.Names.{names_role};
 ghost use Rattle.cx_script.specs.Requests.{IsScript, number_of};
 
-use crate::asking::{Asking, one_further, set_back};
+use crate::asking::{ClientOptions, one_further, set_back};
 use crate::sending::send_outstanding;
 use crate::window::{first_of, number_of, outstanding, request_place};
 use cx_base::{Cluster, Event, Kind, NoMemory, RoleId, Why};
@@ -100,22 +100,22 @@ fn last_number(requests: &[Event]) -> u64
 impl Client {
     /// A client of the cluster and its script, nothing sent. The script has requests of this client alone, with their names in the
     /// cluster and rising numbers from 1 on; 1 to 64 of them may be outstanding at a time.
-    pub fn open(cluster: &Cluster, me: RoleId, script: Vec<Event>, asking: Asking) -> Self
+    pub fn open(cluster: &Cluster, me: RoleId, script: Vec<Event>, options: ClientOptions) -> Self
         requires kind { me.kind ≡ kind.Client }
         requires named { IsTrue (names_role cluster.now me) }
         requires script { IsScript cluster.now me.index script.items }
-        requires some_window { 1 ≤ asking.window }
-        requires window { asking.window ≤ 64 }
-        ensures { result ≡ client_opened cluster.now me script.items asking }
+        requires some_window { 1 ≤ options.window }
+        requires window { options.window ≤ 64 }
+        ensures { result ≡ client_opened cluster.now me script.items options }
     {
         Client {
             cluster: *cluster,
             index: me.index,
             script,
             done: 0,
-            window: asking.window,
+            window: options.window,
             heard: 0,
-            shift: if asking.others { Some(0) } else { None },
+            shift: if options.others { Some(0) } else { None },
         }
     }
 

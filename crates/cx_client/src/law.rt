@@ -7,7 +7,7 @@ ghost use Rattle.cx_base.specs.declared.event.Event.{Event};
 ghost use Rattle.cx_base.specs.declared.role.Kind.TheVariants as kind;
 ghost use Rattle.cx_base.specs.Role.{role};
 ghost use Rattle.cx_client.specs.Asking.{shifted};
-ghost use Rattle.cx_client.specs.declared.asking.Asking.{Asking};
+ghost use Rattle.cx_client.specs.declared.asking.ClientOptions.{ClientOptions};
 ghost use Rattle.cx_client.specs.Client.{ClientState, IsClient, client_opened, client_start, client_takes, client_ticks, left};
 ghost use Rattle.cx_client.specs.Completes.{IsAnswerToRequest, CompletesRequest, AreFromClient, IsSent, TellsFloor, TellsHeard, heard_after};
 ghost use Rattle.cx_client.specs.Window.{floor_for, outstanding, request_letters};
@@ -20,9 +20,9 @@ ghost use Rattle.cx_script.specs.Requests.{IsScript, number_of};
 
 /// A law: a client with a script of its own stays one, at datagrams that tell of no more values than a list has.
 pub fn clients_stay()
-    ensures opened { (c : Cluster) (index : ℕ) (script : List Event) (asking : Asking)
-        → IsScript c index script → 1 ≤ asking.window → asking.window ≤ 64
-        → IsClient (client_opened c (role kind.Client index) script asking) }
+    ensures opened { (c : Cluster) (index : ℕ) (script : List Event) (options : ClientOptions)
+        → IsScript c index script → 1 ≤ options.window → options.window ≤ 64
+        → IsClient (client_opened c (role kind.Client index) script options) }
     ensures takes { (s : ClientState) (letter : Letter) → IsTrue (field.mark.fits (mark_told letter.msg)) → IsClient s
         → IsClient (client_takes s letter).state }
     ensures ticks { (s : ClientState) → IsClient s → IsClient (client_ticks s).state }

@@ -16,7 +16,7 @@ mod law;
 mod sending;
 mod window;
 
-pub use asking::Asking;
+pub use asking::ClientOptions;
 pub use client::{Client, ClientOutcome};
 pub use examples::worked;
 pub use law::{

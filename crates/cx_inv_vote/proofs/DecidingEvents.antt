@@ -56,7 +56,6 @@ use Rattle.cx_inv_run.proofs.Members.{Member-at, Member-one}
 use Rattle.cx_inv_run.proofs.Senders.{acceptor_kinds, matchmaker_kinds, batcher_kinds, unbatcher_kinds, proxy_kinds, replica_kinds, reader_kinds}
 use Rattle.cx_inv_run.proofs.LeaderSenders.{leader_kinds, replacer_kinds}
 use Rattle.cx_inv_run.proofs.Steps.{only_replacer}
-use Rattle.cx_inv_vote.proofs.Leading.{each}
 use Rattle.cx_inv_vote.proofs.Rows.{is_role}
 use Rattle.cx_inv_vote.proofs.Deciding.{NoBoot, Begins, row_says, boot_asked}
 

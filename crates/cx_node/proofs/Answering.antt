@@ -22,7 +22,7 @@ use Rattle.cx_node.specs.Hosting.{HasOpened, HasRun, HostAnswered, HostBinding, 
 use Rattle.cx_node.specs.Input.{FailsRead, input_of, may_host, refused_of}
 use Rattle.cx_seat.specs.Opening.{IsFirstBad, IsFirstUsed, is_store_used}
 use Rattle.cx_node.specs.Serving.{AllRead, IsNodeAnswer, AnswersPart, NodeCompletes, Ends, EndsAt, EndsBinding, EndsWell, IsUntouched, Outside, InputSays}
-use Rattle.cx_node.specs.Serving.{TellsBad, TellsUsed, asking_of, recorded_header, refused_status}
+use Rattle.cx_node.specs.Serving.{TellsBad, TellsUsed, options_of, recorded_header, refused_status}
 use Rattle.cx_seat.proofs.FirstBad.{one_first}
 use Rattle.cx_node.proofs.HostedRuns.{records_header}
 
@@ -47,7 +47,7 @@ records_so recording roles left header c events says = ap is_some says.header_is
 
 pub answered_so : (recording : Bool) (roles : List RoleId) (tend : Option ℕ) (header : Option (List ℕ)) (c : Cluster) (window : ℕ)
     (events : List Event) (turns : ℕ) (old new : Outside) (s : Status) → InputSays recording roles old.left header c events → AllRead old new
-    → HostAnswered roles tend header c (asking_of tend window) events turns old new s → IsNodeAnswer roles tend window recording turns old new s
+    → HostAnswered roles tend header c (options_of tend window) events turns old new s → IsNodeAnswer roles tend window recording turns old new s
 answered_so recording roles tend header c window events turns old new s says reads host = record {
   done = λ e. ended end.Done (did status.Done e);
   turns_ended = λ e. ended end.Turns (did status.Turns e);
@@ -77,19 +77,19 @@ answered_so recording roles tend header c window events turns old new s says rea
   stored = host.stored;
 }
   where
-    did : (t : Status) → s ≡ t → HostDid roles tend header c (asking_of tend window) events turns old new t
-    did t e = subst (HostDid roles tend header c (asking_of tend window) events turns old new) e host.did
+    did : (t : Status) → s ≡ t → HostDid roles tend header c (options_of tend window) events turns old new t
+    did t e = subst (HostDid roles tend header c (options_of tend window) events turns old new) e host.did
 
     records : is_some header ≡ true → recording ≡ true
     records has = sym (records_so recording roles old.left header c events says) ∙ has
 
-    ended : (e : RunEnd) → HostEnds roles tend header c (asking_of tend window) events turns e old new → Ends roles tend window recording turns e old new
+    ended : (e : RunEnd) → HostEnds roles tend header c (options_of tend window) events turns e old new → Ends roles tend window recording turns e old new
     ended e h = (header, c, events, h.0, h.1, says, reads, h.2, h.3)
 
     binding : HostBinding roles c old new → EndsBinding roles recording old new
     binding b = (header, c, events, b.0, says, reads, b.1)
 
-    ended_at : (next : Option Action) → HostEndsAt next roles tend header c (asking_of tend window) events turns old new
+    ended_at : (next : Option Action) → HostEndsAt next roles tend header c (options_of tend window) events turns old new
         → EndsAt next roles tend window recording turns old new
     ended_at next h = (header, c, events, h.0, h.1, h.2, says, reads, h.3, h.4, h.5)
 
@@ -228,7 +228,7 @@ one_cluster recording roles left all header other c d events more known one two 
 -- what is answered where the whole input is known and the store of a hosted role is none of its own
 pub tells_bad_so : (recording : Bool) (roles : List RoleId) (tend : Option ℕ) (header : Option (List ℕ)) (c : Cluster) (window : ℕ)
     (events : List Event) (turns : ℕ) (old new : Outside) (s : Status) → InputSays recording roles old.left header c events
-    → HostAnswered roles tend header c (asking_of tend window) events turns old new s
+    → HostAnswered roles tend header c (options_of tend window) events turns old new s
     → TellsBad recording roles old new s
 tells_bad_so recording roles tend header c window events turns old new s says host whole tells all known other d more role at said bad =
     go s refl
@@ -238,8 +238,8 @@ tells_bad_so recording roles tend header c window events turns old new s says ho
         subst (λ e. IsFirstBad roles e old.stored role at)
         (one_cluster recording roles old.left all other header d c more events known said says) bad
 
-    did : (t : Status) → s ≡ t → HostDid roles tend header c (asking_of tend window) events turns old new t
-    did t e = subst (HostDid roles tend header c (asking_of tend window) events turns old new) e host.did
+    did : (t : Status) → s ≡ t → HostDid roles tend header c (options_of tend window) events turns old new t
+    did t e = subst (HostDid roles tend header c (options_of tend window) events turns old new) e host.did
 
     not_opened : (t : Status) → s ≡ t → HasOpened t → ⊥
     not_opened t e opened = host.good (subst HasOpened (sym e) opened) tells first.place role at first.here first.bad
@@ -300,13 +300,13 @@ one_used roles stored role other one two = go (by_order one.place two.place)
 -- what is answered where all is good and nothing fails, and a store of a node that is to record has a record
 pub tells_used_so : (recording : Bool) (roles : List RoleId) (tend : Option ℕ) (header : Option (List ℕ)) (c : Cluster) (window : ℕ)
     (events : List Event) (turns : ℕ) (old new : Outside) (s : Status) → InputSays recording roles old.left header c events
-    → HostAnswered roles tend header c (asking_of tend window) events turns old new s
+    → HostAnswered roles tend header c (options_of tend window) events turns old new s
     → TellsUsed recording roles old new s
 tells_used_so recording roles tend header c window events turns old new s says host whole good records role first =
     go s refl
   where
-    did : (t : Status) → s ≡ t → HostDid roles tend header c (asking_of tend window) events turns old new t
-    did t e = subst (HostDid roles tend header c (asking_of tend window) events turns old new) e host.did
+    did : (t : Status) → s ≡ t → HostDid roles tend header c (options_of tend window) events turns old new t
+    did t e = subst (HostDid roles tend header c (options_of tend window) events turns old new) e host.did
 
     not_run : (t : Status) → s ≡ t → HasRun t → ⊥
     not_run t e run = not_both (is_store_used role (old.stored role)) first.used

@@ -8,7 +8,7 @@ use Rattle.cx_base.specs.declared.event.Event.{Event}
 use Rattle.cx_base.specs.declared.role.RoleId.{RoleId}
 use Rattle.cx_base.specs.Faults.{Rises}
 use Rattle.cx_base.specs.Role.{same_role}
-use Rattle.cx_client.specs.declared.asking.Asking.{Asking}
+use Rattle.cx_client.specs.declared.asking.ClientOptions.{ClientOptions}
 use Rattle.cx_disk.specs.declared.disk.Disk.{Ghosts as DiskGhosts}
 use Rattle.cx_edge.specs.Shelf.{shelf}
 use Rattle.cx_edge.specs.declared.shelf.Shelf.{Shelf}
@@ -114,7 +114,7 @@ files_held seen stored me (Two t) back two some = go (seen t.first) (seen t.seco
         ∙ ap₂ (λ x y. Some (TwoFiles x y)) (back 0 _ a refl e) (back 1 _ b refl f)
         ∙ sym (ap₂ (λ x y. both_told x y) e f)
 
-module _ {D : Type 0} (by : DiskGhosts D) (c : Cluster) (asking : Asking) (events : List Event) (told_by : Bool)
+module _ {D : Type 0} (by : DiskGhosts D) (c : Cluster) (options : ClientOptions) (events : List Event) (told_by : Bool)
     (stored : RoleId → Files) (stored_mid stored_after : Shelf → List ℕ) (faults faults_after : RoleId → ℕ)
     (roles : List RoleId) (guests : List (Guest (RecordStore D))) where
   abbrev Back : List (Guest (RecordStore D)) → Type 0
@@ -145,7 +145,7 @@ module _ {D : Type 0} (by : DiskGhosts D) (c : Cluster) (asking : Asking) (event
           ∙ ap (λ (x : Shelf). x.role) same)
 
   -- a role that was opened keeps what its store had
-  pub opened_stays : AreApart roles → AreOpened by.seen by.faults c asking events told_by stored roles guests
+  pub opened_stays : AreApart roles → AreOpened by.seen by.faults c options events told_by stored roles guests
       → Back guests
       → (told_by ≡ true → (me : RoleId) → files_records (Some (files_of stored_mid me)) ≡ files_records (Some (stored me)))
       → told_by ≡ true → (i : ℕ) (me : RoleId) → slice_get roles i ≡ Some me → is_durable me.kind ≡ true
@@ -158,14 +158,14 @@ module _ {D : Type 0} (by : DiskGhosts D) (c : Cluster) (asking : Asking) (event
           let o = all i h at in
           let same : o.0 ≡ me = same_Some o.0 me (sym o.1 ∙ here) in
           let d : is_durable o.0.kind ≡ true = ap (λ m. is_durable m.kind) same ∙ durable in
-          let s = keeps_store by.seen by.faults c asking events told_by stored o.0 h o.2 d in
-          closed_told guests i me h s.0 at (name_is by.seen by.faults c asking events told_by stored o.0 h o.2 ∙ same)
+          let s = keeps_store by.seen by.faults c options events told_by stored o.0 h o.2 d in
+          closed_told guests i me h s.0 at (name_is by.seen by.faults c options events told_by stored o.0 h o.2 ∙ same)
           s.1 (s.2.sides ∙ ap (λ (m : RoleId). has_second m.kind) same) (s.2.is_seen t) t back
           ∙ s.2.kept t ∙ sym (told_any o.0.kind (stored o.0) o.2.records (o.2.read t d))
           ∙ ap (λ m. files_records (Some (stored m))) same
       go None none = ap (λ f. files_records (Some f)) (unlent guests me (λ k g at name.
           let o = all k g at in
-          let same : o.0 ≡ me = sym (name_is by.seen by.faults c asking events told_by stored o.0 g o.2) ∙ name in
+          let same : o.0 ≡ me = sym (name_is by.seen by.faults c options events told_by stored o.0 g o.2) ∙ name in
           let place = apart k i me (o.1 ∙ ap Some same) here in
           none-some g (sym none ∙ ap (slice_get guests) (sym place) ∙ at)) back)
           ∙ mid t me
@@ -191,21 +191,21 @@ module _ {D : Type 0} (by : DiskGhosts D) (c : Cluster) (asking : Asking) (event
           (zeros k g s at has name)
 
   has_not_failed : (me : RoleId) (g : Guest (RecordStore D))
-      → IsOpened by.seen by.faults c asking events told_by (stored me) me g → (s : RecordStore D) → keeper_of g ≡ Some s
+      → IsOpened by.seen by.faults c options events told_by (stored me) me g → (s : RecordStore D) → keeper_of g ≡ Some s
       → NoneFailed by.faults s
   has_not_failed me g o s has =
       (has_records by.seen by.faults told_by (has_second me.kind) o.records (is_durable me.kind) (keeper_of g) s has
       o.stored).faultless
 
   -- roles that were opened, and given back at once
-  pub opened_still : AreOpened by.seen by.faults c asking events told_by stored roles guests → Back guests
+  pub opened_still : AreOpened by.seen by.faults c options events told_by stored roles guests → Back guests
       → (role : RoleId) → faults_after role ≡ faults role
   opened_still all back role =
       stands guests back role (λ i h s at has name. let o = all i h at in has_not_failed o.0 h o.2 s has)
 
   module _ (recovered : RoleId → List Record)
-      (from : AreOpenedFrom by.seen by.faults c asking events told_by stored recovered roles guests)
-      (all : AreOpened by.seen by.faults c asking events told_by stored roles guests)
+      (from : AreOpenedFrom by.seen by.faults c options events told_by stored recovered roles guests)
+      (all : AreOpened by.seen by.faults c options events told_by stored roles guests)
       (count : length guests ≡ length roles) (apart : AreApart roles) (ks : List StoreChange)
       (mid : List (Guest (RecordStore D))) (names : map who mid ≡ map who guests)
       (grow : GuestsGrow (gives by) ks guests mid) where
@@ -232,8 +232,8 @@ module _ {D : Type 0} (by : DiskGhosts D) (c : Cluster) (asking : Asking) (event
         let g = get_beside roles guests i me count here in
         let m = get_beside guests mid i g.0 grow.0 g.1 in
         let o = from i me g.0 here g.1 in
-        let j = keeps_store by.seen by.faults c asking events told_by stored me g.0 o.0 durable in
-        let own = name_is by.seen by.faults c asking events told_by stored me g.0 o.0 in
+        let j = keeps_store by.seen by.faults c options events told_by stored me g.0 o.0 durable in
+        let own = name_is by.seen by.faults c options events told_by stored me g.0 o.0 in
         let cs = changes_of (who g.0) ks in
         let k = grows_some (gives by) cs (keeper_of g.0) (keeper_of m.0) j.0 j.1 (grow.1 i g.0 m.0 g.1 m.1) in (
           m.0,
@@ -304,7 +304,7 @@ module _ {D : Type 0} (by : DiskGhosts D) (c : Cluster) (asking : Asking) (event
 
         -- the role at that place as it was opened, and its name
         opener : (g : Guest (RecordStore D)) × (o : RoleId) × (slice_get guests f.place ≡ Some g) × (slice_get roles f.place ≡ Some o)
-            × IsOpened by.seen by.faults c asking events told_by (stored o) o g × (o ≡ role)
+            × IsOpened by.seen by.faults c options events told_by (stored o) o g × (o ≡ role)
         opener =
             let g = get_beside mid guests f.place f.guest (sym grow.0) f.here in
             let o = all f.place g.0 g.1 in (
@@ -313,7 +313,7 @@ module _ {D : Type 0} (by : DiskGhosts D) (c : Cluster) (asking : Asking) (event
               g.1,
               o.1,
               o.2,
-              sym (name_is by.seen by.faults c asking events told_by stored o.0 g.0 o.2)
+              sym (name_is by.seen by.faults c options events told_by stored o.0 g.0 o.2)
                   ∙ sym (same_at who guests mid f.place g.0 f.guest names g.1 f.here) ∙ f.name,
             )
 
@@ -459,9 +459,9 @@ module _ {D : Type 0} (by : DiskGhosts D) (c : Cluster) (asking : Asking) (event
       nobody i g at name = let r = named i g at in none i (r.1 ∙ ap Some (sym r.2 ∙ name))
 
   -- so it is where they were given back as they were opened
-  pub opened_unhosted : AreOpened by.seen by.faults c asking events told_by stored roles guests → Back guests
+  pub opened_unhosted : AreOpened by.seen by.faults c options events told_by stored roles guests → Back guests
       → (me : RoleId) → ((i : ℕ) → slice_get roles i ≡ Some me → ⊥)
       → (files_of stored_after me ≡ files_of stored_mid me) × (faults_after me ≡ faults me)
   opened_unhosted all back =
       unhosted guests (λ i g at. let o =
-      all i g at in (o.0, o.1, name_is by.seen by.faults c asking events told_by stored o.0 g o.2)) back
+      all i g at in (o.0, o.1, name_is by.seen by.faults c options events told_by stored o.0 g o.2)) back

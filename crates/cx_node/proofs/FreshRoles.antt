@@ -11,7 +11,7 @@ use Rattle.cx_base.specs.declared.role.RoleId.{RoleId}
 use Rattle.cx_base.specs.Role.{role as a_role}
 use Rattle.cx_client.specs.Client.{IsClient, client_opened}
 use Rattle.cx_client.proofs.Steps.{opened_is_client}
-use Rattle.cx_client.specs.declared.asking.Asking.{Asking}
+use Rattle.cx_client.specs.declared.asking.ClientOptions.{ClientOptions}
 use Rattle.cx_course.specs.Alike.{AreDistinct, AreFresh, IsFresh, IsFreshClient, IsFreshRole}
 use Rattle.cx_course.specs.Course.{course_of}
 use Rattle.cx_course.specs.Follows.{FollowsBetween, EachKeptIsNext}
@@ -45,14 +45,14 @@ all_members P [] all x is = absurd is
 all_members P (y ∷ ys) all x (inl e) = subst P (sym e) (all 0 y (omega arith))
 all_members P (y ∷ ys) all x (inr more) = all_members P ys (λ k d inside. all (suc k) d (omega (arith, inside))) x more
 
-module _ (c : Cluster) (asking : Asking) (events : List Event) (scripts : (client : ℕ) → IsScript c client (script_of client events))
-    (recordable : (client : ℕ) → All (IsRecordable c) (script_of client events)) (some : 1 ≤ asking.window) (most : asking.window ≤ 64) where
+module _ (c : Cluster) (options : ClientOptions) (events : List Event) (scripts : (client : ℕ) → IsScript c client (script_of client events))
+    (recordable : (client : ℕ) → All (IsRecordable c) (script_of client events)) (some : 1 ≤ options.window) (most : options.window ≤ 64) where
   client_fresh : (me : RoleId) → me.kind ≡ Client → names_role c me ≡ true
-      → IsFreshClient c (client_opened c me (script_of me.index events) asking)
+      → IsFreshClient c (client_opened c me (script_of me.index events) options)
   client_fresh me kind named = record {
     client =
-        subst (λ a. IsClient (client_opened c a (script_of me.index events) asking)) (ap (λ k. a_role k me.index) (sym kind))
-        (opened_is_client c me.index (script_of me.index events) asking (scripts me.index) some most);
+        subst (λ a. IsClient (client_opened c a (script_of me.index events) options)) (ap (λ k. a_role k me.index) (sym kind))
+        (opened_is_client c me.index (script_of me.index events) options (scripts me.index) some most);
     cluster = refl;
     named = named;
     lines = all_members (IsRecordable c) (script_of me.index events) (recordable me.index);
@@ -66,7 +66,7 @@ module _ (c : Cluster) (asking : Asking) (events : List Event) (scripts : (clien
 
   -- one of this kind
   is_fresh : (me : RoleId) (records : List Record) (k : Kind) → me.kind ≡ k → names_role c me ≡ true
-      → (is_durable k ≡ true → records ≡ []) → IsFresh c (opened_as c asking events me records k)
+      → (is_durable k ≡ true → records ≡ []) → IsFresh c (opened_as c options events me records k)
   is_fresh me records Client kind named none = client_fresh me kind named
   is_fresh me records Batcher kind named none = record { opened = refl; kind_is = kind; named = named }
   is_fresh me records Leader kind named none = role_fresh leader_rules me records (none refl) kind named
@@ -79,13 +79,13 @@ module _ (c : Cluster) (asking : Asking) (events : List Event) (scripts : (clien
   is_fresh me records Replacer kind named none = role_fresh replacer_rules me records (none refl) kind named
 
   -- all of them
-  pub are_fresh : (recovered : RoleId → List Record) (roles : List RoleId) → AreDistinct (hosts c asking events recovered roles)
+  pub are_fresh : (recovered : RoleId → List Record) (roles : List RoleId) → AreDistinct (hosts c options events recovered roles)
       → ((i : ℕ) (me : RoleId) → slice_get roles i ≡ Some me → names_role c me ≡ true)
       → ((i : ℕ) (me : RoleId) → slice_get roles i ≡ Some me → is_durable me.kind ≡ true → recovered me ≡ [])
-      → AreFresh c (hosts c asking events recovered roles)
+      → AreFresh c (hosts c options events recovered roles)
   are_fresh recovered roles apart named none = record {
     each = λ i h at.
-        let r = get_map (λ (me : RoleId). opened_as c asking events me (recovered me) me.kind) roles i h at in
+        let r = get_map (λ (me : RoleId). opened_as c options events me (recovered me) me.kind) roles i h at in
         subst (IsFresh c) (sym r.2) (is_fresh r.0 (recovered r.0) r.0.kind refl (named i r.0 r.1) (none i r.0 r.1));
     distinct = apart;
   }
@@ -99,31 +99,31 @@ pub record IsLaw (c : Cluster) : Type 0 where
   pub in_flight : (tend : Option ℕ) (takes : TakeResults) (hs : List Hosted) → AreFresh c hs
       → EachKeptIsNext c (node_run tend c takes (course_of true hs)).actions
 
-module _ {D : Type 0} (seen : D → Option (List ℕ)) (disk_faults : D → ℕ) (c : Cluster) (asking : Asking) (events : List Event)
+module _ {D : Type 0} (seen : D → Option (List ℕ)) (disk_faults : D → ℕ) (c : Cluster) (options : ClientOptions) (events : List Event)
     (tells : Bool) (stored : RoleId → Files) (roles : List RoleId) (guests : List (Guest (RecordStore D)))
     (apart : AreApart roles) (named : (i : ℕ) (me : RoleId) → slice_get roles i ≡ Some me → names_role c me ≡ true)
     (scripts : (client : ℕ) → IsScript c client (script_of client events))
-    (recordable : (client : ℕ) → All (IsRecordable c) (script_of client events)) (some : 1 ≤ asking.window) (most : asking.window ≤ 64)
-    (law : IsLaw c) (all : AreOpened seen disk_faults c asking events tells stored roles guests)
+    (recordable : (client : ℕ) → All (IsRecordable c) (script_of client events)) (some : 1 ≤ options.window) (most : options.window ≤ 64)
+    (law : IsLaw c) (all : AreOpened seen disk_faults c options events tells stored roles guests)
     (count : length guests ≡ length roles) (unused : NoneIsUsed guests) (recovered : RoleId → List Record)
-    (from : AreOpenedFrom seen disk_faults c asking events tells stored recovered roles guests) where
+    (from : AreOpenedFrom seen disk_faults c options events tells stored recovered roles guests) where
   -- no role was opened from a record
   none_told : (i : ℕ) (me : RoleId) → slice_get roles i ≡ Some me → is_durable me.kind ≡ true → recovered me ≡ []
   none_told i me here durable =
       let g = get_beside roles guests i me count here in
       let o = from i me g.0 here g.1 in
-      sym o.1 ∙ fresh_opened seen disk_faults c asking events tells stored me g.0 o.0 (unused i g.0 g.1) durable
+      sym o.1 ∙ fresh_opened seen disk_faults c options events tells stored me g.0 o.0 (unused i g.0 g.1) durable
 
-  fresh : AreFresh c (hosts c asking events recovered roles)
+  fresh : AreFresh c (hosts c options events recovered roles)
   fresh =
-      are_fresh c asking events scripts recordable some most recovered roles
-      (subst AreDistinct (hosts_opened seen disk_faults c asking events tells stored recovered roles guests count from)
-      (distinct_opened seen disk_faults c asking events tells stored roles guests apart all)) named none_told
+      are_fresh c options events scripts recordable some most recovered roles
+      (subst AreDistinct (hosts_opened seen disk_faults c options events tells stored recovered roles guests count from)
+      (distinct_opened seen disk_faults c options events tells stored roles guests apart all)) named none_told
 
   pub recorded_run : (tend : Option ℕ) (header : Option (List ℕ)) → is_some header ≡ true → (takes : TakeResults)
-      → IsRecordedRun roles c recovered (run_of tend header c asking events recovered roles takes).actions
+      → IsRecordedRun roles c recovered (run_of tend header c options events recovered roles takes).actions
   recorded_run tend header is takes =
-      let hs = hosts c asking events recovered roles in
+      let hs = hosts c options events recovered roles in
       subst (λ b. IsRecordedRun roles c recovered (node_run tend c takes (course_of b hs)).actions) (sym is) (record {
         fresh = none_told;
         follows = law.follows tend takes hs fresh;

@@ -13,7 +13,7 @@ use Rattle.cx_base.specs.declared.event.Event.{Event}
 use Rattle.cx_base.specs.declared.role.RoleId.{RoleId}
 use Rattle.cx_base.specs.declared.status.Status.TheVariants as status
 use Rattle.cx_base.specs.Faults.{Rises}
-use Rattle.cx_client.specs.declared.asking.Asking.{Asking}
+use Rattle.cx_client.specs.declared.asking.ClientOptions.{ClientOptions}
 use Rattle.cx_edge.specs.Link.{LinkHistory}
 use Rattle.cx_edge.specs.declared.shelf.Shelf.{Shelf}
 use Rattle.cx_journal.specs.Files.{files_records}
@@ -75,7 +75,7 @@ first_of (x ∷ xs) ys (suc n) = let p = first_of xs ys n in (suc p.0, ap (λ l.
 abbrev IsUnhosted : List RoleId → RoleId → Type 0
 IsUnhosted roles me = (i : ℕ) → slice_get roles i ≡ Some me → ⊥
 
-module _ (tend : Option ℕ) (header : Option (List ℕ)) (c : Cluster) (asking : Asking) (events : List Event) (turns : ℕ)
+module _ (tend : Option ℕ) (header : Option (List ℕ)) (c : Cluster) (options : ClientOptions) (events : List Event) (turns : ℕ)
     (roles : List RoleId) (old new : Outside) where
   -- only binds were made, and the stores hold what they had
   binds_did : (n : ℕ) → new.link ≡ option_map (with_binds (map (bind_of c) (take n roles))) old.link
@@ -113,10 +113,10 @@ module _ (tend : Option ℕ) (header : Option (List ℕ)) (c : Cluster) (asking 
       → files_records (Some (new.stored me)) ≡ files_records (Some (old.stored me)))
       → ((me : RoleId) → IsUnhosted roles me → (new.stored me ≡ old.stored me) × (new.stores me ≡ old.stores me))
       → new.tells ≡ old.tells
-      → HostEndsEarly roles tend header c asking events turns old new
+      → HostEndsEarly roles tend header c options events turns old new
   host_early n link out stays others tells =
       let recovered = records_in_files old.stored in
-      let run = map Printed (record_head header) ++ (run_of tend header c asking events recovered roles []).actions in
+      let run = map Printed (record_head header) ++ (run_of tend header c options events recovered roles []).actions in
       let k = first_of (map Bound roles) run n in
       let only : take k.0 (map Bound roles ++ run) ≡ map Bound (take n roles) = k.1 ∙ take-map Bound n roles in (
         recovered,
@@ -127,7 +127,7 @@ module _ (tend : Option ℕ) (header : Option (List ℕ)) (c : Cluster) (asking 
           did = subst (λ actions. Did roles c actions old new) (sym only) (binds_did n link out stays others tells);
           recorded = λ has more. absurd (no_more k.0 (length roles) (length (map Bound roles)) k.2 (length-map roles Bound) more);
         },
-        no_end tend c turns (begun_with header c asking events recovered roles),
+        no_end tend c turns (begun_with header c options events recovered roles),
         tt,
       )
     where
@@ -135,7 +135,7 @@ module _ (tend : Option ℕ) (header : Option (List ℕ)) (c : Cluster) (asking 
       no_more k n m most same more = omega (arith, most, same, more)
 
   -- not all roles could be opened
-  pub host_unopened : (s : OpenStop) → HostEndsEarly roles tend header c asking events turns old new
+  pub host_unopened : (s : OpenStop) → HostEndsEarly roles tend header c options events turns old new
       → HostBinding roles c old new
       → ((role : RoleId) → s ≡ open_stop.StoreFault role → Rises (old.stores role) (new.stores role))
       → ((role : RoleId) (at : ℕ) → s ≡ open_stop.BadStore role at → old.tells ≡ true
@@ -146,7 +146,7 @@ module _ (tend : Option ℕ) (header : Option (List ℕ)) (c : Cluster) (asking 
       → slice_get roles i ≡ Some me → IsBadAs c me (old.stored me) at me.kind → ⊥)
       → ((role : RoleId) → (s ≡ open_stop.StoreFault role → ⊥) → new.stores role ≡ old.stores role)
       → new.writes ≡ old.writes → new.links ≡ old.links
-      → HostAnswered roles tend header c asking events turns old new (unopened_status s)
+      → HostAnswered roles tend header c options events turns old new (unopened_status s)
   host_unopened s early binding failed bad used own stored writes links = record {
     did = did s failed bad used;
     written = λ no. writes;
@@ -176,7 +176,7 @@ module _ (tend : Option ℕ) (header : Option (List ℕ)) (c : Cluster) (asking 
           → ((role : RoleId) (at : ℕ) → s ≡ open_stop.BadStore role at → old.tells ≡ true
           → IsFirstBad roles c old.stored role at)
           → ((role : RoleId) → s ≡ open_stop.NotFresh role → (is_some header ≡ true) × (new.out ≡ old.out)
-          × (old.tells ≡ true → IsFirstUsed roles old.stored role)) → HostDid roles tend header c asking events turns old new
+          × (old.tells ≡ true → IsFirstUsed roles old.stored role)) → HostDid roles tend header c options events turns old new
           (unopened_status s)
       did open_stop.NoMemory failed bad used = early
       did (open_stop.StoreFault role) failed bad used = (early, failed role refl, inl binding)
@@ -238,11 +238,11 @@ pub records_header : (recording : Bool) (text : List ℕ) → is_some (recorded_
 records_header true text = refl
 records_header false text = refl
 
-module _ {D : Type 0} (by : DiskGhosts D) (tend : Option ℕ) (header : Option (List ℕ)) (c : Cluster) (asking : Asking)
+module _ {D : Type 0} (by : DiskGhosts D) (tend : Option ℕ) (header : Option (List ℕ)) (c : Cluster) (options : ClientOptions)
     (events : List Event) (turns : ℕ) (roles : List RoleId) (old new : Outside) (mid : Option LinkHistory) (mid_links : ℕ)
     (stored_mid stored_after : Shelf → List ℕ) (faults : RoleId → ℕ) (guests after : List (Guest (RecordStore D)))
     (known : Option Recorded) (answer : Result RunEnd Stop)
-    (apart : AreApart roles) (all : AreOpened by.seen by.faults c asking events old.tells old.stored roles guests)
+    (apart : AreApart roles) (all : AreOpened by.seen by.faults c options events old.tells old.stored roles guests)
     (count : length guests ≡ length roles)
     (link : mid ≡ option_map (with_binds (map (bind_of c) roles)) old.link) (links : mid_links ≡ old.links)
     (still : (role : RoleId) → faults role ≡ old.stores role)
@@ -253,17 +253,17 @@ module _ {D : Type 0} (by : DiskGhosts D) (tend : Option ℕ) (header : Option (
     (failures mid_links old.writes) (failures new.links new.writes))
     (back : GivesBack by.seen by.faults (disks_in after) old.tells stored_mid stored_after faults new.stores)
     (plain : NoneFilled tend c)
-    (recorded : (recovered : RoleId → List Record) → AreOpenedFrom by.seen by.faults c asking events old.tells old.stored recovered roles guests
+    (recorded : (recovered : RoleId → List Record) → AreOpenedFrom by.seen by.faults c options events old.tells old.stored recovered roles guests
     → is_some header ≡ true → (takes : TakeResults)
-    → IsRecordedRun roles c recovered (run_of tend header c asking events recovered roles takes).actions)
+    → IsRecordedRun roles c recovered (run_of tend header c options events recovered roles takes).actions)
     (unused : is_some header ≡ true → old.tells ≡ true → (i : ℕ) (role : RoleId) → slice_get roles i ≡ Some role
     → is_store_used role (old.stored role) ≡ false) where
-  recovered : AreTold by.seen by.faults c asking events old.tells old.stored roles guests
-  recovered = told_opened by.seen by.faults c asking events old.tells old.stored roles guests apart all
+  recovered : AreTold by.seen by.faults c options events old.tells old.stored roles guests
+  recovered = told_opened by.seen by.faults c options events old.tells old.stored roles guests apart all
 
   -- as what the roles begin, and what all does, over these takes
   abbrev begun : Course
-  begun = begun_with header c asking events recovered.0 roles
+  begun = begun_with header c options events recovered.0 roles
 
   abbrev done_over : TakeResults → Course → List Action
   done_over takes s = map Printed (record_head header) ++ (node_run tend c takes s).actions
@@ -275,7 +275,7 @@ module _ {D : Type 0} (by : DiskGhosts D) (tend : Option ℕ) (header : Option (
   now = scene after known new.link new.out
 
   same : course_in before ≡ begun
-  same = ap (course_of (is_some header)) (hosts_opened by.seen by.faults c asking events old.tells old.stored recovered.0 roles guests count recovered.2)
+  same = ap (course_of (is_some header)) (hosts_opened by.seen by.faults c options events old.tells old.stored recovered.0 roles guests count recovered.2)
 
   did_whole : (e : RunEnd) (runs : RunsBehind (gives by) tend c turns (record_head header) e before now)
       → DidNode (gives by) c (done_over runs.takes begun) before now
@@ -301,7 +301,7 @@ module _ {D : Type 0} (by : DiskGhosts D) (tend : Option ℕ) (header : Option (
 
   others : (me : RoleId) → IsUnhosted roles me → (new.stored me ≡ old.stored me) × (new.stores me ≡ old.stores me)
   others me none =
-      let stays = unhosted by c asking events old.tells old.stored stored_mid stored_after faults new.stores roles guests after named back me none in
+      let stays = unhosted by c options events old.tells old.stored stored_mid stored_after faults new.stores roles guests after named back me none in
       (holds me ∙ stays.0 ∙ unopened me none, stays.1 ∙ still me)
     where
       named : (i : ℕ) (h : Guest (RecordStore D)) → slice_get after i ≡ Some h → (me : RoleId)
@@ -312,7 +312,7 @@ module _ {D : Type 0} (by : DiskGhosts D) (tend : Option ℕ) (header : Option (
             o.0,
             o.1,
             (steady.each i g.0 h g.1 at).0
-                ∙ name_is by.seen by.faults c asking events old.tells old.stored o.0 g.0 o.2,
+                ∙ name_is by.seen by.faults c options events old.tells old.stored o.0 g.0 o.2,
           )
 
   -- each store has the list after these changes
@@ -338,7 +338,7 @@ module _ {D : Type 0} (by : DiskGhosts D) (tend : Option ℕ) (header : Option (
       }
 
   whole : (e : RunEnd) → RunsBehind (gives by) tend c turns (record_head header) e before now
-      → HostEnds roles tend header c asking events turns e old new
+      → HostEnds roles tend header c options events turns e old new
   whole e runs =
       let takes = runs.takes in
       let actions = done_over takes begun in
@@ -348,12 +348,12 @@ module _ {D : Type 0} (by : DiskGhosts D) (tend : Option ℕ) (header : Option (
         record {
           recovered_is = recovered.1;
           told_whole =
-              told_whole by c asking events old.tells old.stored stored_mid stored_after faults new.stores roles guests recovered.0 recovered.2 all count apart
+              told_whole by c options events old.tells old.stored stored_mid stored_after faults new.stores roles guests recovered.0 recovered.2 all count apart
               (kept_in actions) after did.names did.kept;
           taken = subst (λ (s : Course). AreTakesOf takes ((node_run tend c takes s).actions)) same runs.taken;
           did =
               did_behind actions did.link did.printed
-              (ran_stores by c asking events old.tells old.stored stored_mid stored_after faults new.stores roles guests recovered.0 recovered.2 all count apart
+              (ran_stores by c options events old.tells old.stored stored_mid stored_after faults new.stores roles guests recovered.0 recovered.2 all count apart
               (kept_in actions) after did.names did.kept back);
           recorded = λ has. recorded recovered.0 recovered.2 has takes;
         },
@@ -394,7 +394,7 @@ module _ {D : Type 0} (by : DiskGhosts D) (tend : Option ℕ) (header : Option (
 
   ended_at : (next : Option Action) (takes : TakeResults) (m : ℕ) → Did roles c (map Bound roles ++ take m (done_over takes begun)) old new
       → IsUnderway tend c turns begun takes → IfSome next (λ a. slice_get (done_over takes begun) m ≡ Some a)
-      → HostEndsAt next roles tend header c asking events turns old new
+      → HostEndsAt next roles tend header c options events turns old new
   ended_at next takes m did underway here =
       let actions = done_over takes begun in
       let k = behind (map Bound roles) actions m in (
@@ -415,40 +415,40 @@ module _ {D : Type 0} (by : DiskGhosts D) (tend : Option ℕ) (header : Option (
   underway_so e runs = subst (λ (s : Course). IsUnderway tend c turns s runs.takes) same runs.underway
 
   front : (e : Stop) → RunsPartBehind (gives by) tend c turns (record_head header) e before now
-      → HostEndsEarly roles tend header c asking events turns old new
+      → HostEndsEarly roles tend header c options events turns old new
   front e runs =
       let p = did_part e runs in
       let actions = done_over runs.takes begun in
       let part = cut actions p.count
-      (stops_stores by c asking events old.tells old.stored stored_mid stored_after faults new.stores roles guests recovered.0 recovered.2 all count apart
+      (stops_stores by c options events old.tells old.stored stored_mid stored_after faults new.stores roles guests recovered.0 recovered.2 all count apart
       (kept_in (take p.count actions)) p.mid p.did.names p.did.kept after back e
       (slice_get actions p.count) p.stops) p.did.link p.did.printed in
       ended_at None runs.takes part.0 part.1 (underway_so e runs) tt
 
   -- the lines of the next step don't fit the record
   full : RunsPartBehind (gives by) tend c turns (record_head header) stop.RecordFull before now
-      → HostEndsAt (Some Filled) roles tend header c asking events turns old new × (is_some header ≡ true)
+      → HostEndsAt (Some Filled) roles tend header c options events turns old new × (is_some header ≡ true)
   full runs =
       let p = did_part stop.RecordFull runs in
       let actions = done_over runs.takes begun in
       let stores = uncut actions p.count Filled filled_differs p.stops.0
-      (stops_stores by c asking events old.tells old.stored stored_mid stored_after faults new.stores roles guests recovered.0 recovered.2 all count apart
+      (stops_stores by c options events old.tells old.stored stored_mid stored_after faults new.stores roles guests recovered.0 recovered.2 all count apart
       (kept_in (take p.count actions)) p.mid p.did.names p.did.kept after back stop.RecordFull
       (slice_get actions p.count) p.stops) in (
         ended_at (Some Filled) runs.takes p.count (did_behind (take p.count actions) p.did.link p.did.printed stores)
             (underway_so stop.RecordFull runs) p.stops.0,
-        filled_records tend c header runs.takes (hosts c asking events recovered.0 roles) p.count plain p.stops.0,
+        filled_records tend c header runs.takes (hosts c options events recovered.0 roles) p.count plain p.stops.0,
       )
 
   -- a take failed, which was next
   failed_take : RunsPartBehind (gives by) tend c turns (record_head header) stop.LinkFault before now
-      → (what : Option (List ℕ)) × HostEndsAt (Some (Took what)) roles tend header c asking events turns old new
+      → (what : Option (List ℕ)) × HostEndsAt (Some (Took what)) roles tend header c options events turns old new
   failed_take runs =
       let p = did_part stop.LinkFault runs in
       let actions = done_over runs.takes begun in
       let next = p.stops.0 in
       let stores = uncut actions p.count (Took next.0) (took_differs next.0) next.1
-      (stops_stores by c asking events old.tells old.stored stored_mid stored_after faults new.stores roles guests recovered.0 recovered.2 all count apart
+      (stops_stores by c options events old.tells old.stored stored_mid stored_after faults new.stores roles guests recovered.0 recovered.2 all count apart
       (kept_in (take p.count actions)) p.mid p.did.names p.did.kept after back stop.LinkFault
       (slice_get actions p.count) p.stops) in (
         next.0,
@@ -458,7 +458,7 @@ module _ {D : Type 0} (by : DiskGhosts D) (tend : Option ℕ) (header : Option (
 
   -- a change failed, which was next, and was made or not
   failed_change : (role : RoleId) → RunsPartBehind (gives by) tend c turns (record_head header) (stop.StoreFault role) before now
-      → HostEndsAtChange role roles tend header c asking events turns old new
+      → HostEndsAtChange role roles tend header c options events turns old new
   failed_change role runs =
       let p = did_part (stop.StoreFault role) runs in
       let actions = done_over runs.takes begun in
@@ -468,7 +468,7 @@ module _ {D : Type 0} (by : DiskGhosts D) (tend : Option ℕ) (header : Option (
         k.0,
         p.stops.0,
         parts p.count actions runs.takes refl p.did.link p.did.printed
-            (stops_stores by c asking events old.tells old.stored stored_mid stored_after faults new.stores roles guests recovered.0 recovered.2 all count apart
+            (stops_stores by c options events old.tells old.stored stored_mid stored_after faults new.stores roles guests recovered.0 recovered.2 all count apart
             (kept_in (take p.count actions)) p.mid p.did.names p.did.kept after back (stop.StoreFault role)
             (slice_get actions p.count) p.stops),
         underway_so (stop.StoreFault role) runs,
@@ -477,7 +477,7 @@ module _ {D : Type 0} (by : DiskGhosts D) (tend : Option ℕ) (header : Option (
     where
       part_at : (takes : TakeResults) (m k : ℕ) → take k (map Bound roles ++ done_over takes begun) ≡ map Bound roles ++ take m (done_over takes begun)
           → Did roles c (map Bound roles ++ take m (done_over takes begun)) old new
-          → ServedPart roles tend header c asking events recovered.0 takes k old new
+          → ServedPart roles tend header c options events recovered.0 takes k old new
       part_at takes m k e did = record {
         recovered_is = recovered.1;
         did = subst (λ l. Did roles c l old new) (sym e) did;
@@ -488,8 +488,8 @@ module _ {D : Type 0} (by : DiskGhosts D) (tend : Option ℕ) (header : Option (
           → Linked c (take n actions) mid new.link → Appends old.out new.out (printed_in (take n actions))
           → StoresTell (kept_in (take n actions))
           ⊎ ((k : StoreChange) × (slice_get actions n ≡ Some (Kept k)) × StoresTell (kept_in (take n actions) ++ k ∷ []))
-          → ServedPart roles tend header c asking events recovered.0 takes (behind (map Bound roles) (done_over takes begun) n).0 old new
-          ⊎ ServedPart roles tend header c asking events recovered.0 takes (suc (behind (map Bound roles) (done_over takes begun) n).0) old new
+          → ServedPart roles tend header c options events recovered.0 takes (behind (map Bound roles) (done_over takes begun) n).0 old new
+          ⊎ ServedPart roles tend header c options events recovered.0 takes (suc (behind (map Bound roles) (done_over takes begun) n).0) old new
       parts n actions takes is linked printed (inl stores) =
           let did = did_behind (take n actions) linked printed stores in
           inl (part_at takes n (behind (map Bound roles) (done_over takes begun) n).0 (behind (map Bound roles) (done_over takes begun) n).1
@@ -501,7 +501,7 @@ module _ {D : Type 0} (by : DiskGhosts D) (tend : Option ℕ) (header : Option (
           ∙ (behind (map Bound roles) (done_over takes begun) (suc n)).1)
           (subst (λ l. Did roles c (map Bound roles ++ take (suc n) l) old new) is did))
 
-  did_so : (a : Result RunEnd Stop) → answer ≡ a → HostDid roles tend header c asking events turns old new (ended_status a)
+  did_so : (a : Result RunEnd Stop) → answer ≡ a → HostDid roles tend header c options events turns old new (ended_status a)
   did_so (Ok end.Done) e =
       whole end.Done (subst (λ a. IfOk a (λ x. RunsBehind (gives by) tend c turns (record_head header) x before now)) e ran.done)
   did_so (Ok end.Turns) e =
@@ -511,8 +511,8 @@ module _ {D : Type 0} (by : DiskGhosts D) (tend : Option ℕ) (header : Option (
       stopped s e runs (front s runs)
     where
       stopped : (s : Stop) → answer ≡ Err s → RunsPartBehind (gives by) tend c turns (record_head header) s before now
-          → HostEndsEarly roles tend header c asking events turns old new
-          → HostDid roles tend header c asking events turns old new (ended_status (Err s))
+          → HostEndsEarly roles tend header c options events turns old new
+          → HostDid roles tend header c options events turns old new (ended_status (Err s))
       stopped stop.NoMemory e runs early = early
       stopped stop.WriteFault e runs early = (early, ran.written e)
       stopped stop.LinkFault e runs early = (early, subst (λ n. Rises n new.links) links (ran.linked e), inr (failed_take runs))
@@ -522,7 +522,7 @@ module _ {D : Type 0} (by : DiskGhosts D) (tend : Option ℕ) (header : Option (
           let actions = done_over runs.takes begun in (
             early,
             subst (λ n. Rises n (new.stores role)) (still role)
-                (stops_rises by c asking events old.tells old.stored stored_mid stored_after faults new.stores roles guests recovered.0 recovered.2 all count apart
+                (stops_rises by c options events old.tells old.stored stored_mid stored_after faults new.stores roles guests recovered.0 recovered.2 all count apart
                 (kept_in (take p.count actions)) p.mid p.did.names p.did.kept after back role
                 (slice_get actions p.count) p.stops),
             inr (failed_change role runs),
@@ -534,7 +534,7 @@ module _ {D : Type 0} (by : DiskGhosts D) (tend : Option ℕ) (header : Option (
   stored_so (Ok e) is role unsaid =
       let runs = subst (λ a. IfOk a (λ x. RunsBehind (gives by) tend c turns (record_head header) x before now)) is ran.done in
       let did = did_whole e runs in
-      ran_still by c asking events old.tells old.stored stored_mid stored_after
+      ran_still by c options events old.tells old.stored stored_mid stored_after
       faults new.stores roles guests recovered.0 recovered.2 all count apart
       (kept_in (done_over runs.takes begun)) after did.names did.kept back role
       ∙ still role
@@ -542,7 +542,7 @@ module _ {D : Type 0} (by : DiskGhosts D) (tend : Option ℕ) (header : Option (
       let runs = subst (λ a. IfErr a (λ x. RunsPartBehind (gives by) tend c turns (record_head header) x before now)) is ran.part in
       let p = did_part s runs in
       let actions = done_over runs.takes begun in
-      stops_still by c asking events old.tells old.stored stored_mid stored_after
+      stops_still by c options events old.tells old.stored stored_mid stored_after
       faults new.stores roles guests recovered.0 recovered.2 all count apart
       (kept_in (take p.count actions)) p.mid p.did.names p.did.kept after back s
       (slice_get actions p.count) p.stops role (λ e. unsaid (ap ended_status (is ∙ ap Err e)))
@@ -554,11 +554,11 @@ module _ {D : Type 0} (by : DiskGhosts D) (tend : Option ℕ) (header : Option (
   good_so t i role at here bad =
       let g = get_beside roles guests i role count here in
       let o = all i g.0 g.1 in
-      good_opened by.seen by.faults c asking events old.tells old.stored o.0 g.0 at o.2 t
+      good_opened by.seen by.faults c options events old.tells old.stored o.0 g.0 at o.2 t
       (subst (λ r. IsBadAs c r (old.stored r) at r.kind) (same_Some role o.0 (sym here ∙ o.1)) bad)
 
   -- the roles ran to this answer
-  pub host_ran : HostAnswered roles tend header c asking events turns old new (ended_status answer)
+  pub host_ran : HostAnswered roles tend header c options events turns old new (ended_status answer)
   host_ran = record {
     did = did_so answer refl;
     written = λ no. ran.unwritten (λ e. no (ap ended_status e));

@@ -7,7 +7,7 @@ use Rattle.cx_base.specs.declared.cluster.Cluster.{Cluster}
 use Rattle.cx_base.specs.declared.event.Event.{Event}
 use Rattle.cx_base.specs.declared.role.RoleId.{RoleId}
 use Rattle.cx_base.specs.Role.{same_role}
-use Rattle.cx_client.specs.declared.asking.Asking.{Asking}
+use Rattle.cx_client.specs.declared.asking.ClientOptions.{ClientOptions}
 use Rattle.cx_journal.specs.Files.{Files}
 use Rattle.cx_journal.specs.State.{records_or_none}
 use Rattle.cx_journal.specs.declared.store.RecordStore.{RecordStore}
@@ -19,12 +19,12 @@ use Rattle.cx_course.specs.Hosted.{Hosted}
 use Rattle.cx_seat.specs.Opening.{AreApart, AreOpened, IsOpened, is_durable, opened_as}
 use Rattle.cx_node.specs.Serving.{hosts, records_in_files}
 
-module _ {D : Type 0} (seen : D → Option (List ℕ)) (disk_faults : D → ℕ) (c : Cluster) (asking : Asking)
+module _ {D : Type 0} (seen : D → Option (List ℕ)) (disk_faults : D → ℕ) (c : Cluster) (options : ClientOptions)
     (events : List Event) (tells : Bool) (stored : RoleId → Files) where
   -- a role was opened from these records
   abbrev pub IsOpenedFrom : List Record → RoleId → Guest (RecordStore D) → Type 0
   IsOpenedFrom records me guest =
-      (o : IsOpened seen disk_faults c asking events tells (stored me) me guest) × (o.records ≡ records)
+      (o : IsOpened seen disk_faults c options events tells (stored me) me guest) × (o.records ≡ records)
 
   -- each role of a list was opened from its records
   abbrev pub AreOpenedFrom : (RoleId → List Record) → List RoleId → List (Guest (RecordStore D)) → Type 0
@@ -43,7 +43,7 @@ module _ {D : Type 0} (seen : D → Option (List ℕ)) (disk_faults : D → ℕ)
 
   told_more : (r : RoleId) (rs : List RoleId) (g : Guest (RecordStore D)) (gs : List (Guest (RecordStore D)))
       → AreApart (r ∷ rs)
-      → IsOpened seen disk_faults c asking events tells (stored r) r g → AreTold rs gs → AreTold (r ∷ rs) (g ∷ gs)
+      → IsOpened seen disk_faults c options events tells (stored r) r g → AreTold rs gs → AreTold (r ∷ rs) (g ∷ gs)
   told_more r rs g gs apart first rest = (recovered, is_told, from)
     where
       recovered : RoleId → List Record
@@ -68,24 +68,24 @@ module _ {D : Type 0} (seen : D → Option (List ℕ)) (disk_faults : D → ℕ)
           subst (λ rs. IsOpenedFrom rs me guest) (sym same) (rest.2 i me guest a b)
 
   pub told_opened : (roles : List RoleId) (guests : List (Guest (RecordStore D))) → AreApart roles
-      → AreOpened seen disk_faults c asking events tells stored roles guests → AreTold roles guests
+      → AreOpened seen disk_faults c options events tells stored roles guests → AreTold roles guests
   told_opened roles [] apart all = (records_in_files stored, (λ t me d. refl), λ i me guest a b. absurd (none-some guest b))
   told_opened [] (g ∷ gs) apart all = let o = all 0 g refl in absurd (none-some o.0 o.1)
   told_opened (r ∷ rs) (g ∷ gs) apart all =
       let one = all 0 g refl in
-      told_more r rs g gs apart (subst (λ me. IsOpened seen disk_faults c asking events tells (stored me) me g)
+      told_more r rs g gs apart (subst (λ me. IsOpened seen disk_faults c options events tells (stored me) me g)
       (sym (same_Some r one.0 one.1)) one.2)
       (told_opened rs gs (λ i j me a b. let e = apart (suc i) (suc j) me a b in omega (arith, e)) (λ i. all (suc i)))
 
   pub hosts_opened : (recovered : RoleId → List Record) (roles : List RoleId) (guests : List (Guest (RecordStore D)))
       → length guests ≡ length roles → AreOpenedFrom recovered roles guests
-      → hosted_in guests ≡ hosts c asking events recovered roles
+      → hosted_in guests ≡ hosts c options events recovered roles
   hosts_opened recovered [] [] same from = refl
   hosts_opened recovered [] (g ∷ gs) same from = absurd (omega (arith, same))
   hosts_opened recovered (r ∷ rs) [] same from = absurd (omega (arith, same))
   hosts_opened recovered (r ∷ rs) (g ∷ gs) same from =
       let o = from 0 r g refl refl in
       let fewer : length gs ≡ length rs = omega (arith, same) in
-      ap (λ (h : Hosted). h ∷ hosted_in gs) (o.0.hosted ∙ ap (λ rec. opened_as c asking events r rec r.kind) o.1)
-      ∙ ap (λ (hs : List Hosted). opened_as c asking events r (recovered r) r.kind ∷ hs)
+      ap (λ (h : Hosted). h ∷ hosted_in gs) (o.0.hosted ∙ ap (λ rec. opened_as c options events r rec r.kind) o.1)
+      ∙ ap (λ (hs : List Hosted). opened_as c options events r (recovered r) r.kind ∷ hs)
       (hosts_opened recovered rs gs fewer (λ i. from (suc i)))

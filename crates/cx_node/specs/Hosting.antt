@@ -7,7 +7,7 @@ use Rattle.cx_base.specs.declared.role.RoleId.{RoleId}
 use Rattle.cx_base.specs.declared.status.Status.{Status}
 use Rattle.cx_base.specs.declared.status.Status.TheVariants as status
 use Rattle.cx_base.specs.Faults.{Rises}
-use Rattle.cx_client.specs.declared.asking.Asking.{Asking}
+use Rattle.cx_client.specs.declared.asking.ClientOptions.{ClientOptions}
 use Rattle.cx_disk.specs.declared.disk.Disk.{Ghosts as DiskGhosts}
 use Rattle.cx_edge.specs.Link.{Bind, LinkHistory}
 use Rattle.cx_journal.specs.Store.{IsStoreChange}
@@ -103,61 +103,61 @@ pub record Ran {K : Type 0} (gives : Changing K) (tend : Option ℕ) (c : Cluste
   pub unlinked : (answer ≡ Err stop.LinkFault → ⊥) → after.link ≡ before.link
 
 -- the whole run was made, to this end
-abbrev pub HostEnds : List RoleId → Option ℕ → Option (List ℕ) → Cluster → Asking → List Event → ℕ → RunEnd → Outside → Outside → Type 0
-HostEnds roles tend header c asking events turns e old new =
-    (recovered : RoleId → List Record) × (takes : TakeResults) × Served roles tend header c asking events recovered takes old new
-    × IsEnd tend c turns (begun_with header c asking events recovered roles) takes e
+abbrev pub HostEnds : List RoleId → Option ℕ → Option (List ℕ) → Cluster → ClientOptions → List Event → ℕ → RunEnd → Outside → Outside → Type 0
+HostEnds roles tend header c options events turns e old new =
+    (recovered : RoleId → List Record) × (takes : TakeResults) × Served roles tend header c options events recovered takes old new
+    × IsEnd tend c turns (begun_with header c options events recovered roles) takes e
 
 -- the first of its actions were done; this one was next, if that is known
-abbrev pub HostEndsAt : Option Action → List RoleId → Option ℕ → Option (List ℕ) → Cluster → Asking → List Event → ℕ → Outside → Outside → Type 0
-HostEndsAt next roles tend header c asking events turns old new =
+abbrev pub HostEndsAt : Option Action → List RoleId → Option ℕ → Option (List ℕ) → Cluster → ClientOptions → List Event → ℕ → Outside → Outside → Type 0
+HostEndsAt next roles tend header c options events turns old new =
     (recovered : RoleId → List Record) × (takes : TakeResults) × (count : ℕ)
-    × ServedPart roles tend header c asking events recovered takes count old new
-    × IsUnderway tend c turns (begun_with header c asking events recovered roles) takes
-    × IfSome next (λ (action : Action). slice_get (whole_run tend header c asking events recovered roles takes) count ≡ Some action)
+    × ServedPart roles tend header c options events recovered takes count old new
+    × IsUnderway tend c turns (begun_with header c options events recovered roles) takes
+    × IfSome next (λ (action : Action). slice_get (whole_run tend header c options events recovered roles takes) count ≡ Some action)
 
-abbrev pub HostEndsEarly : List RoleId → Option ℕ → Option (List ℕ) → Cluster → Asking → List Event → ℕ → Outside → Outside → Type 0
-HostEndsEarly roles tend header c asking events turns old new = HostEndsAt None roles tend header c asking events turns old new
+abbrev pub HostEndsEarly : List RoleId → Option ℕ → Option (List ℕ) → Cluster → ClientOptions → List Event → ℕ → Outside → Outside → Type 0
+HostEndsEarly roles tend header c options events turns old new = HostEndsAt None roles tend header c options events turns old new
 
 -- only the first of its roles were bound
 abbrev pub HostBinding : List RoleId → Cluster → Outside → Outside → Type 0
 HostBinding roles c old new = (bound : ℕ) × DidOutside roles c (map Bound (take bound roles)) old new
 
 -- all before a change of this role's store was done, and nothing after; the change itself was made or not
-abbrev pub HostEndsAtChange : RoleId → List RoleId → Option ℕ → Option (List ℕ) → Cluster → Asking → List Event → ℕ → Outside → Outside → Type 0
-HostEndsAtChange role roles tend header c asking events turns old new =
+abbrev pub HostEndsAtChange : RoleId → List RoleId → Option ℕ → Option (List ℕ) → Cluster → ClientOptions → List Event → ℕ → Outside → Outside → Type 0
+HostEndsAtChange role roles tend header c options events turns old new =
     (recovered : RoleId → List Record) × (takes : TakeResults) × (count : ℕ) × (change : KeeperChange)
-    × (ServedPart roles tend header c asking events recovered takes count old new
-    ⊎ ServedPart roles tend header c asking events recovered takes (suc count) old new)
-    × IsUnderway tend c turns (begun_with header c asking events recovered roles) takes
-    × (slice_get (whole_run tend header c asking events recovered roles takes) count
+    × (ServedPart roles tend header c options events recovered takes count old new
+    ⊎ ServedPart roles tend header c options events recovered takes (suc count) old new)
+    × IsUnderway tend c turns (begun_with header c options events recovered roles) takes
+    × (slice_get (whole_run tend header c options events recovered roles takes) count
     ≡ Some (Kept (record { role = role; change = change })))
 
 -- what was done, and why, for each answer; hosting reads nothing
-abbrev pub HostDid : List RoleId → Option ℕ → Option (List ℕ) → Cluster → Asking → List Event → ℕ → Outside → Outside → Status → Type 0
-HostDid roles tend header c asking events turns old new status.Done =
-    HostEnds roles tend header c asking events turns end.Done old new
-HostDid roles tend header c asking events turns old new status.Turns =
-    HostEnds roles tend header c asking events turns end.Turns old new
-HostDid roles tend header c asking events turns old new status.LinkFault =
-    HostEndsEarly roles tend header c asking events turns old new × Rises old.links new.links
+abbrev pub HostDid : List RoleId → Option ℕ → Option (List ℕ) → Cluster → ClientOptions → List Event → ℕ → Outside → Outside → Status → Type 0
+HostDid roles tend header c options events turns old new status.Done =
+    HostEnds roles tend header c options events turns end.Done old new
+HostDid roles tend header c options events turns old new status.Turns =
+    HostEnds roles tend header c options events turns end.Turns old new
+HostDid roles tend header c options events turns old new status.LinkFault =
+    HostEndsEarly roles tend header c options events turns old new × Rises old.links new.links
     × (HostBinding roles c old new
-    ⊎ ((what : Option (List ℕ)) × HostEndsAt (Some (Took what)) roles tend header c asking events turns old new))
-HostDid roles tend header c asking events turns old new status.WriteFault =
-    HostEndsEarly roles tend header c asking events turns old new × Rises old.writes new.writes
-HostDid roles tend header c asking events turns old new (status.StoreFault role) =
-    HostEndsEarly roles tend header c asking events turns old new × Rises (old.stores role) (new.stores role)
-    × (HostBinding roles c old new ⊎ HostEndsAtChange role roles tend header c asking events turns old new)
-HostDid roles tend header c asking events turns old new (status.BadStore role at) =
-    HostEndsEarly roles tend header c asking events turns old new × (old.tells ≡ true → IsFirstBad roles c old.stored role at)
-HostDid roles tend header c asking events turns old new (status.NotFresh role) =
-    HostEndsEarly roles tend header c asking events turns old new × (is_some header ≡ true) × (new.out ≡ old.out)
+    ⊎ ((what : Option (List ℕ)) × HostEndsAt (Some (Took what)) roles tend header c options events turns old new))
+HostDid roles tend header c options events turns old new status.WriteFault =
+    HostEndsEarly roles tend header c options events turns old new × Rises old.writes new.writes
+HostDid roles tend header c options events turns old new (status.StoreFault role) =
+    HostEndsEarly roles tend header c options events turns old new × Rises (old.stores role) (new.stores role)
+    × (HostBinding roles c old new ⊎ HostEndsAtChange role roles tend header c options events turns old new)
+HostDid roles tend header c options events turns old new (status.BadStore role at) =
+    HostEndsEarly roles tend header c options events turns old new × (old.tells ≡ true → IsFirstBad roles c old.stored role at)
+HostDid roles tend header c options events turns old new (status.NotFresh role) =
+    HostEndsEarly roles tend header c options events turns old new × (is_some header ≡ true) × (new.out ≡ old.out)
     × (old.tells ≡ true → IsFirstUsed roles old.stored role)
-HostDid roles tend header c asking events turns old new status.RecordFull =
-    HostEndsAt (Some Filled) roles tend header c asking events turns old new × (is_some header ≡ true)
-HostDid roles tend header c asking events turns old new status.NoMemory =
-    HostEndsEarly roles tend header c asking events turns old new
-HostDid roles tend header c asking events turns old new other = ⊥
+HostDid roles tend header c options events turns old new status.RecordFull =
+    HostEndsAt (Some Filled) roles tend header c options events turns old new × (is_some header ≡ true)
+HostDid roles tend header c options events turns old new status.NoMemory =
+    HostEndsEarly roles tend header c options events turns old new
+HostDid roles tend header c options events turns old new other = ⊥
 
 -- the roles ran
 abbrev pub HasRun : Status → Type 0
@@ -174,9 +174,9 @@ HasOpened other = HasRun other
 
 -- what hosting answered; a failed write or take, and a store that failed, is always reported; each store that was opened is its
 -- role's own, and roles of a node that records run only from stores without records
-pub record HostAnswered (roles : List RoleId) (tend : Option ℕ) (header : Option (List ℕ)) (c : Cluster) (asking : Asking) (events : List Event)
+pub record HostAnswered (roles : List RoleId) (tend : Option ℕ) (header : Option (List ℕ)) (c : Cluster) (options : ClientOptions) (events : List Event)
     (turns : ℕ) (old new : Outside) (s : Status) : Type 0 where
-  pub did : HostDid roles tend header c asking events turns old new s
+  pub did : HostDid roles tend header c options events turns old new s
   pub written : (s ≡ status.WriteFault → ⊥) → new.writes ≡ old.writes
   pub linked : (s ≡ status.LinkFault → ⊥) → new.links ≡ old.links
   pub good : HasOpened s → old.tells ≡ true → (i : ℕ) (role : RoleId) (at : ℕ) → slice_get roles i ≡ Some role

@@ -7,7 +7,7 @@ use Rattle.cx_base.specs.declared.role.RoleId.{RoleId}
 use Rattle.cx_base.specs.declared.status.Status.{Status}
 use Rattle.cx_base.specs.declared.status.Status.TheVariants as status
 use Rattle.cx_base.specs.Faults.{Rises}
-use Rattle.cx_client.specs.declared.asking.Asking.{Asking}
+use Rattle.cx_client.specs.declared.asking.ClientOptions.{ClientOptions}
 use Rattle.cx_edge.specs.declared.depot.Depot.{Ghosts as DepotGhosts}
 use Rattle.cx_edge.specs.declared.link.Link.{Ghosts as LinkGhosts}
 use Rattle.cx_edge.specs.declared.sink.Sink.{Ghosts as SinkGhosts}
@@ -75,21 +75,21 @@ abbrev pub records_in_files : (RoleId → Files) → RoleId → List Record
 records_in_files stored me = records_or_none (files_image (Some me.kind) (stored me))
 
 -- how hosted clients ask: they ask others where their node tends them
-abbrev pub asking_of : Option ℕ → ℕ → Asking
-asking_of tend window = record { window = window; others = is_some tend }
+abbrev pub options_of : Option ℕ → ℕ → ClientOptions
+options_of tend window = record { window = window; others = is_some tend }
 
 -- the hosted roles as they are opened, each from these records
-abbrev pub hosts : Cluster → Asking → List Event → (RoleId → List Record) → List RoleId → List Hosted
-hosts c asking events recovered roles = map (λ (me : RoleId). opened_as c asking events me (recovered me) me.kind) roles
+abbrev pub hosts : Cluster → ClientOptions → List Event → (RoleId → List Record) → List RoleId → List Hosted
+hosts c options events recovered roles = map (λ (me : RoleId). opened_as c options events me (recovered me) me.kind) roles
 
 -- these roles as a node begins with them; one that records has the header of its record
-abbrev pub begun_with : Option (List ℕ) → Cluster → Asking → List Event → (RoleId → List Record) → List RoleId → Course
-begun_with header c asking events recovered roles = course_of (is_some header) (hosts c asking events recovered roles)
+abbrev pub begun_with : Option (List ℕ) → Cluster → ClientOptions → List Event → (RoleId → List Record) → List RoleId → Course
+begun_with header c options events recovered roles = course_of (is_some header) (hosts c options events recovered roles)
 
 -- the run of these roles over what the takes of a link gave
-abbrev pub run_of : Option ℕ → Option (List ℕ) → Cluster → Asking → List Event → (RoleId → List Record) → List RoleId → TakeResults
+abbrev pub run_of : Option ℕ → Option (List ℕ) → Cluster → ClientOptions → List Event → (RoleId → List Record) → List RoleId → TakeResults
     → Moved Course
-run_of tend header c asking events recovered roles takes = node_run tend c takes (begun_with header c asking events recovered roles)
+run_of tend header c options events recovered roles takes = node_run tend c takes (begun_with header c options events recovered roles)
 
 -- the header of the record of a node that records, where the input has this one
 abbrev pub recorded_header : Bool → List ℕ → Option (List ℕ)
@@ -114,10 +114,10 @@ record_head None = []
 record_head (Some header) = header ++ codes "---\n"
 
 -- All that is done to the end of a run: each role is bound to its port, a record is begun, and then come the actions of the run.
-abbrev pub whole_run : Option ℕ → Option (List ℕ) → Cluster → Asking → List Event → (RoleId → List Record) → List RoleId → TakeResults
+abbrev pub whole_run : Option ℕ → Option (List ℕ) → Cluster → ClientOptions → List Event → (RoleId → List Record) → List RoleId → TakeResults
     → List Action
-whole_run tend header c asking events recovered roles takes =
-    map Bound roles ++ (map Printed (record_head header) ++ (run_of tend header c asking events recovered roles takes).actions)
+whole_run tend header c options events recovered roles takes =
+    map Bound roles ++ (map Printed (record_head header) ++ (run_of tend header c options events recovered roles takes).actions)
 
 -- These actions were done, and no others: the link's history has their binds, takes and sends, their bytes are
 -- printed, and each hosted role's store has the list that it had, after their changes of it. Of a role that isn't
@@ -140,24 +140,24 @@ pub record IsRecordedRun (roles : List RoleId) (c : Cluster) (recovered : RoleId
   pub in_flight : EachKeptIsNext c actions
 
 -- A whole run was done: over what the takes of the link gave, and from the records that the stores had.
-pub record Served (roles : List RoleId) (tend : Option ℕ) (header : Option (List ℕ)) (c : Cluster) (asking : Asking) (events : List Event)
+pub record Served (roles : List RoleId) (tend : Option ℕ) (header : Option (List ℕ)) (c : Cluster) (options : ClientOptions) (events : List Event)
     (recovered : RoleId → List Record) (takes : TakeResults) (old new : Outside) : Type 0 where
   pub recovered_is : AreDepotRecords old recovered
   pub told_whole : old.tells ≡ true → (i : ℕ) (me : RoleId) → slice_get roles i ≡ Some me → is_durable me.kind ≡ true
       → files_records (Some (old.stored me)) ≡ recovered me
-  pub taken : AreTakesOf takes (run_of tend header c asking events recovered roles takes).actions
-  pub did : Did roles c (whole_run tend header c asking events recovered roles takes) old new
-  pub recorded : is_some header ≡ true → IsRecordedRun roles c recovered (run_of tend header c asking events recovered roles takes).actions
+  pub taken : AreTakesOf takes (run_of tend header c options events recovered roles takes).actions
+  pub did : Did roles c (whole_run tend header c options events recovered roles takes) old new
+  pub recorded : is_some header ≡ true → IsRecordedRun roles c recovered (run_of tend header c options events recovered roles takes).actions
 
 -- The first actions of a run were done, one after the other, and no others. What the link gave is in them too, so
 -- each rests on what was taken and kept before it; what the takes to come would give is free.
-pub record ServedPart (roles : List RoleId) (tend : Option ℕ) (header : Option (List ℕ)) (c : Cluster) (asking : Asking)
+pub record ServedPart (roles : List RoleId) (tend : Option ℕ) (header : Option (List ℕ)) (c : Cluster) (options : ClientOptions)
     (events : List Event) (recovered : RoleId → List Record) (takes : TakeResults) (count : ℕ) (old new : Outside) : Type 0 where
   pub recovered_is : AreDepotRecords old recovered
-  pub did : Did roles c (take count (whole_run tend header c asking events recovered roles takes)) old new
+  pub did : Did roles c (take count (whole_run tend header c options events recovered roles takes)) old new
   -- a record is begun once all stores are opened, and were empty
   pub recorded : is_some header ≡ true → length roles < count
-      → IsRecordedRun roles c recovered (run_of tend header c asking events recovered roles takes).actions
+      → IsRecordedRun roles c recovered (run_of tend header c options events recovered roles takes).actions
 
 -- the input was read to its end, and no read failed
 abbrev pub AllRead : Outside → Outside → Type 0
@@ -168,17 +168,17 @@ abbrev pub Ends : List RoleId → Option ℕ → ℕ → Bool → ℕ → RunEnd
 Ends roles tend window recording turns e old new =
     (header : Option (List ℕ)) × (c : Cluster) × (events : List Event) × (recovered : RoleId → List Record) × (takes : TakeResults)
     × InputSays recording roles old.left header c events × AllRead old new
-    × Served roles tend header c (asking_of tend window) events recovered takes old new
-    × IsEnd tend c turns (begun_with header c (asking_of tend window) events recovered roles) takes e
+    × Served roles tend header c (options_of tend window) events recovered takes old new
+    × IsEnd tend c turns (begun_with header c (options_of tend window) events recovered roles) takes e
 
 -- the input was accepted, and the first actions of its run were done; this one was next, if that is known
 abbrev pub EndsAt : Option Action → List RoleId → Option ℕ → ℕ → Bool → ℕ → Outside → Outside → Type 0
 EndsAt next roles tend window recording turns old new =
     (header : Option (List ℕ)) × (c : Cluster) × (events : List Event) × (recovered : RoleId → List Record) × (takes : TakeResults) × (count : ℕ)
     × InputSays recording roles old.left header c events × AllRead old new
-    × ServedPart roles tend header c (asking_of tend window) events recovered takes count old new
-    × IsUnderway tend c turns (begun_with header c (asking_of tend window) events recovered roles) takes
-    × IfSome next (λ (action : Action). slice_get (whole_run tend header c (asking_of tend window) events recovered roles takes) count ≡ Some action)
+    × ServedPart roles tend header c (options_of tend window) events recovered takes count old new
+    × IsUnderway tend c turns (begun_with header c (options_of tend window) events recovered roles) takes
+    × IfSome next (λ (action : Action). slice_get (whole_run tend header c (options_of tend window) events recovered roles takes) count ≡ Some action)
 
 -- the input was accepted, and the first actions of its run were done
 abbrev pub EndsEarly : List RoleId → Option ℕ → ℕ → Bool → ℕ → Outside → Outside → Type 0
@@ -195,10 +195,10 @@ abbrev pub EndsAtChange : RoleId → List RoleId → Option ℕ → ℕ → Bool
 EndsAtChange role roles tend window recording turns old new =
     (header : Option (List ℕ)) × (c : Cluster) × (events : List Event) × (recovered : RoleId → List Record) × (takes : TakeResults) × (count : ℕ)
     × (change : KeeperChange) × InputSays recording roles old.left header c events × AllRead old new
-    × (ServedPart roles tend header c (asking_of tend window) events recovered takes count old new
-    ⊎ ServedPart roles tend header c (asking_of tend window) events recovered takes (suc count) old new)
-    × IsUnderway tend c turns (begun_with header c (asking_of tend window) events recovered roles) takes
-    × (slice_get (whole_run tend header c (asking_of tend window) events recovered roles takes) count
+    × (ServedPart roles tend header c (options_of tend window) events recovered takes count old new
+    ⊎ ServedPart roles tend header c (options_of tend window) events recovered takes (suc count) old new)
+    × IsUnderway tend c turns (begun_with header c (options_of tend window) events recovered roles) takes
+    × (slice_get (whole_run tend header c (options_of tend window) events recovered roles takes) count
     ≡ Some (Kept (record { role = role; change = change })))
 
 -- nothing but the source was used

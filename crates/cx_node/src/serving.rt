@@ -16,7 +16,7 @@ ghost use Rattle.cx_node.specs.Hosting.{HostAnswered, Ran, ended_status, hosting
 ghost use Rattle.cx_node.specs.Hosting.{store_gives, unopened_status};
 ghost use Rattle.cx_seat.specs.Opening.{AreApart, lent_to};
 ghost use Rattle.cx_node.specs.Serving.{IsNodeAnswer, NodeCompletes, TellsBad, TellsUsed, record_head, outside, outside_read};
-ghost use Rattle.cx_node.specs.Serving.{asking_of, recorded_header, refused_status};
+ghost use Rattle.cx_node.specs.Serving.{options_of, recorded_header, refused_status};
 ghost use Rattle.cx_record.specs.Numbers.{Recorded};
 ghost use Rattle.cx_record.specs.Readable.{IsRecordable};
 
@@ -24,7 +24,7 @@ use crate::binding::bind_all;
 use crate::input::{Refusal, listen};
 use crate::node::{Node, RunEnd, Stop};
 use cx_base::{Cluster, Event, NoMemory, RoleId, Status};
-use cx_client::Asking;
+use cx_client::ClientOptions;
 use cx_course::recorded_runs_follow;
 use cx_edge::{Depot, Link, Sink, Source, write_all};
 use cx_journal::RecordStore;
@@ -154,10 +154,10 @@ fn run_behind<L: Link, D: Depot, W: Sink>(
 }
 
 // How hosted clients ask: they ask others where their node tends them.
-fn asking_of(tend: Option<u32>, window: u8) -> Asking
-    ensures { result ≡ asking_of tend window }
+fn options_of(tend: Option<u32>, window: u8) -> ClientOptions
+    ensures { result ≡ options_of tend window }
 {
-    Asking {
+    ClientOptions {
         window,
         others: tend.is_some(),
     }
@@ -170,7 +170,7 @@ fn host<L: Link, D: Depot, W: Sink>(
     header: &[u8],
     cluster: &Cluster,
     roles: &[RoleId],
-    asking: Asking,
+    options: ClientOptions,
     events: &[Event],
     turns: u32,
     tend: Option<u32>,
@@ -182,11 +182,11 @@ fn host<L: Link, D: Depot, W: Sink>(
     requires distinct { AreApart roles.now }
     requires scripts { (client : ℕ) → IsScript cluster.now client (script_of client events.now) }
     requires recordable { (client : ℕ) → All (IsRecordable cluster.now) (script_of client events.now) }
-    requires some_window { 1 ≤ asking.window }
-    requires window { asking.window ≤ 64 }
+    requires some_window { 1 ≤ options.window }
+    requires window { options.window ≤ 64 }
     requires lent { D.out depot.old ≡ [] }
     ensures answered { (left left_after : Option (List ℕ)) (reads reads_after : ℕ)
-        → HostAnswered roles.now tend (recorded_header recording header.now) cluster.now asking events.now turns
+        → HostAnswered roles.now tend (recorded_header recording header.now) cluster.now options events.now turns
         (outside_read L.Link D.Depot W.Sink left reads link.old depot.old out.old)
         (outside_read L.Link D.Depot W.Sink left_after reads_after link.new depot.new out.new) result }
     ensures given_back { D.out depot.new ≡ [] }
@@ -204,7 +204,7 @@ fn host<L: Link, D: Depot, W: Sink>(
         cluster,
         roles,
         recording,
-        asking,
+        options,
         events,
         depot,
         &mut opened,
@@ -266,7 +266,7 @@ pub fn serve<S: Source, L: Link, D: Depot, W: Sink>(
             accepted.header.as_bytes(),
             &accepted.cluster,
             roles,
-            asking_of(tend, window),
+            options_of(tend, window),
             accepted.schedule.events(),
             turns,
             tend,

@@ -9,7 +9,7 @@ use Rattle.cx_base.specs.declared.role.Kind.{Kind}
 use Rattle.cx_base.specs.declared.role.Kind.TheVariants.{Client, Batcher, Leader, Proxy, Acceptor, Matchmaker}
 use Rattle.cx_base.specs.declared.role.Kind.TheVariants.{Replica, Unbatcher, Reader, Replacer}
 use Rattle.cx_base.specs.declared.role.RoleId.{RoleId}
-use Rattle.cx_client.specs.declared.asking.Asking.{Asking}
+use Rattle.cx_client.specs.declared.asking.ClientOptions.{ClientOptions}
 use Rattle.cx_journal.specs.Files.{Files, front_in}
 use Rattle.cx_journal.specs.Image.{Image}
 use Rattle.cx_journal.specs.Journal.{frames}
@@ -85,13 +85,13 @@ one_first roles c stored role other a b one two = go (by_order one.place two.pla
 -- ---- where opening stops
 
 -- Behind roles that were opened, one whose store is none of its own is the first.
-pub first_bad : {S : Type 0} (seen : S → Option (List ℕ)) (disk_faults : S → ℕ) (c : Cluster) (asking : Asking)
+pub first_bad : {S : Type 0} (seen : S → Option (List ℕ)) (disk_faults : S → ℕ) (c : Cluster) (options : ClientOptions)
     (events : List Event) (tells : Bool) (stored : RoleId → Files) (roles : List RoleId)
     (guests : List (Guest (RecordStore S)))
-    → AreOpened seen disk_faults c asking events tells stored roles guests → tells ≡ true → (role : RoleId) (at : ℕ)
+    → AreOpened seen disk_faults c options events tells stored roles guests → tells ≡ true → (role : RoleId) (at : ℕ)
     → slice_get roles (length guests) ≡ Some role → IsBadAs c role (stored role) at role.kind
     → IsFirstBad roles c stored role at
-first_bad {S} seen disk_faults c asking events tells stored roles guests all t role at next bad = record {
+first_bad {S} seen disk_faults c options events tells stored roles guests all t role at next bad = record {
   place = length guests;
   here = next;
   bad = bad;
@@ -104,6 +104,6 @@ first_bad {S} seen disk_faults c asking events tells stored roles guests all t r
         × (get_or guests i g ≡ g)) ⊎ ((length guests ≤ i) × (slice_get guests i ≡ None)) → ⊥
     own i other fault before there is (inl g) =
         let o = all i g.0 g.2 in
-        good_opened seen disk_faults c asking events tells stored o.0 g.0 fault o.2 t
+        good_opened seen disk_faults c options events tells stored o.0 g.0 fault o.2 t
         (subst (λ (r : RoleId). IsBadAs c r (stored r) fault r.kind) (same_Some other o.0 (sym there ∙ o.1)) is)
     own i other fault before there is (inr past) = absurd (omega (arith, before, past.0))

@@ -11,7 +11,7 @@ use Rattle.cx_base.specs.declared.cluster.Cluster.{Cluster}
 use Rattle.cx_base.specs.declared.event.Event.{Event}
 use Rattle.cx_base.specs.declared.role.RoleId.{RoleId}
 use Rattle.cx_base.specs.Role.{same_role}
-use Rattle.cx_client.specs.declared.asking.Asking.{Asking}
+use Rattle.cx_client.specs.declared.asking.ClientOptions.{ClientOptions}
 use Rattle.cx_edge.proofs.ShelfLaws.{out_last, same_shelf-itself, without_last}
 use Rattle.cx_edge.specs.Depot.{IsOut, without}
 use Rattle.cx_edge.specs.Shelf.{same_shelf, shelf}
@@ -214,16 +214,16 @@ one_more P [] x each last (suc i) y e = cc
 one_more P (z ∷ zs) x each last zero y e = each zero y e
 one_more P (z ∷ zs) x each last (suc i) y e = one_more (λ k. P (suc k)) zs x (λ k. each (suc k)) last i y e
 
-module _ {S : Type 0} (seen : S → Option (List ℕ)) (disk_faults : S → ℕ) (c : Cluster) (asking : Asking)
+module _ {S : Type 0} (seen : S → Option (List ℕ)) (disk_faults : S → ℕ) (c : Cluster) (options : ClientOptions)
     (events : List Event) (tells : Bool) (stored : RoleId → Files) (roles : List RoleId)
     (guests : List (Guest (RecordStore S))) (me : RoleId) (next : slice_get roles (length guests) ≡ Some me)
-    (all : AreOpened seen disk_faults c asking events tells stored roles guests) where
+    (all : AreOpened seen disk_faults c options events tells stored roles guests) where
   -- the next role of the list is opened
-  pub opened_more : (guest : Guest (RecordStore S)) → IsOpened seen disk_faults c asking events tells
-      (stored me) me guest → AreOpened seen disk_faults c asking events tells stored roles (guests ++ guest ∷ [])
+  pub opened_more : (guest : Guest (RecordStore S)) → IsOpened seen disk_faults c options events tells
+      (stored me) me guest → AreOpened seen disk_faults c options events tells stored roles (guests ++ guest ∷ [])
   opened_more guest opened =
       one_more (λ i (g : Guest (RecordStore S)). (a : RoleId) × (slice_get roles i ≡ Some a)
-      × IsOpened seen disk_faults c asking events tells (stored a) a g) guests guest all (me, next, opened)
+      × IsOpened seen disk_faults c options events tells (stored a) a g) guests guest all (me, next, opened)
 
   -- its stores aren't out yet
   pub next_in_depot : ((i j : ℕ) (a : RoleId) → slice_get roles i ≡ Some a → slice_get roles j ≡ Some a → i ≡ j)
@@ -235,7 +235,7 @@ module _ {S : Type 0} (seen : S → Option (List ℕ)) (disk_faults : S → ℕ)
       other i g at false e = e
       other i g at true e =
           let one = all i g at in
-          let same : one.0 ≡ me = sym (name_is seen disk_faults c asking events tells stored one.0 g one.2)
+          let same : one.0 ≡ me = sym (name_is seen disk_faults c options events tells stored one.0 g one.2)
           ∙ sym (same_role-true me (who g) e) in
           let place : i ≡ length guests = distinct i (length guests) me (one.1 ∙ ap Some same) next in
           absurd (omega (arith, place, slice_get_within guests i g at))

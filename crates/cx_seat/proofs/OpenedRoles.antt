@@ -11,7 +11,7 @@ use Rattle.cx_base.specs.declared.role.Kind.TheVariants.{Client, Batcher, Leader
 use Rattle.cx_base.specs.declared.role.Kind.TheVariants.{Replica, Unbatcher, Reader, Replacer}
 use Rattle.cx_base.specs.declared.role.RoleId.{RoleId}
 use Rattle.cx_inv_open.specs.Reopened.{refused_as}
-use Rattle.cx_client.specs.declared.asking.Asking.{Asking}
+use Rattle.cx_client.specs.declared.asking.ClientOptions.{ClientOptions}
 use Rattle.cx_journal.specs.Files.{Files, files_image}
 use Rattle.cx_journal.specs.Image.{Image}
 use Rattle.cx_journal.specs.declared.store.RecordStore.{RecordStore}
@@ -63,44 +63,44 @@ all_named p (y ∷ ys) all (suc i) x e = all_named p ys (both_so (p y) (list_all
 
 -- ---- one role
 
-pub name_opened : (c : Cluster) (asking : Asking) (events : List Event) (me : RoleId) (records : List Record) (k : Kind)
-    → name_of (opened_as c asking events me records k) ≡ me
-name_opened c asking events me records Client = refl
-name_opened c asking events me records Batcher = refl
-name_opened c asking events me records Leader = refl
-name_opened c asking events me records Proxy = refl
-name_opened c asking events me records Acceptor = refl
-name_opened c asking events me records Matchmaker = refl
-name_opened c asking events me records Replica = refl
-name_opened c asking events me records Unbatcher = refl
-name_opened c asking events me records Reader = refl
-name_opened c asking events me records Replacer = refl
+pub name_opened : (c : Cluster) (options : ClientOptions) (events : List Event) (me : RoleId) (records : List Record) (k : Kind)
+    → name_of (opened_as c options events me records k) ≡ me
+name_opened c options events me records Client = refl
+name_opened c options events me records Batcher = refl
+name_opened c options events me records Leader = refl
+name_opened c options events me records Proxy = refl
+name_opened c options events me records Acceptor = refl
+name_opened c options events me records Matchmaker = refl
+name_opened c options events me records Replica = refl
+name_opened c options events me records Unbatcher = refl
+name_opened c options events me records Reader = refl
+name_opened c options events me records Replacer = refl
 
-live_opened : (c : Cluster) (asking : Asking) (events : List Event) (me : RoleId) (records : List Record) (k : Kind)
-    → is_live_role (opened_as c asking events me records k) ≡ true
-live_opened c asking events me records Client = refl
-live_opened c asking events me records Batcher = refl
-live_opened c asking events me records Leader = refl
-live_opened c asking events me records Proxy = refl
-live_opened c asking events me records Acceptor = refl
-live_opened c asking events me records Matchmaker = refl
-live_opened c asking events me records Replica = refl
-live_opened c asking events me records Unbatcher = refl
-live_opened c asking events me records Reader = refl
-live_opened c asking events me records Replacer = refl
+live_opened : (c : Cluster) (options : ClientOptions) (events : List Event) (me : RoleId) (records : List Record) (k : Kind)
+    → is_live_role (opened_as c options events me records k) ≡ true
+live_opened c options events me records Client = refl
+live_opened c options events me records Batcher = refl
+live_opened c options events me records Leader = refl
+live_opened c options events me records Proxy = refl
+live_opened c options events me records Acceptor = refl
+live_opened c options events me records Matchmaker = refl
+live_opened c options events me records Replica = refl
+live_opened c options events me records Unbatcher = refl
+live_opened c options events me records Reader = refl
+live_opened c options events me records Replacer = refl
 
-kind_opened : (c : Cluster) (asking : Asking) (events : List Event) (me : RoleId) (records : List Record) (k : Kind)
-    → kind_at (opened_as c asking events me records k) ≡ k
-kind_opened c asking events me records Client = refl
-kind_opened c asking events me records Batcher = refl
-kind_opened c asking events me records Leader = refl
-kind_opened c asking events me records Proxy = refl
-kind_opened c asking events me records Acceptor = refl
-kind_opened c asking events me records Matchmaker = refl
-kind_opened c asking events me records Replica = refl
-kind_opened c asking events me records Unbatcher = refl
-kind_opened c asking events me records Reader = refl
-kind_opened c asking events me records Replacer = refl
+kind_opened : (c : Cluster) (options : ClientOptions) (events : List Event) (me : RoleId) (records : List Record) (k : Kind)
+    → kind_at (opened_as c options events me records k) ≡ k
+kind_opened c options events me records Client = refl
+kind_opened c options events me records Batcher = refl
+kind_opened c options events me records Leader = refl
+kind_opened c options events me records Proxy = refl
+kind_opened c options events me records Acceptor = refl
+kind_opened c options events me records Matchmaker = refl
+kind_opened c options events me records Replica = refl
+kind_opened c options events me records Unbatcher = refl
+kind_opened c options events me records Reader = refl
+kind_opened c options events me records Replacer = refl
 
 -- ---- stores of their own
 
@@ -155,14 +155,14 @@ module _ {D : Type 0} (seen : D → Option (List ℕ)) (disk_faults : D → ℕ)
       subst (HasRecords seen disk_faults tells second records) (same_Some k s e) has
   has_records records false (Some k) s e has = absurd has
 
-module _ {D : Type 0} (seen : D → Option (List ℕ)) (disk_faults : D → ℕ) (c : Cluster) (asking : Asking)
+module _ {D : Type 0} (seen : D → Option (List ℕ)) (disk_faults : D → ℕ) (c : Cluster) (options : ClientOptions)
     (events : List Event) (tells : Bool) (stored : RoleId → Files) where
   pub name_is : (me : RoleId) (guest : Guest (RecordStore D))
-      → IsOpened seen disk_faults c asking events tells (stored me) me guest → who guest ≡ me
-  name_is me guest o = ap name_of o.hosted ∙ name_opened c asking events me o.records me.kind
+      → IsOpened seen disk_faults c options events tells (stored me) me guest → who guest ≡ me
+  name_is me guest o = ap name_of o.hosted ∙ name_opened c options events me o.records me.kind
 
   pub keeps_store : (me : RoleId) (guest : Guest (RecordStore D))
-      (o : IsOpened seen disk_faults c asking events tells (stored me) me guest) → is_durable me.kind ≡ true
+      (o : IsOpened seen disk_faults c options events tells (stored me) me guest) → is_durable me.kind ≡ true
       → (s : RecordStore D) × (keeper_of guest ≡ Some s)
       × HasRecords seen disk_faults tells (has_second me.kind) o.records s
   keeps_store me guest o durable =
@@ -171,14 +171,14 @@ module _ {D : Type 0} (seen : D → Option (List ℕ)) (disk_faults : D → ℕ)
 
   -- the store of a role that was opened is its own
   pub good_opened : (me : RoleId) (guest : Guest (RecordStore D)) (at : ℕ)
-      → IsOpened seen disk_faults c asking events tells (stored me) me guest → tells ≡ true
+      → IsOpened seen disk_faults c options events tells (stored me) me guest → tells ≡ true
       → IsBadAs c me (stored me) at me.kind → ⊥
   good_opened me guest at o t bad = good_as c me (stored me) o.records at me.kind (o.read t) o.accepted bad
 
   -- ---- all roles
 
   pub distinct_opened : (roles : List RoleId) (guests : List (Guest (RecordStore D))) → AreApart roles
-      → AreOpened seen disk_faults c asking events tells stored roles guests → AreDistinct (hosted_in guests)
+      → AreOpened seen disk_faults c options events tells stored roles guests → AreDistinct (hosted_in guests)
   distinct_opened roles guests apart all i j a b here there same =
       let g = get_map hosted_of guests i a here in
       let h = get_map hosted_of guests j b there in
@@ -190,13 +190,13 @@ module _ {D : Type 0} (seen : D → Option (List ℕ)) (disk_faults : D → ℕ)
 
   pub ready_opened : (roles : List RoleId) (guests : List (Guest (RecordStore D))) → AreApart roles
       → ((i : ℕ) (me : RoleId) → slice_get roles i ≡ Some me → IsTrue (names_role c me))
-      → AreOpened seen disk_faults c asking events tells stored roles guests → AreReady c guests
+      → AreOpened seen disk_faults c options events tells stored roles guests → AreReady c guests
   ready_opened roles guests apart named all = record {
     each = λ i h at. let o = all i h at in record {
-      live = subst IsTrue (sym (ap is_live_role o.2.hosted ∙ live_opened c asking events o.0 o.2.records o.0.kind)) refl;
+      live = subst IsTrue (sym (ap is_live_role o.2.hosted ∙ live_opened c options events o.0 o.2.records o.0.kind)) refl;
       named = subst (λ me. IsTrue (names_role c me)) (sym (name_is o.0 h o.2)) (named i o.0 o.1);
       kind =
-          ap kind_at o.2.hosted ∙ kind_opened c asking events o.0 o.2.records o.0.kind
+          ap kind_at o.2.hosted ∙ kind_opened c options events o.0 o.2.records o.0.kind
           ∙ ap (λ (a : RoleId). a.kind) (sym (name_is o.0 h o.2));
     };
     distinct = distinct_opened roles guests apart all;

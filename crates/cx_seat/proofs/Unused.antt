@@ -7,7 +7,7 @@ use Rattle.std.proofs.lemmas.Option.{none-some, same_Some}
 use Rattle.cx_base.specs.declared.cluster.Cluster.{Cluster}
 use Rattle.cx_base.specs.declared.event.Event.{Event}
 use Rattle.cx_base.specs.declared.role.RoleId.{RoleId}
-use Rattle.cx_client.specs.declared.asking.Asking.{Asking}
+use Rattle.cx_client.specs.declared.asking.ClientOptions.{ClientOptions}
 use Rattle.cx_journal.specs.Files.{Files, files_image}
 use Rattle.cx_journal.specs.State.{has_some, records_or_none}
 use Rattle.cx_journal.specs.declared.store.RecordStore.{RecordStore}
@@ -99,10 +99,10 @@ module _ {D : Type 0} (seen : D → Option (List ℕ)) (disk_faults : D → ℕ)
   holds_as records false None has = refl
   holds_as records false (Some s) has = absurd has
 
-module _ {D : Type 0} (seen : D → Option (List ℕ)) (disk_faults : D → ℕ) (c : Cluster) (asking : Asking)
+module _ {D : Type 0} (seen : D → Option (List ℕ)) (disk_faults : D → ℕ) (c : Cluster) (options : ClientOptions)
     (events : List Event) (tells : Bool) (stored : RoleId → Files) where
   abbrev Opened : RoleId → Guest (RecordStore D) → Type 0
-  Opened me guest = IsOpened seen disk_faults c asking events tells (stored me) me guest
+  Opened me guest = IsOpened seen disk_faults c options events tells (stored me) me guest
 
   holds_opened : (me : RoleId) (guest : Guest (RecordStore D)) (o : Opened me guest)
       → holds_record (keeper_of guest) ≡ (is_durable me.kind && has_some o.records)
@@ -126,7 +126,7 @@ module _ {D : Type 0} (seen : D → Option (List ℕ)) (disk_faults : D → ℕ)
       by false read = refl
 
   module _ (roles : List RoleId) (guests : List (Guest (RecordStore D))) (count : length guests ≡ length roles)
-      (all : AreOpened seen disk_faults c asking events tells stored roles guests) (t : tells ≡ true) where
+      (all : AreOpened seen disk_faults c options events tells stored roles guests) (t : tells ≡ true) where
     used_at : (i : ℕ) (me : RoleId) (guest : Guest (RecordStore D)) → slice_get roles i ≡ Some me → slice_get guests i ≡ Some guest
         → is_store_used me (stored me) ≡ holds_record (keeper_of guest)
     used_at i me guest here at =
@@ -143,7 +143,7 @@ module _ {D : Type 0} (seen : D → Option (List ℕ)) (disk_faults : D → ℕ)
     first_used role named =
         let first = some_holding guests role named in
         let o = all first.place first.guest first.here in
-        let same : o.0 ≡ role = sym (name_is seen disk_faults c asking events tells stored o.0 first.guest o.2) ∙ first.name in
+        let same : o.0 ≡ role = sym (name_is seen disk_faults c options events tells stored o.0 first.guest o.2) ∙ first.name in
         let here : slice_get roles first.place ≡ Some role = o.1 ∙ ap Some same in
         record {
           place = first.place;
@@ -155,12 +155,12 @@ module _ {D : Type 0} (seen : D → Option (List ℕ)) (disk_faults : D → ℕ)
         }
 
 -- where all roles were opened, each store is its role's own
-pub all_good : {D : Type 0} (seen : D → Option (List ℕ)) (disk_faults : D → ℕ) (c : Cluster) (asking : Asking) (events : List Event)
+pub all_good : {D : Type 0} (seen : D → Option (List ℕ)) (disk_faults : D → ℕ) (c : Cluster) (options : ClientOptions) (events : List Event)
     (tells : Bool) (stored : RoleId → Files) (roles : List RoleId) (guests : List (Guest (RecordStore D)))
-    → length guests ≡ length roles → AreOpened seen disk_faults c asking events tells stored roles guests → tells ≡ true
+    → length guests ≡ length roles → AreOpened seen disk_faults c options events tells stored roles guests → tells ≡ true
     → (i : ℕ) (me : RoleId) (at : ℕ) → slice_get roles i ≡ Some me → IsBadAs c me (stored me) at me.kind → ⊥
-all_good seen disk_faults c asking events tells stored roles guests count all t i me at here bad =
+all_good seen disk_faults c options events tells stored roles guests count all t i me at here bad =
     let g = get_beside roles guests i me count here in
     let o = all i g.0 g.1 in
-    good_opened seen disk_faults c asking events tells stored o.0 g.0 at o.2 t
+    good_opened seen disk_faults c options events tells stored o.0 g.0 at o.2 t
     (subst (λ a. IsBadAs c a (stored a) at a.kind) (same_Some me o.0 (sym here ∙ o.1)) bad)

@@ -7,7 +7,7 @@ use Rattle.cx_base.specs.declared.event.Event.{Event}
 use Rattle.cx_base.specs.declared.role.Kind.{Kind}
 use Rattle.cx_base.specs.declared.role.Kind.TheVariants as kind
 use Rattle.cx_base.specs.declared.role.RoleId.{RoleId}
-use Rattle.cx_client.specs.declared.asking.Asking.{Asking}
+use Rattle.cx_client.specs.declared.asking.ClientOptions.{ClientOptions}
 use Rattle.cx_client.specs.Client.{client_opened}
 use Rattle.cx_edge.specs.declared.depot.Depot.{Ghosts as DepotGhosts}
 use Rattle.cx_inv_open.specs.Reopened.{refused_as}
@@ -55,17 +55,17 @@ is_durable kind.Replacer = true
 
 -- A role of this kind as it is opened: a client with its requests among those of the input, another one from its
 -- records.
-abbrev pub opened_as : Cluster → Asking → List Event → RoleId → List Record → Kind → Hosted
-opened_as c asking events me records kind.Client = ClientAt (client_opened c me (script_of me.index events) asking)
-opened_as c asking events me records kind.Batcher = BatcherAt (opened batcher_rules c me [])
-opened_as c asking events me records kind.Leader = LeaderAt (opened leader_rules c me records)
-opened_as c asking events me records kind.Proxy = ProxyAt (opened proxy_rules c me [])
-opened_as c asking events me records kind.Acceptor = AcceptorAt (opened acceptor_rules c me records)
-opened_as c asking events me records kind.Matchmaker = MatchmakerAt (opened matchmaker_rules c me records)
-opened_as c asking events me records kind.Replica = ReplicaAt (opened replica_rules c me records)
-opened_as c asking events me records kind.Unbatcher = UnbatcherAt (opened unbatcher_rules c me [])
-opened_as c asking events me records kind.Reader = ReaderAt (opened reader_rules c me records)
-opened_as c asking events me records kind.Replacer = ReplacerAt (opened replacer_rules c me records)
+abbrev pub opened_as : Cluster → ClientOptions → List Event → RoleId → List Record → Kind → Hosted
+opened_as c options events me records kind.Client = ClientAt (client_opened c me (script_of me.index events) options)
+opened_as c options events me records kind.Batcher = BatcherAt (opened batcher_rules c me [])
+opened_as c options events me records kind.Leader = LeaderAt (opened leader_rules c me records)
+opened_as c options events me records kind.Proxy = ProxyAt (opened proxy_rules c me [])
+opened_as c options events me records kind.Acceptor = AcceptorAt (opened acceptor_rules c me records)
+opened_as c options events me records kind.Matchmaker = MatchmakerAt (opened matchmaker_rules c me records)
+opened_as c options events me records kind.Replica = ReplicaAt (opened replica_rules c me records)
+opened_as c options events me records kind.Unbatcher = UnbatcherAt (opened unbatcher_rules c me [])
+opened_as c options events me records kind.Reader = ReaderAt (opened reader_rules c me records)
+opened_as c options events me records kind.Replacer = ReplacerAt (opened replacer_rules c me records)
 
 -- the bytes are no store of a role of this kind, for the reason at this place
 abbrev pub IsBadAs : Cluster → RoleId → Files → ℕ → Kind → Type 0
@@ -116,20 +116,20 @@ HasStore seen disk_faults tells second records false (Some s) = ⊥
 
 -- A role was opened from the bytes of its store, if it has one: they have records none of which it refuses, and its
 -- store has them.
-pub record IsOpened {D : Type 0} (seen : D → Option (List ℕ)) (disk_faults : D → ℕ) (c : Cluster) (asking : Asking)
+pub record IsOpened {D : Type 0} (seen : D → Option (List ℕ)) (disk_faults : D → ℕ) (c : Cluster) (options : ClientOptions)
     (events : List Event) (tells : Bool) (files : Files) (me : RoleId) (guest : Guest (RecordStore D)) : Type 0 where
   pub records : List Record
-  pub hosted : hosted_of guest ≡ opened_as c asking events me records me.kind
+  pub hosted : hosted_of guest ≡ opened_as c options events me records me.kind
   pub accepted : refused_as c me records me.kind ≡ None
   pub read : tells ≡ true → is_durable me.kind ≡ true → files_image (Some me.kind) files ≡ Ok records
   pub stored : HasStore seen disk_faults tells (has_second me.kind) records (is_durable me.kind) (keeper_of guest)
 
 -- the first roles of a list were opened, each from what its store had
-abbrev pub AreOpened : {D : Type 0} → (D → Option (List ℕ)) → (D → ℕ) → Cluster → Asking → List Event → Bool
+abbrev pub AreOpened : {D : Type 0} → (D → Option (List ℕ)) → (D → ℕ) → Cluster → ClientOptions → List Event → Bool
     → (RoleId → Files) → List RoleId → List (Guest (RecordStore D)) → Type 0
-AreOpened {D} seen disk_faults c asking events tells stored roles guests =
+AreOpened {D} seen disk_faults c options events tells stored roles guests =
     (i : ℕ) (guest : Guest (RecordStore D)) → slice_get guests i ≡ Some guest
-    → (me : RoleId) × (slice_get roles i ≡ Some me) × IsOpened seen disk_faults c asking events tells (stored me) me guest
+    → (me : RoleId) × (slice_get roles i ≡ Some me) × IsOpened seen disk_faults c options events tells (stored me) me guest
 
 -- whether a role's store, if it has one, has a record: more gates than the closed one
 abbrev pub holds_record : {D : Type 0} → Option (RecordStore D) → Bool

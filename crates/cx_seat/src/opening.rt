@@ -22,7 +22,7 @@ use crate::{Guest, Seat, WakeStop, wake, wake_twin};
 use cx_acceptor::Acceptor;
 use cx_base::{Cluster, Event, Kind, RoleId};
 use cx_batch::{Batcher, Unbatcher};
-use cx_client::{Asking, Client};
+use cx_client::{Client, ClientOptions};
 use cx_disk::Disk;
 use cx_edge::Depot;
 use cx_journal::RecordStore;
@@ -149,19 +149,19 @@ fn open_client(
     alloc: Global,
     cluster: &Cluster,
     me: RoleId,
-    asking: Asking,
+    options: ClientOptions,
     events: &[Event],
 ) -> Result<Client, OpenStop>
     requires kind { me.kind ≡ kind.Client }
     requires named { IsTrue (names_role cluster.now me) }
     requires scripts { (client : ℕ) → IsScript cluster.now client (script_of client events.now) }
-    requires some_window { 1 ≤ asking.window }
-    requires window { asking.window ≤ 64 }
-    ensures role { IfOk result (λ role. role ≡ client_opened cluster.now me (script_of me.index events.now) asking) }
+    requires some_window { 1 ≤ options.window }
+    requires window { options.window ≤ 64 }
+    ensures role { IfOk result (λ role. role ≡ client_opened cluster.now me (script_of me.index events.now) options) }
     ensures only { OnErr result (result ≡ Err open_stop.NoMemory) }
 {
     match script(alloc, me.index, events) {
-        Ok(script) => Ok(Client::open(cluster, me, script, asking)),
+        Ok(script) => Ok(Client::open(cluster, me, script, options)),
         Err(_) => Err(OpenStop::NoMemory),
     }
 }
@@ -171,16 +171,16 @@ fn open_guest<D: Depot>(
     alloc: Global,
     cluster: &Cluster,
     me: RoleId,
-    asking: Asking,
+    options: ClientOptions,
     events: &[Event],
     depot: &mut D,
 ) -> Result<Guest<RecordStore<D::Store>>, OpenStop>
     requires named { IsTrue (names_role cluster.now me) }
     requires scripts { (client : ℕ) → IsScript cluster.now client (script_of client events.now) }
-    requires some_window { 1 ≤ asking.window }
-    requires window { asking.window ≤ 64 }
+    requires some_window { 1 ≤ options.window }
+    requires window { options.window ≤ 64 }
     requires in_depot { NoneIsOut me (D.out depot.old) }
-    ensures opened { IfOk result (λ guest. IsOpened D.Store.Disk.seen D.Store.Disk.faults cluster.now asking events.now
+    ensures opened { IfOk result (λ guest. IsOpened D.Store.Disk.seen D.Store.Disk.faults cluster.now options events.now
         (D.tells depot.old) (files_of (D.stored depot.old) me) me guest) }
     ensures lends { LendsFor D.Depot me result (λ guest. lent_to (guest ∷ [])) depot.old depot.new }
     ensures bad { (role : RoleId) (at : ℕ) → result ≡ Err (open_stop.BadStore role at) → D.tells depot.old ≡ true
@@ -192,7 +192,7 @@ fn open_guest<D: Depot>(
 {
     match me.kind {
         Kind::Client => {
-            let role = open_client(alloc, cluster, me, asking, events)?;
+            let role = open_client(alloc, cluster, me, options, events)?;
             Ok(Guest::Client { role })
         }
         Kind::Batcher => {
@@ -241,7 +241,7 @@ pub fn open_seats<D: Depot>(
     alloc: Global,
     cluster: &Cluster,
     roles: &[RoleId],
-    asking: Asking,
+    options: ClientOptions,
     events: &[Event],
     depot: &mut D,
     seats: &mut Vec<Seat<RecordStore<D::Store>>>,
@@ -249,11 +249,11 @@ pub fn open_seats<D: Depot>(
     requires named { (i : ℕ) (me : RoleId) → slice_get roles.now i ≡ Some me → IsTrue (names_role cluster.now me) }
     requires distinct { AreApart roles.now }
     requires scripts { (client : ℕ) → IsScript cluster.now client (script_of client events.now) }
-    requires some_window { 1 ≤ asking.window }
-    requires window { asking.window ≤ 64 }
+    requires some_window { 1 ≤ options.window }
+    requires window { options.window ≤ 64 }
     requires empty { seats.old.items ≡ [] }
     requires not_out { D.out depot.old ≡ [] }
-    ensures opened { AreOpened D.Store.Disk.seen D.Store.Disk.faults cluster.now asking events.now
+    ensures opened { AreOpened D.Store.Disk.seen D.Store.Disk.faults cluster.now options events.now
         (D.tells depot.old) (files_of (D.stored depot.old)) roles.now seats.new.items }
     ensures all { OnOk result (length seats.new.items ≡ length roles.now) }
     ensures out { D.out depot.new ≡ lent_to seats.new.items }
@@ -280,7 +280,7 @@ pub fn open_seats<D: Depot>(
         if seats.reserve(1).is_err() {
             return Err(OpenStop::NoMemory);
         }
-        let guest = open_guest(alloc, cluster, *role, asking, events, depot)?;
+        let guest = open_guest(alloc, cluster, *role, options, events, depot)?;
         seats.push_reserved(Seat::new(alloc, *role, guest));
     }
     Ok(())
@@ -306,7 +306,7 @@ pub fn open_all<D: Depot>(
     cluster: &Cluster,
     roles: &[RoleId],
     recording: bool,
-    asking: Asking,
+    options: ClientOptions,
     events: &[Event],
     depot: &mut D,
     seats: &mut Vec<Seat<RecordStore<D::Store>>>,
@@ -314,11 +314,11 @@ pub fn open_all<D: Depot>(
     requires named { (i : ℕ) (me : RoleId) → slice_get roles.now i ≡ Some me → IsTrue (names_role cluster.now me) }
     requires distinct { AreApart roles.now }
     requires scripts { (client : ℕ) → IsScript cluster.now client (script_of client events.now) }
-    requires some_window { 1 ≤ asking.window }
-    requires window { asking.window ≤ 64 }
+    requires some_window { 1 ≤ options.window }
+    requires window { options.window ≤ 64 }
     requires empty { seats.old.items ≡ [] }
     requires not_out { D.out depot.old ≡ [] }
-    ensures opened { AreOpened D.Store.Disk.seen D.Store.Disk.faults cluster.now asking events.now
+    ensures opened { AreOpened D.Store.Disk.seen D.Store.Disk.faults cluster.now options events.now
         (D.tells depot.old) (files_of (D.stored depot.old)) roles.now seats.new.items }
     ensures all { OnOk result (length seats.new.items ≡ length roles.now) }
     ensures fresh { recording ≡ true → OnOk result (first_holding seats.new.items ≡ None) }
@@ -341,7 +341,7 @@ pub fn open_all<D: Depot>(
     ensures apart { (who : RoleId) → ((i : ℕ) → slice_get roles.now i ≡ Some who → ⊥)
         → StaysFor D.Depot depot.old depot.new who }
 {
-    match open_seats(alloc, cluster, roles, asking, events, depot, seats) {
+    match open_seats(alloc, cluster, roles, options, events, depot, seats) {
         Ok(()) => {}
         Err(stop) => return Err(stop),
     }

@@ -9,7 +9,6 @@ use Rattle.cx_base.specs.declared.event.Event.{Event}
 use Rattle.cx_base.specs.declared.event.Happened.{Happened}
 use Rattle.cx_base.specs.declared.role.RoleId.{RoleId}
 use Rattle.cx_base.specs.declared.why.Why.{Why}
-use Rattle.cx_base.specs.Role.{role}
 use Rattle.cx_model.specs.State.{State}
 use Rattle.cx_model.specs.World.{World, change, step, start, run, run_from, event_list}
 use Rattle.cx_letter.specs.Letter.{Letter}

@@ -1,15 +1,15 @@
 use Rattle.std.proofs.Common.{◌≤◌, refl, sym, subst}
-use Rattle.cx_client.specs.declared.asking.Asking.{Asking}
+use Rattle.cx_client.specs.declared.asking.ClientOptions.{ClientOptions}
 use Rattle.cx_node.specs.Serving.{InputSays, outside, recorded_header}
 use Rattle.cx_node.proofs.Answering.{answered_so, completes_so, err_is, refused_so, refused_tells_bad, refused_tells_used, says_heard}
 use Rattle.cx_node.proofs.Answering.{tells_bad_so, tells_used_so}
 use Rattle.cx_node.proofs.serving.serve.Goals as goal
 
 pub host-requires-clause-some_window : goal.host-requires-clause-some_window
-host-requires-clause-some_window g c = subst (λ (a : Asking). 1 ≤ a.window) (sym c.asking_of.ensures) c.requires.some_window
+host-requires-clause-some_window g c = subst (λ (a : ClientOptions). 1 ≤ a.window) (sym c.options_of.ensures) c.requires.some_window
 
 pub host-requires-clause-window : goal.host-requires-clause-window
-host-requires-clause-window g c = subst (λ (a : Asking). a.window ≤ 64) (sym c.asking_of.ensures) c.requires.window
+host-requires-clause-window g c = subst (λ (a : ClientOptions). a.window ≤ 64) (sym c.options_of.ensures) c.requires.window
 
 pub returns-in-Ok-clause-answered : goal.returns-in-Ok-clause-answered
 returns-in-Ok-clause-answered g c =
@@ -28,7 +28,7 @@ returns-in-Ok-clause-answered g c =
     (g.S.Source.faults c.args.input.now) (g.S.Source.faults c.listen.new.source) in
     answered_so c.args.recording c.args.roles.now c.args.tend (recorded_header c.args.recording c.in-Ok.accepted.header) c.in-Ok.accepted.cluster
     c.args.window c.events.result.now c.args.turns old new c.host.result says (heard.at_end, heard.all_read)
-    (rw (c.as_bytes.ensures, c.asking_of.ensures) at host)
+    (rw (c.as_bytes.ensures, c.options_of.ensures) at host)
 
 pub returns-in-Ok-clause-complete : goal.returns-in-Ok-clause-complete
 returns-in-Ok-clause-complete g c = completes_so _ _ _ _ _ _ _ _ (returns-in-Ok-clause-answered g c)
@@ -44,7 +44,7 @@ returns-in-Ok-clause-tells_used g c =
     let host = c.host.ensures.answered (g.S.Source.left c.args.input.now) (g.S.Source.left c.listen.new.source)
     (g.S.Source.faults c.args.input.now) (g.S.Source.faults c.listen.new.source) in
     tells_used_so c.args.recording c.args.roles.now c.args.tend (recorded_header c.args.recording c.in-Ok.accepted.header) c.in-Ok.accepted.cluster
-    c.args.window c.events.result.now c.args.turns _ _ c.host.result says (rw (c.as_bytes.ensures, c.asking_of.ensures) at host)
+    c.args.window c.events.result.now c.args.turns _ _ c.host.result says (rw (c.as_bytes.ensures, c.options_of.ensures) at host)
 
 pub returns-in-Ok-clause-tells_bad : goal.returns-in-Ok-clause-tells_bad
 returns-in-Ok-clause-tells_bad g c =
@@ -57,7 +57,7 @@ returns-in-Ok-clause-tells_bad g c =
     let host = c.host.ensures.answered (g.S.Source.left c.args.input.now) (g.S.Source.left c.listen.new.source)
     (g.S.Source.faults c.args.input.now) (g.S.Source.faults c.listen.new.source) in
     tells_bad_so c.args.recording c.args.roles.now c.args.tend (recorded_header c.args.recording c.in-Ok.accepted.header) c.in-Ok.accepted.cluster
-    c.args.window c.events.result.now c.args.turns _ _ c.host.result says (rw (c.as_bytes.ensures, c.asking_of.ensures) at host)
+    c.args.window c.events.result.now c.args.turns _ _ c.host.result says (rw (c.as_bytes.ensures, c.options_of.ensures) at host)
 
 pub returns-in-Err-clause-answered : goal.returns-in-Err-clause-answered
 returns-in-Err-clause-answered g c =
