@@ -20,7 +20,7 @@ RANGES = {"f": (0, 3), "leaders": (1, 8), "proxies": (1, 16), "acceptors": (1, 6
           "unbatchers": (1, 8), "readers": (1, 8), "clients": (1, 64), "batch": (1, 8), "base_port": (1024, 60000),
           "pool": (1, 64), "replacers": (0, 4)}
 GRID_MOST = 16                  # acceptors in a grid
-PORTS = (25_000, 32_000)        # below those that systems hand out by themselves
+PORTS = tuple(map(int, os.environ.get("COMPAX_PORTS", "25000-32000").split("-")))      # below those that systems hand out by themselves
 PORT_TAKEN = 6                  # the status of a node, and of the tools
 
 
