@@ -28,11 +28,11 @@ returns-then-not-bind_all-clause-answered g c = λ left left_after reads reads_a
     c.args.out.now in
     record {
       did = (
-        host_early c.args.tend (recorded_header c.args.recording c.args.header.now) c.args.cluster.now c.args.asking
+        host_early c.args.tend (recorded_header c.args.recording c.args.header.now) c.args.cluster.now c.args.options
             c.args.events.now c.args.turns c.args.roles.now old new c.bind_all.ensures.part.0 c.bind_all.ensures.part.1 refl
             (λ t i me here durable. refl) (λ me none. (refl, refl)) refl,
         c.bind_all.ensures.failed c.if-not-bind_all.true,
-        inl (host_binding c.args.tend (recorded_header c.args.recording c.args.header.now) c.args.cluster.now c.args.asking
+        inl (host_binding c.args.tend (recorded_header c.args.recording c.args.header.now) c.args.cluster.now c.args.options
             c.args.events.now c.args.turns c.args.roles.now old new c.bind_all.ensures.part.0 c.bind_all.ensures.part.1 refl
             (λ t i me here durable. refl) (λ me none. (refl, refl)) refl),
       );
@@ -50,7 +50,7 @@ returns-in_default-clause-answered g c = λ left left_after reads reads_after.
     c.args.out.now in
     record {
       did =
-          host_early c.args.tend (recorded_header c.args.recording c.args.header.now) c.args.cluster.now c.args.asking
+          host_early c.args.tend (recorded_header c.args.recording c.args.header.now) c.args.cluster.now c.args.options
           c.args.events.now c.args.turns c.args.roles.now old new c.bind_all.ensures.part.0 c.bind_all.ensures.part.1 refl
           (λ t i me here durable. refl) (λ me none. (refl, refl)) refl;
       written = λ no. refl;
@@ -66,7 +66,7 @@ open_all-requires-clause-named g c =
 
 pub run_behind-requires-clause-ready : goal.run_behind-requires-clause-ready
 run_behind-requires-clause-ready g c =
-    ready_opened g.D.Store.Disk.seen g.D.Store.Disk.faults c.args.cluster.now c.args.asking c.args.events.now
+    ready_opened g.D.Store.Disk.seen g.D.Store.Disk.faults c.args.cluster.now c.args.options c.args.events.now
     (g.D.Depot.tells c.args.depot.now)
     (files_of (g.D.Depot.stored c.args.depot.now)) c.args.roles.now c.open_all.new.seats.items
     c.requires.distinct (all_named
@@ -74,7 +74,7 @@ run_behind-requires-clause-ready g c =
 
 pub close_seats-requires-clause-distinct : goal.close_seats-requires-clause-distinct
 close_seats-requires-clause-distinct g c =
-    distinct_opened g.D.Store.Disk.seen g.D.Store.Disk.faults c.args.cluster.now c.args.asking c.args.events.now
+    distinct_opened g.D.Store.Disk.seen g.D.Store.Disk.faults c.args.cluster.now c.args.options c.args.events.now
     (g.D.Depot.tells c.args.depot.now)
     (files_of (g.D.Depot.stored c.args.depot.now)) c.args.roles.now c.open_all.new.seats.items
     c.requires.distinct c.open_all.ensures.opened
@@ -100,10 +100,10 @@ returns-in-Ok-open_all-clause-answered g c = λ left left_after reads reads_afte
     (scene_of g.L.Link g.W.Sink (hosting c.args.cluster.now run.0 run.1) c.run_behind.new.link c.run_behind.new.out)
     (failed g.L.Link g.W.Sink c.bind_all.new.link c.args.out.now) (failed g.L.Link g.W.Sink c.run_behind.new.link c.run_behind.new.out))
     (c.deref.ensures.value ∙ c.in-Ok.ensures) scene_ran in
-    subst (λ s. HostAnswered c.args.roles.now c.args.tend header c.args.cluster.now c.args.asking c.args.events.now
+    subst (λ s. HostAnswered c.args.roles.now c.args.tend header c.args.cluster.now c.args.options c.args.events.now
     c.args.turns old new s) (sym run.3)
     (host_ran disk c.args.tend header c.args.cluster.now
-    c.args.asking c.args.events.now c.args.turns c.args.roles.now old new
+    c.args.options c.args.events.now c.args.turns c.args.roles.now old new
     (g.L.Link.history c.bind_all.new.link) (g.L.Link.faults c.bind_all.new.link) (depot.stored c.open_all.new.depot)
     (depot.stored c.run_behind.new.depot) (depot.faults c.open_all.new.depot) c.open_all.new.seats.items run.0 run.1 run.2
     c.requires.distinct c.open_all.ensures.opened c.in-Ok-open_all.ensures.all
@@ -115,7 +115,7 @@ returns-in-Ok-open_all-clause-answered g c = λ left left_after reads reads_afte
     (depot.stored c.run_behind.new.depot) (depot.faults c.open_all.new.depot) (depot.faults c.run_behind.new.depot))
     c.open_all.ensures.tells_same run.5)
     (plain_run c.args.tend c.args.cluster.now)
-    (λ recovered from is takes. recorded_run disk.seen disk.faults c.args.cluster.now c.args.asking c.args.events.now
+    (λ recovered from is takes. recorded_run disk.seen disk.faults c.args.cluster.now c.args.options c.args.events.now
     (depot.tells c.args.depot.now) (files_of (depot.stored c.args.depot.now)) c.args.roles.now c.open_all.new.seats.items
     c.requires.distinct (all_named (λ r. names_role c.args.cluster.now r) c.args.roles.now c.requires.named)
     c.requires.scripts c.requires.recordable c.requires.some_window c.requires.window
@@ -124,7 +124,7 @@ returns-in-Ok-open_all-clause-answered g c = λ left left_after reads reads_afte
       in_flight = λ tend takes hs fresh. c.recorded_runs_follow.ensures.in_flight tend c.args.cluster.now takes hs fresh;
     })
     c.open_all.ensures.opened c.in-Ok-open_all.ensures.all (fresh is) recovered from c.args.tend header is takes)
-    (λ is t. none_used disk.seen disk.faults c.args.cluster.now c.args.asking c.args.events.now
+    (λ is t. none_used disk.seen disk.faults c.args.cluster.now c.args.options c.args.events.now
     (depot.tells c.args.depot.now) (files_of (depot.stored c.args.depot.now)) c.args.roles.now c.open_all.new.seats.items
     c.in-Ok-open_all.ensures.all c.open_all.ensures.opened t (fresh is)))
 
@@ -143,20 +143,20 @@ returns-clause-answered g c = λ left left_after reads reads_after.
     (depot.faults c.close_seats.new.depot))
     opening.tells_same close.back in
     let stays = opened_stays disk c.args.cluster.now
-    c.args.asking c.args.events.now (depot.tells c.args.depot.now) (files_of (depot.stored c.args.depot.now))
+    c.args.options c.args.events.now (depot.tells c.args.depot.now) (files_of (depot.stored c.args.depot.now))
     (depot.stored c.open_all.new.depot) (depot.stored c.close_seats.new.depot) (depot.faults c.open_all.new.depot)
     (depot.faults c.close_seats.new.depot) c.args.roles.now c.open_all.new.seats.items
     c.requires.distinct opening.opened back opening.stored in
     let stands = opened_still disk c.args.cluster.now
-    c.args.asking c.args.events.now (depot.tells c.args.depot.now) (files_of (depot.stored c.args.depot.now))
+    c.args.options c.args.events.now (depot.tells c.args.depot.now) (files_of (depot.stored c.args.depot.now))
     (depot.stored c.open_all.new.depot) (depot.stored c.close_seats.new.depot) (depot.faults c.open_all.new.depot)
     (depot.faults c.close_seats.new.depot) c.args.roles.now c.open_all.new.seats.items
     opening.opened back in
     let apart = opened_unhosted disk c.args.cluster.now
-    c.args.asking c.args.events.now (depot.tells c.args.depot.now) (files_of (depot.stored c.args.depot.now))
+    c.args.options c.args.events.now (depot.tells c.args.depot.now) (files_of (depot.stored c.args.depot.now))
     (depot.stored c.open_all.new.depot) (depot.stored c.close_seats.new.depot) (depot.faults c.open_all.new.depot)
     (depot.faults c.close_seats.new.depot) c.args.roles.now c.open_all.new.seats.items opening.opened back in
-    let early = host_early c.args.tend header c.args.cluster.now c.args.asking c.args.events.now c.args.turns
+    let early = host_early c.args.tend header c.args.cluster.now c.args.options c.args.events.now c.args.turns
     c.args.roles.now old new c.bind_all.ensures.part.0 c.bind_all.ensures.part.1 refl stays
     (λ me none. (
       (apart me none).0 ∙ files_same (depot.stored c.args.depot.now) (depot.stored c.open_all.new.depot) me
@@ -164,7 +164,7 @@ returns-clause-answered g c = λ left left_after reads reads_after.
       (apart me none).1 ∙ (opening.apart me none).1,
     ))
     (close.tells_same ∙ opening.tells_same) in
-    let binding = host_binding c.args.tend header c.args.cluster.now c.args.asking c.args.events.now c.args.turns
+    let binding = host_binding c.args.tend header c.args.cluster.now c.args.options c.args.events.now c.args.turns
     c.args.roles.now old new c.bind_all.ensures.part.0 c.bind_all.ensures.part.1 refl stays
     (λ me none. (
       (apart me none).0 ∙ files_same (depot.stored c.args.depot.now) (depot.stored c.open_all.new.depot) me
@@ -172,9 +172,9 @@ returns-clause-answered g c = λ left left_after reads reads_after.
       (apart me none).1 ∙ (opening.apart me none).1,
     ))
     (close.tells_same ∙ opening.tells_same) in
-    subst (λ s. HostAnswered c.args.roles.now c.args.tend header c.args.cluster.now c.args.asking c.args.events.now
+    subst (λ s. HostAnswered c.args.roles.now c.args.tend header c.args.cluster.now c.args.options c.args.events.now
     c.args.turns old new s) (sym c.unopened.ensures)
-    (host_unopened c.args.tend header c.args.cluster.now c.args.asking c.args.events.now c.args.turns c.args.roles.now old
+    (host_unopened c.args.tend header c.args.cluster.now c.args.options c.args.events.now c.args.turns c.args.roles.now old
     new c.in-Err.stop early binding
     (λ role e. rises_still (depot.faults c.args.depot.now role) (depot.faults c.open_all.new.depot role)
     (depot.faults c.close_seats.new.depot role) (opening.failed role (c.in-Err.is ∙ ap Err e))
@@ -183,7 +183,7 @@ returns-clause-answered g c = λ left left_after reads reads_after.
     (λ role e. let used = opening.used role (c.in-Err.is ∙ ap Err e) in
     (records_header c.args.recording c.args.header.now ∙ used.0, refl, used.2))
     (λ role e. let used = opening.used role (c.in-Err.is ∙ ap Err e) in
-    all_good disk.seen disk.faults c.args.cluster.now c.args.asking c.args.events.now (depot.tells c.args.depot.now)
+    all_good disk.seen disk.faults c.args.cluster.now c.args.options c.args.events.now (depot.tells c.args.depot.now)
     (files_of (depot.stored c.args.depot.now)) c.args.roles.now c.open_all.new.seats.items used.1 opening.opened)
     (λ role no. stands role ∙ opening.others role
     (λ e. no (same_stop c.in-Err.stop (open_stop.StoreFault role) (sym c.in-Err.is ∙ e)))) refl

@@ -15,7 +15,7 @@ pub returns-in-Some-clause-used : goal.returns-in-Some-clause-used
 returns-in-Some-clause-used g c = λ role e. (
   c.if-recording.true,
   c.in-Ok.ensures.all,
-  λ t. first_used g.D.Store.Disk.seen g.D.Store.Disk.faults c.args.cluster.now c.args.asking c.args.events.now
+  λ t. first_used g.D.Store.Disk.seen g.D.Store.Disk.faults c.args.cluster.now c.args.options c.args.events.now
       (g.D.Depot.tells c.args.depot.now) (files_of (g.D.Depot.stored c.args.depot.now)) c.args.roles.now c.open_seats.new.seats.items
       c.in-Ok.ensures.all c.open_seats.ensures.opened t role
       (ap first_holding (sym c.deref.ensures.value) ∙ sym c.first_used.ensures ∙ c.in-Some.is ∙ ap Some (same_role _ _ e)),

@@ -28,7 +28,7 @@ open_guest-requires-clause-in_depot g c =
     subst (λ n. slice_get c.args.roles.now n ≡ Some me) (sym before.size)
     (slice_get-get_or c.args.roles.now c.loop-role.role-index (a_role kind.Client 0) c.loop-role-test.true) in
     subst (NoneIsOut me) (sym before.out)
-    (next_in_depot g.D.Store.Disk.seen g.D.Store.Disk.faults c.args.cluster.now c.args.asking c.args.events.now
+    (next_in_depot g.D.Store.Disk.seen g.D.Store.Disk.faults c.args.cluster.now c.args.options c.args.events.now
     (g.D.Depot.tells c.args.depot.now)
     (files_of (g.D.Depot.stored c.args.depot.now)) c.args.roles.now c.loop-role.seats.items me
     next before.opened c.requires.distinct)
@@ -37,7 +37,7 @@ pub new-requires : goal.new-requires
 new-requires g c =
     let me : RoleId = slice_index_or c.args.roles.now c.loop-role.role-index (a_role kind.Client 0) in
     let opened = c.in_ok-guest.ensures.opened in
-    sym (ap (λ h. name_of h) opened.hosted ∙ name_opened c.args.cluster.now c.args.asking c.args.events.now me opened.records me.kind)
+    sym (ap (λ h. name_of h) opened.hosted ∙ name_opened c.args.cluster.now c.args.options c.args.events.now me opened.records me.kind)
 
 pub loop-role-preserved : goal.loop-role-preserved
 loop-role-preserved g c =
@@ -50,7 +50,7 @@ loop-role-preserved g c =
     let lends = c.in_ok-guest.ensures.lends in
     record {
       opened = rw (c.push_reserved.ensures.items, c.reserve.ensures.items, c.new.ensures)
-          (opened_more g.D.Store.Disk.seen g.D.Store.Disk.faults c.args.cluster.now c.args.asking c.args.events.now
+          (opened_more g.D.Store.Disk.seen g.D.Store.Disk.faults c.args.cluster.now c.args.options c.args.events.now
           (g.D.Depot.tells c.args.depot.now)
           (files_of (g.D.Depot.stored c.args.depot.now)) c.args.roles.now c.loop-role.seats.items me
           next before.opened c.in_ok-guest.guest opened);
@@ -81,7 +81,7 @@ returns-in_err-guest-clause-bad g c = λ role at e tells.
     subst (λ n. slice_get c.args.roles.now n ≡ Some role) (sym before.size)
     (slice_get-get_or c.args.roles.now c.loop-role.role-index (a_role kind.Client 0) c.loop-role-test.true
     ∙ ap Some (sym own)) in
-    first_bad g.D.Store.Disk.seen g.D.Store.Disk.faults c.args.cluster.now c.args.asking c.args.events.now
+    first_bad g.D.Store.Disk.seen g.D.Store.Disk.faults c.args.cluster.now c.args.options c.args.events.now
     (g.D.Depot.tells c.args.depot.now) (files_of (g.D.Depot.stored c.args.depot.now)) c.args.roles.now
     c.loop-role.seats.items
     before.opened tells role at next

@@ -7,7 +7,7 @@ use Rattle.cx_seat.proofs.opening.open_seats.Given as goal
 
 abbrev pub invariant-loop-role : goal.invariant-loop-role
 invariant-loop-role g l = record {
-  opened : AreOpened g.D.Store.Disk.seen g.D.Store.Disk.faults l.cluster l.asking l.events
+  opened : AreOpened g.D.Store.Disk.seen g.D.Store.Disk.faults l.cluster l.options l.events
       (g.D.Depot.tells l.fn.depot) (files_of (g.D.Depot.stored l.fn.depot)) l.roles l.seats.items;
   size : length l.seats.items ≡ l.role-index;
   out : g.D.Depot.out l.depot ≡ lent_to l.seats.items;
