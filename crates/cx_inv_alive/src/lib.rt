@@ -1,0 +1,35 @@
+//! No dead ends: while room is left, each command that was submitted can be answered.
+//!
+//! The other laws say that nothing bad happens; a cluster that can do nothing any more breaks none of
+//! them. Its theorem is `no_dead_ends`: from each world that any list of events reaches, while room is
+//! left in its stores (`IsRoomy`), some further events bring an answer to each command that was
+//! submitted.
+//!
+//! Room is left while f + 1 of the first set of matchmakers haven't stopped and have recorded fewer than
+//! 16 rounds; a round is left above all in the stores, and a slot above all that are held or were voted
+//! in; recorded grids have rows, as the program's type of a grid says; and neither a replica nor a vote
+//! knows that the client is done with the number.
+//!
+//! The further events stop and open roles, so nothing that only runs matters, and what a restart alone
+//! would heal is no dead end here. Nothing is said of time, nor of what nodes do by themselves; nor of
+//! reads and sessions, nor of clusters whose first set of matchmakers was replaced.
+#![tactic(auto)]
+
+ghost use Rattle.cx_model.specs.Promises.{OfEveryRun};
+ghost use Rattle.cx_inv_alive.specs.Alive.{NoDeadEnds};
+ghost use Rattle.cx_inv_alive.specs.Examples.{FirstCommandIsAnswered, VotedCommandIsAnswered};
+
+/// No list of events leads a cluster to a dead end, while room is left.
+pub fn no_dead_ends()
+    ensures { OfEveryRun NoDeadEnds }
+{}
+
+/// So three of each of matchmakers, acceptors and replicas can answer a first command.
+pub fn first_command_is_answered()
+    ensures { FirstCommandIsAnswered }
+{}
+
+/// So a command that was voted for can be answered, though the acceptor crashed in its vote, and then all others.
+pub fn voted_command_is_answered()
+    ensures { VotedCommandIsAnswered }
+{}
