@@ -3,7 +3,7 @@
 //! Its theorem is the contract of `top`: Done only with the whole text of the run written, any other
 //! status with its cause and a prefix of it; the run is lawful (`IsLawful`: agreement, one command
 //! list, fresh reads, sessions, safe retirement, snapshots, announcement, changes of grid, sets of
-//! matchmakers, recovery); a node does exactly what the run of its roles says.
+//! matchmakers, recovery, no dead ends); a node does exactly what the run of its roles says.
 #![tactic(auto)]
 
 mod further;

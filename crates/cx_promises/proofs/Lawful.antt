@@ -6,6 +6,7 @@ use Rattle.cx_model.specs.Chosen.{chosen_prefix}
 use Rattle.cx_model.specs.World.{run, log_of}
 use Rattle.cx_inv_vote.proofs.Agree.{agreement}
 use Rattle.cx_inv_vote.proofs.OneSet.{one_next_set, sets_are_decided}
+use Rattle.cx_inv_alive.proofs.Runs.{no_dead_ends}
 use Rattle.cx_inv_announce.proofs.Steps.{announced}
 use Rattle.cx_inv_bypass.proofs.Steps.{bypassed_rounds}
 use Rattle.cx_inv_held.proofs.Steps.{kept_watermarks, safe_snapshots}
@@ -46,6 +47,7 @@ lawful c es = record {
   announced = announced c es;
   bypassed_rounds = bypassed_rounds c es;
   roles_reopen = roles_reopen c es;
+  no_dead_ends = no_dead_ends c es;
 }
 
 pub prefix_is_the_list : (c : Cluster) (es : List Event) → IsCommandList c (run c es).kept (chosen_prefix (run c es).kept)

@@ -1,5 +1,6 @@
 -- What is promised of one run: that of these events over this cluster. Each sentence is under its name in cx_model's Promises, but for the
--- announcement, which is cx_inv_announce's, the change of grid, which is cx_inv_bypass's, and recovery, which is cx_inv_open's.
+-- announcement, which is cx_inv_announce's, the change of grid, which is cx_inv_bypass's, recovery, which is cx_inv_open's, and progress,
+-- which is cx_inv_alive's.
 use Rattle.std.specs.Prelude.{◌≡◌, ℕ, ◌<◌, true, List, slice_get, Some}
 use Rattle.cx_base.specs.declared.cluster.Cluster.{Cluster}
 use Rattle.cx_base.specs.declared.command.Value.{Value}
@@ -36,6 +37,7 @@ use Rattle.cx_model.specs.Promises.{
   ForgottenIsKept,
 }
 use Rattle.cx_model.specs.World.{run, log_of}
+use Rattle.cx_inv_alive.specs.Alive.{NoDeadEnds}
 use Rattle.cx_inv_announce.specs.Announced.{Announced}
 use Rattle.cx_inv_bypass.specs.Bypassed.{BypassedRounds}
 use Rattle.cx_inv_open.specs.Reopened.{RolesReopen}
@@ -78,6 +80,8 @@ pub record IsLawful (c : Cluster) (es : List Event) : Type 0 where
   pub bypassed_rounds : BypassedRounds c es
   -- recovery
   pub roles_reopen : RolesReopen c es
+  -- progress
+  pub no_dead_ends : NoDeadEnds c es
 
 -- every run is so
 abbrev pub RunsAreLawful : Type 0

@@ -1,5 +1,5 @@
 //! What every run is promised: agreement, one list, fresh reads, sessions, safe retirement, one next
-//! set of matchmakers, safe snapshots, announcement, changes of grid, recovery.
+//! set of matchmakers, safe snapshots, announcement, changes of grid, recovery, no dead ends.
 //!
 //! The world, the replay and the node cite it; the law crates prove its sentences, each in one of
 //! them. Its theorem is `runs_are_lawful`: all promises (`IsLawful`) hold of the run of each list of
