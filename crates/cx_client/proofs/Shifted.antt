@@ -35,15 +35,7 @@ further_next index n count =
 -- where no others are asked it is the line itself
 pub itself : (c : Cluster) (e : Event) → shifted c None e ≡ e
 itself c (event.Write command batcher) = refl
-itself c (event.Read client seq floor reader replica key) = refl
-itself c (event.Session client seq floor replica key) = refl
-itself c (event.Deliver number cut) = refl
-itself c (event.Tick r) = refl
-itself c (event.Order leader order cut) = refl
-itself c (event.Replace replacer set cut) = refl
-itself c (event.Snap replica cut) = refl
-itself c (event.Crash r) = refl
-itself c (event.Restart r) = refl
+itself c other = refl
 
 pub all_itself : (c : Cluster) (es : List Event) → map (shifted c None) es ≡ es
 all_itself c [] = refl
@@ -52,15 +44,7 @@ all_itself c (e ∷ es) = rw (itself c e, all_itself c es) refl
 -- it is of the same client, and has the same number
 same_asker : (c : Cluster) (o : Option ℕ) (e : Event) → asker (shifted c o e) ≡ asker e
 same_asker c o (event.Write command batcher) = refl
-same_asker c o (event.Read client seq floor reader replica key) = refl
-same_asker c o (event.Session client seq floor replica key) = refl
-same_asker c o (event.Deliver number cut) = refl
-same_asker c o (event.Tick r) = refl
-same_asker c o (event.Order leader order cut) = refl
-same_asker c o (event.Replace replacer set cut) = refl
-same_asker c o (event.Snap replica cut) = refl
-same_asker c o (event.Crash r) = refl
-same_asker c o (event.Restart r) = refl
+same_asker c o other = refl
 
 pub asks_shifted : (c : Cluster) (o : Option ℕ) (client : ℕ) (e : Event) → asks client (shifted c o e) ≡ asks client e
 asks_shifted c o client e = ap (is_of_client client) (same_asker c o e)
@@ -79,13 +63,7 @@ named_shifted c o (event.Read client seq floor reader replica key) is =
 named_shifted c o (event.Session client seq floor replica key) is =
     let p = and_parts (nat_lt client c.clients) (nat_lt replica c.replicas) is in
     and_from (nat_lt client c.clients) (nat_lt (further o replica c.replicas) c.replicas) p.0 (further_within o replica c.replicas p.1)
-named_shifted c o (event.Deliver number cut) is = is
-named_shifted c o (event.Tick r) is = is
-named_shifted c o (event.Order leader order cut) is = is
-named_shifted c o (event.Replace replacer set cut) is = is
-named_shifted c o (event.Snap replica cut) is = is
-named_shifted c o (event.Crash r) is = is
-named_shifted c o (event.Restart r) is = is
+named_shifted c o other is = is
 
 -- no place further it is the line's own
 pub shifted_none : (c : Cluster) (e : Event) → names_event c e ≡ true → shifted c (Some 0) e ≡ e
@@ -100,13 +78,7 @@ shifted_none c (event.Read client seq floor reader replica key) is =
 shifted_none c (event.Session client seq floor replica key) is =
     let p = and_parts (nat_lt client c.clients) (nat_lt replica c.replicas) is in
     ap (λ (r : ℕ). event.Session client seq floor r key) (further_none replica c.replicas p.1)
-shifted_none c (event.Deliver number cut) is = refl
-shifted_none c (event.Tick r) is = refl
-shifted_none c (event.Order leader order cut) is = refl
-shifted_none c (event.Replace replacer set cut) is = refl
-shifted_none c (event.Snap replica cut) is = refl
-shifted_none c (event.Crash r) is = refl
-shifted_none c (event.Restart r) is = refl
+shifted_none c other is = refl
 
 -- each is one place further than the one before
 pub shifted_next : (c : Cluster) (n : ℕ) (e : Event) → shifted c (Some (n + 1)) e ≡ shifted c (Some 1) (shifted c (Some n) e)
@@ -115,10 +87,4 @@ shifted_next c n (event.Read client seq floor reader replica key) =
     ap (λ (r : ℕ). event.Read client seq floor r ((replica + (n + 1)) % c.replicas) key) (further_next reader n c.readers)
     ∙ ap (λ (p : ℕ). event.Read client seq floor (((reader + n) % c.readers + 1) % c.readers) p key) (further_next replica n c.replicas)
 shifted_next c n (event.Session client seq floor replica key) = ap (λ (p : ℕ). event.Session client seq floor p key) (further_next replica n c.replicas)
-shifted_next c n (event.Deliver number cut) = refl
-shifted_next c n (event.Tick r) = refl
-shifted_next c n (event.Order leader order cut) = refl
-shifted_next c n (event.Replace replacer set cut) = refl
-shifted_next c n (event.Snap replica cut) = refl
-shifted_next c n (event.Crash r) = refl
-shifted_next c n (event.Restart r) = refl
+shifted_next c n other = refl

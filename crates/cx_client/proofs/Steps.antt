@@ -50,49 +50,21 @@ request_own : (index heard floor : ℕ) (e : Event) → asks index e ≡ true �
 request_own index heard floor (event.Write command batcher) is = rw is refl
 request_own index heard floor (event.Read client seq before reader replica key) is = rw is refl
 request_own index heard floor (event.Session client seq before replica key) is = rw is refl
-request_own index heard floor (event.Deliver number cut) is = refl
-request_own index heard floor (event.Tick r) is = refl
-request_own index heard floor (event.Order leader order cut) is = refl
-request_own index heard floor (event.Replace replacer set cut) is = refl
-request_own index heard floor (event.Snap replica cut) is = refl
-request_own index heard floor (event.Crash r) is = refl
-request_own index heard floor (event.Restart r) is = refl
+request_own index heard floor other is = refl
 
 request_named : (c : Cluster) (heard floor : ℕ) (e : Event) → names_event c e ≡ true → Pass (names c) (request heard (event_with_floor floor e))
 request_named c heard floor (event.Write command batcher) is = (let parts = and_parts (nat_lt command.client c.clients) (nat_lt batcher c.batchers) is in rw (parts.0, parts.1) refl)
 request_named c heard floor (event.Read client seq before reader replica key) is = rw is refl
 request_named c heard floor (event.Session client seq before replica key) is = rw is refl
-request_named c heard floor (event.Deliver number cut) is = refl
-request_named c heard floor (event.Tick r) is = refl
-request_named c heard floor (event.Order leader order cut) is = refl
-request_named c heard floor (event.Replace replacer set cut) is = refl
-request_named c heard floor (event.Snap replica cut) is = refl
-request_named c heard floor (event.Crash r) is = refl
-request_named c heard floor (event.Restart r) is = refl
+request_named c heard floor other is = refl
 
 request_told : (heard floor : ℕ) (e : Event) → Pass (λ (d : Letter). msg_has_floor floor d.msg) (request heard (event_with_floor floor e))
 request_told heard floor (event.Write command batcher) = rw (number_itself floor) refl
-request_told heard floor (event.Read client seq before reader replica key) = refl
-request_told heard floor (event.Session client seq before replica key) = refl
-request_told heard floor (event.Deliver number cut) = refl
-request_told heard floor (event.Tick r) = refl
-request_told heard floor (event.Order leader order cut) = refl
-request_told heard floor (event.Replace replacer set cut) = refl
-request_told heard floor (event.Snap replica cut) = refl
-request_told heard floor (event.Crash r) = refl
-request_told heard floor (event.Restart r) = refl
+request_told heard floor other = refl
 
 request_marked : (heard floor : ℕ) (e : Event) → Pass (λ (d : Letter). tells_heard heard d.msg) (request heard (event_with_floor floor e))
-request_marked heard floor (event.Write command batcher) = refl
-request_marked heard floor (event.Read client seq before reader replica key) = refl
 request_marked heard floor (event.Session client seq before replica key) = rw (number_itself heard) refl
-request_marked heard floor (event.Deliver number cut) = refl
-request_marked heard floor (event.Tick r) = refl
-request_marked heard floor (event.Order leader order cut) = refl
-request_marked heard floor (event.Replace replacer set cut) = refl
-request_marked heard floor (event.Snap replica cut) = refl
-request_marked heard floor (event.Crash r) = refl
-request_marked heard floor (event.Restart r) = refl
+request_marked heard floor other = refl
 
 all_told : (heard floor : ℕ) (es : List Event) → Pass (λ (d : Letter). msg_has_floor floor d.msg) (request_letters heard floor es)
 all_told heard floor es = each_pass (λ (d : Letter). msg_has_floor floor d.msg) heard floor es (λ e m. request_told heard floor e)

@@ -165,13 +165,7 @@ valid_telling : (floor : ℕ) (e : Event) → floor_fits (number_of e) floor ≡
 valid_telling floor (event.Write command batcher) fits = fits
 valid_telling floor (event.Read client seq before reader replica key) fits = fits
 valid_telling floor (event.Session client seq before replica key) fits = fits
-valid_telling floor (event.Deliver number cut) fits = refl
-valid_telling floor (event.Tick role) fits = refl
-valid_telling floor (event.Order leader order cut) fits = refl
-valid_telling floor (event.Replace replacer set cut) fits = refl
-valid_telling floor (event.Snap replica cut) fits = refl
-valid_telling floor (event.Crash role) fits = refl
-valid_telling floor (event.Restart role) fits = refl
+valid_telling floor other fits = refl
 
 -- with each outstanding request the floor may be told
 pub fits : (window : ℕ) (left : List Event) → rise_above 0 left ≡ true → (e : Event) → Member e (outstanding window left) → floor_fits (number_of e) (floor_for left) ≡ true

@@ -15,13 +15,7 @@ shifted c shift (event.Write command batcher) = event.Write command (further shi
 shifted c shift (event.Read client seq floor reader replica key) =
     event.Read client seq floor (further shift reader c.readers) (further shift replica c.replicas) key
 shifted c shift (event.Session client seq floor replica key) = event.Session client seq floor (further shift replica c.replicas) key
-shifted c shift (event.Deliver number cut) = event.Deliver number cut
-shifted c shift (event.Tick r) = event.Tick r
-shifted c shift (event.Order leader order cut) = event.Order leader order cut
-shifted c shift (event.Replace replacer set cut) = event.Replace replacer set cut
-shifted c shift (event.Snap replica cut) = event.Snap replica cut
-shifted c shift (event.Crash r) = event.Crash r
-shifted c shift (event.Restart r) = event.Restart r
+shifted c shift other = other
 
 -- How many places further a client is that asks others: one more each time that it asks again. The count stops at 2 ^ 32 - 1.
 abbrev pub one_further : Option ℕ → Option ℕ

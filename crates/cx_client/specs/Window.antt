@@ -44,13 +44,7 @@ abbrev pub event_with_floor : ℕ → Event → Event
 event_with_floor floor (event.Write command batcher) = event.Write (record command { floor = floor }) batcher
 event_with_floor floor (event.Read client seq before reader replica key) = event.Read client seq floor reader replica key
 event_with_floor floor (event.Session client seq before replica key) = event.Session client seq floor replica key
-event_with_floor floor (event.Deliver number cut) = event.Deliver number cut
-event_with_floor floor (event.Tick r) = event.Tick r
-event_with_floor floor (event.Order leader order cut) = event.Order leader order cut
-event_with_floor floor (event.Replace replacer set cut) = event.Replace replacer set cut
-event_with_floor floor (event.Snap replica cut) = event.Snap replica cut
-event_with_floor floor (event.Crash r) = event.Crash r
-event_with_floor floor (event.Restart r) = event.Restart r
+event_with_floor floor other = other
 
 -- the datagrams of requests of a client that has heard of so many values, each telling this floor, one after the other
 abbrev pub request_letters : ℕ → ℕ → List Event → List Letter

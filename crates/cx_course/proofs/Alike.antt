@@ -60,8 +60,8 @@ pub record Moves (w after : World) (me : RoleId) (what : Option Written) (sends 
 -- ---- a role that is spared stays alike
 
 module _ (w after : World) (me : RoleId) (what : Option Written) (sends : List Letter) (moves : Moves w after me what sends) where
-  spared_role : {D V : Type 0} (rules : Rules D V) (make : V → State) (s : Running D V) → same_role s.me me ≡ false → IsRole rules make w s → IsRole rules make after s
-  spared_role rules make s differs is = record {
+  spared_role : {D V : Type 0} {rules : Rules D V} {make : V → State} {s : Running D V} → same_role s.me me ≡ false → IsRole rules make w s → IsRole rules make after s
+  spared_role {rules} {s} differs is = record {
     cluster = is.cluster ∙ sym moves.cluster;
     kind_is = is.kind_is;
     named = ap (λ c. names_role c s.me) moves.cluster ∙ is.named;
@@ -71,12 +71,4 @@ module _ (w after : World) (me : RoleId) (what : Option Written) (sends : List L
 
   pub spared : (h : Hosted) → same_role (name_of h) me ≡ false → IsAlike w h → IsAlike after h
   spared (ClientAt s) differs is = still_asks w after s moves.cluster ((moves.others s.me differs).client (ap (λ (a : RoleId). a.kind) is.client.me)) is
-  spared (BatcherAt s) differs is = spared_role batcher_rules BatcherIn s differs is
-  spared (LeaderAt s) differs is = spared_role leader_rules LeaderIn s differs is
-  spared (ProxyAt s) differs is = spared_role proxy_rules ProxyIn s differs is
-  spared (AcceptorAt s) differs is = spared_role acceptor_rules plain s differs is
-  spared (MatchmakerAt s) differs is = spared_role matchmaker_rules plain s differs is
-  spared (ReplicaAt s) differs is = spared_role replica_rules ReplicaIn s differs is
-  spared (UnbatcherAt s) differs is = spared_role unbatcher_rules plain s differs is
-  spared (ReaderAt s) differs is = spared_role reader_rules ReaderIn s differs is
-  spared (ReplacerAt s) differs is = spared_role replacer_rules ReplacerIn s differs is
+  spared other differs is = spared_role differs is

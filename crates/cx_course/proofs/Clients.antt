@@ -73,13 +73,7 @@ requests_back client heard floor (e ∷ es) own = one e (own e (inl refl)) (requ
     one (event.Write command batcher) own rest = ap (λ (l : List Event). event_with_floor floor (event.Write command batcher) ∷ l) rest
     one (event.Read other seq before reader replica key) own rest = ap (λ (l : List Event). event_with_floor floor (event.Read other seq before reader replica key) ∷ l) rest
     one (event.Session other seq before replica key) own rest = ap (λ (l : List Event). event_with_floor floor (event.Session other seq before replica key) ∷ l) rest
-    one (event.Deliver number cut) own rest = cc
-    one (event.Tick r) own rest = cc
-    one (event.Order l order cut) own rest = cc
-    one (event.Replace replacer set cut) own rest = cc
-    one (event.Snap p cut) own rest = cc
-    one (event.Crash r) own rest = cc
-    one (event.Restart r) own rest = cc
+    one other own rest = cc
 
 -- a client's move in a world: its requests go out
 module _ (w : World) (s : ClientState) (m : ClientMoved) (moves : Asks w s m) (traced : IsTraced w) where

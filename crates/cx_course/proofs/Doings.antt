@@ -1,5 +1,5 @@
 -- A step of any hosted role, beside the events that are recorded of it.
-use Rattle.std.proofs.Common.{◌≡◌, ◌<◌, ◌⊎◌, ◌==◌, ◌&&◌, ℕ, Bool, true, false, List, [], ◌∷◌, ◌++◌, length, None, Some, ap, sym, ◌∙◌, subst, refl, inl, inr, append-nil}
+use Rattle.std.proofs.Common.{◌≡◌, ◌<◌, ◌⊎◌, ◌==◌, ℕ, Bool, true, false, List, [], ◌∷◌, ◌++◌, length, None, Some, ap, sym, ◌∙◌, subst, refl, inl, inr, append-nil}
 use Rattle.std.specs.Prelude.{nat_lt, slice_get, if◌then◌else◌}
 use Rattle.std.proofs.lemmas.Bool.{and_from, true≢false}
 use Rattle.std.proofs.lemmas.Option.{none-some, slice_get_within}
@@ -17,7 +17,7 @@ use Rattle.cx_base.specs.Cluster.{count_of}
 use Rattle.cx_base.specs.Role.{code_of, role, same_role}
 use Rattle.cx_client.specs.Client.{ClientState}
 use Rattle.cx_inv_run.specs.States.{State}
-use Rattle.cx_model.specs.Lists.{number_itself, role_from_parts, same_role-itself}
+use Rattle.cx_model.specs.Lists.{role_from_parts, same_role-itself}
 use Rattle.cx_model.specs.Member.{Member}
 use Rattle.cx_model.specs.Names.{names_role}
 use Rattle.cx_model.specs.World.{World, act_at, come, run_from}
@@ -30,15 +30,15 @@ use Rattle.cx_script.specs.Names.{names_order}
 use Rattle.cx_script.specs.Names as script
 use Rattle.cx_course.specs.declared.doing.Doing.{Doing}
 use Rattle.cx_course.specs.declared.doing.Doing.TheVariants.{Begin, Give, Snap}
-use Rattle.cx_course.specs.Course.{is_a, own_event, requests_by, step_events}
-use Rattle.cx_course.specs.Hosted.{Hosted, ClientAt, BatcherAt, LeaderAt, ProxyAt, AcceptorAt, MatchmakerAt, ReplicaAt, UnbatcherAt, ReaderAt, ReplacerAt, Step, by_snap, does, given, kind_at, name_of, rests, snap_of, snapped}
+use Rattle.cx_course.specs.Course.{own_event, requests_by, step_events}
+use Rattle.cx_course.specs.Hosted.{Hosted, ClientAt, ReplicaAt, Step, by_snap, does, given, kind_at, name_of, rests, snap_of, snapped}
 use Rattle.cx_course.specs.Run.{is_client}
 use Rattle.cx_course.proofs.Alike.{IsAlike, Moves}
 use Rattle.cx_course.proofs.Asker.{IsAsker, IsTraced}
 use Rattle.cx_course.proofs.Clients.{Comes, IsClients, client_lands}
 use Rattle.cx_course.proofs.Hearing.{other_kind, told_none, told_other}
 use Rattle.cx_course.proofs.Requests.{Sends}
-use Rattle.cx_course.proofs.Roles.{IsAct, Lands, role_lands, snap_lands}
+use Rattle.cx_course.proofs.Roles.{IsAct, Lands, is_no, is_one, no_client, role_lands, snap_lands}
 
 -- ---- what a recording node knows of what it does
 
@@ -62,35 +62,9 @@ FitsIn c many e = ((n : ℕ) × (cut : Cut) × (e ≡ event.Deliver n cut) × (n
 
 -- ---- names
 
-kind_so : (w : World) (h : Hosted) → IsAlike w h → (name_of h).kind ≡ kind_at h
-kind_so w (ClientAt s) is = ap (λ (a : RoleId). a.kind) is.client.me
-kind_so w (BatcherAt s) is = is.kind_is
-kind_so w (LeaderAt s) is = is.kind_is
-kind_so w (ProxyAt s) is = is.kind_is
-kind_so w (AcceptorAt s) is = is.kind_is
-kind_so w (MatchmakerAt s) is = is.kind_is
-kind_so w (ReplicaAt s) is = is.kind_is
-kind_so w (UnbatcherAt s) is = is.kind_is
-kind_so w (ReaderAt s) is = is.kind_is
-kind_so w (ReplacerAt s) is = is.kind_is
-
 named_so : (w : World) (h : Hosted) → IsAlike w h → names_role w.cluster (name_of h) ≡ true
 named_so w (ClientAt s) is = is.named
-named_so w (BatcherAt s) is = is.named
-named_so w (LeaderAt s) is = is.named
-named_so w (ProxyAt s) is = is.named
-named_so w (AcceptorAt s) is = is.named
-named_so w (MatchmakerAt s) is = is.named
-named_so w (ReplicaAt s) is = is.named
-named_so w (UnbatcherAt s) is = is.named
-named_so w (ReaderAt s) is = is.named
-named_so w (ReplacerAt s) is = is.named
-
-is_no : (k j : Kind) (me : RoleId) → me.kind ≡ j → (code_of j == code_of k) ≡ false → is_a k me ≡ false
-is_no k j me is other = ap (λ i. (code_of i == code_of k) && (me.index == me.index)) is ∙ ap (λ b. b && (me.index == me.index)) other
-
-is_one : (k : Kind) (me : RoleId) → me.kind ≡ k → is_a k me ≡ true
-is_one k me is = ap (λ i. (code_of i == code_of k) && (me.index == me.index)) is ∙ ap (λ b. b && (me.index == me.index)) (number_itself (code_of k)) ∙ number_itself me.index
+named_so w other is = is.named
 
 by_kind_name : (k : Kind) (me : RoleId) → me.kind ≡ k → me ≡ role k me.index
 by_kind_name k me is = role_from_parts me.kind k me.index me.index is refl
@@ -143,49 +117,17 @@ client_steps w s what traced is fair =
 
 -- ---- a step of a role of the protocol
 
-abbrev is_asker : Hosted → Bool
+abbrev pub is_asker : Hosted → Bool
 is_asker (ClientAt s) = true
-is_asker (BatcherAt s) = false
-is_asker (LeaderAt s) = false
-is_asker (ProxyAt s) = false
-is_asker (AcceptorAt s) = false
-is_asker (MatchmakerAt s) = false
-is_asker (ReplicaAt s) = false
-is_asker (UnbatcherAt s) = false
-is_asker (ReaderAt s) = false
-is_asker (ReplacerAt s) = false
+is_asker other = false
 
 -- it asks for nothing
-asks_nothing : (h : Hosted) (what : Doing) → is_asker h ≡ false → requests_by (does h what).next (does h what).sends ≡ []
+pub asks_nothing : (h : Hosted) (what : Doing) → is_asker h ≡ false → requests_by (does h what).next (does h what).sends ≡ []
 unfolding does
 asks_nothing (ClientAt s) what off = absurd (true≢false off)
-asks_nothing (BatcherAt s) Begin off = refl
-asks_nothing (BatcherAt s) (Give n i) off = refl
-asks_nothing (BatcherAt s) Snap off = refl
-asks_nothing (LeaderAt s) Begin off = refl
-asks_nothing (LeaderAt s) (Give n i) off = refl
-asks_nothing (LeaderAt s) Snap off = refl
-asks_nothing (ProxyAt s) Begin off = refl
-asks_nothing (ProxyAt s) (Give n i) off = refl
-asks_nothing (ProxyAt s) Snap off = refl
-asks_nothing (AcceptorAt s) Begin off = refl
-asks_nothing (AcceptorAt s) (Give n i) off = refl
-asks_nothing (AcceptorAt s) Snap off = refl
-asks_nothing (MatchmakerAt s) Begin off = refl
-asks_nothing (MatchmakerAt s) (Give n i) off = refl
-asks_nothing (MatchmakerAt s) Snap off = refl
-asks_nothing (ReplicaAt s) Begin off = refl
-asks_nothing (ReplicaAt s) (Give n i) off = refl
-asks_nothing (ReplicaAt s) Snap off = refl
-asks_nothing (UnbatcherAt s) Begin off = refl
-asks_nothing (UnbatcherAt s) (Give n i) off = refl
-asks_nothing (UnbatcherAt s) Snap off = refl
-asks_nothing (ReaderAt s) Begin off = refl
-asks_nothing (ReaderAt s) (Give n i) off = refl
-asks_nothing (ReaderAt s) Snap off = refl
-asks_nothing (ReplacerAt s) Begin off = refl
-asks_nothing (ReplacerAt s) (Give n i) off = refl
-asks_nothing (ReplacerAt s) Snap off = refl
+asks_nothing other Begin off = refl
+asks_nothing other (Give n i) off = refl
+asks_nothing other Snap off = refl
 
 -- nothing happens
 nothing_moves : (w : World) (me : RoleId) → IsTraced w → Moves w w me None []
@@ -212,59 +154,18 @@ rests_lands w h traced is = record {
 begins_so : (h : Hosted) → is_asker h ≡ false → does h Begin ≡ rests h
 unfolding does
 begins_so (ClientAt s) off = absurd (true≢false off)
-begins_so (BatcherAt s) off = refl
-begins_so (LeaderAt s) off = refl
-begins_so (ProxyAt s) off = refl
-begins_so (AcceptorAt s) off = refl
-begins_so (MatchmakerAt s) off = refl
-begins_so (ReplicaAt s) off = refl
-begins_so (UnbatcherAt s) off = refl
-begins_so (ReaderAt s) off = refl
-begins_so (ReplacerAt s) off = refl
-
--- a role whose kind isn't Client
-no_client : (k : Kind) (me : RoleId) → me.kind ≡ k → (code_of k == code_of kind.Client) ≡ false → me.kind ≡ kind.Client → ⊥
-no_client k me is other client =
-    true≢false (sym (number_itself (code_of kind.Client)) ∙ ap (λ j. code_of j == code_of kind.Client) (sym client ∙ is) ∙ other)
-
-not_client : (w : World) (h : Hosted) → is_asker h ≡ false → IsAlike w h → (name_of h).kind ≡ kind.Client → ⊥
-not_client w (ClientAt s) off is = absurd (true≢false off)
-not_client w (BatcherAt s) off is = no_client kind.Batcher s.me is.kind_is refl
-not_client w (LeaderAt s) off is = no_client kind.Leader s.me is.kind_is refl
-not_client w (ProxyAt s) off is = no_client kind.Proxy s.me is.kind_is refl
-not_client w (AcceptorAt s) off is = no_client kind.Acceptor s.me is.kind_is refl
-not_client w (MatchmakerAt s) off is = no_client kind.Matchmaker s.me is.kind_is refl
-not_client w (ReplicaAt s) off is = no_client kind.Replica s.me is.kind_is refl
-not_client w (UnbatcherAt s) off is = no_client kind.Unbatcher s.me is.kind_is refl
-not_client w (ReaderAt s) off is = no_client kind.Reader s.me is.kind_is refl
-not_client w (ReplacerAt s) off is = no_client kind.Replacer s.me is.kind_is refl
+begins_so other off = refl
 
 no_client_event : (w : World) (h : Hosted) → is_asker h ≡ false → IsAlike w h → is_client h ≡ false
 no_client_event w (ClientAt s) off is = absurd (true≢false off)
-no_client_event w (BatcherAt s) off is = is_no kind.Client kind.Batcher s.me is.kind_is refl
-no_client_event w (LeaderAt s) off is = is_no kind.Client kind.Leader s.me is.kind_is refl
-no_client_event w (ProxyAt s) off is = is_no kind.Client kind.Proxy s.me is.kind_is refl
-no_client_event w (AcceptorAt s) off is = is_no kind.Client kind.Acceptor s.me is.kind_is refl
-no_client_event w (MatchmakerAt s) off is = is_no kind.Client kind.Matchmaker s.me is.kind_is refl
-no_client_event w (ReplicaAt s) off is = is_no kind.Client kind.Replica s.me is.kind_is refl
-no_client_event w (UnbatcherAt s) off is = is_no kind.Client kind.Unbatcher s.me is.kind_is refl
-no_client_event w (ReaderAt s) off is = is_no kind.Client kind.Reader s.me is.kind_is refl
-no_client_event w (ReplacerAt s) off is = is_no kind.Client kind.Replacer s.me is.kind_is refl
+no_client_event w other off is = is_no kind.Client (kind_at other) (name_of other) is.kind_is refl
 
 server_so : (c : Cluster) (k : Kind) (me : RoleId) → me.kind ≡ k → script.is_client k ≡ false → names_role c me ≡ true → script.names_server c me ≡ true
 server_so c k me is other named = rw (is, other) (ap (λ j. nat_lt me.index (count_of c j)) (sym is) ∙ named)
 
 is_server : (w : World) (h : Hosted) → is_asker h ≡ false → IsAlike w h → script.names_server w.cluster (name_of h) ≡ true
 is_server w (ClientAt s) off is = absurd (true≢false off)
-is_server w (BatcherAt s) off is = server_so w.cluster kind.Batcher s.me is.kind_is refl is.named
-is_server w (LeaderAt s) off is = server_so w.cluster kind.Leader s.me is.kind_is refl is.named
-is_server w (ProxyAt s) off is = server_so w.cluster kind.Proxy s.me is.kind_is refl is.named
-is_server w (AcceptorAt s) off is = server_so w.cluster kind.Acceptor s.me is.kind_is refl is.named
-is_server w (MatchmakerAt s) off is = server_so w.cluster kind.Matchmaker s.me is.kind_is refl is.named
-is_server w (ReplicaAt s) off is = server_so w.cluster kind.Replica s.me is.kind_is refl is.named
-is_server w (UnbatcherAt s) off is = server_so w.cluster kind.Unbatcher s.me is.kind_is refl is.named
-is_server w (ReaderAt s) off is = server_so w.cluster kind.Reader s.me is.kind_is refl is.named
-is_server w (ReplacerAt s) off is = server_so w.cluster kind.Replacer s.me is.kind_is refl is.named
+is_server w other off is = server_so w.cluster (kind_at other) (name_of other) is.kind_is refl is.named
 
 -- the step lands, and each of its events fits
 abbrev pub Steps : World → Hosted → Doing → Type 0
@@ -327,7 +228,7 @@ module _ (w : World) (traced : IsTraced w) where
         plain = record {
           no_request = refl;
           unheard = λ client u. told_other client w (record { event = event.Deliver n Whole; why = u }) n Whole d refl fair.0
-              (other_kind client d.to (λ clients. not_client w h off is (ap (λ (a : RoleId). a.kind) (sym fair.1) ∙ clients)));
+              (other_kind client d.to (λ clients. no_client (name_of h) (no_client_event w h off is) (ap (λ (a : RoleId). a.kind) (sym fair.1) ∙ clients)));
         };
       })
       (inl (n, Whole, refl, slice_get_within w.sent n d fair.0))
@@ -351,14 +252,6 @@ module _ (w : World) (traced : IsTraced w) where
 
   role_snaps : (h : Hosted) → is_asker h ≡ false → IsAlike w h → Steps w h Snap
   role_snaps (ClientAt s) off is = absurd (true≢false off)
-  role_snaps (BatcherAt s) off is = rests_so (BatcherAt s) Snap off is (no_snap s.me kind.Batcher is.kind_is refl) (snaps_so (BatcherAt s))
-  role_snaps (LeaderAt s) off is = rests_so (LeaderAt s) Snap off is (no_snap s.me kind.Leader is.kind_is refl) (snaps_so (LeaderAt s))
-  role_snaps (ProxyAt s) off is = rests_so (ProxyAt s) Snap off is (no_snap s.me kind.Proxy is.kind_is refl) (snaps_so (ProxyAt s))
-  role_snaps (AcceptorAt s) off is = rests_so (AcceptorAt s) Snap off is (no_snap s.me kind.Acceptor is.kind_is refl) (snaps_so (AcceptorAt s))
-  role_snaps (MatchmakerAt s) off is = rests_so (MatchmakerAt s) Snap off is (no_snap s.me kind.Matchmaker is.kind_is refl) (snaps_so (MatchmakerAt s))
-  role_snaps (UnbatcherAt s) off is = rests_so (UnbatcherAt s) Snap off is (no_snap s.me kind.Unbatcher is.kind_is refl) (snaps_so (UnbatcherAt s))
-  role_snaps (ReaderAt s) off is = rests_so (ReaderAt s) Snap off is (no_snap s.me kind.Reader is.kind_is refl) (snaps_so (ReaderAt s))
-  role_snaps (ReplacerAt s) off is = rests_so (ReplacerAt s) Snap off is (no_snap s.me kind.Replacer is.kind_is refl) (snaps_so (ReplacerAt s))
   role_snaps (ReplicaAt s) off is =
       let e = event.Snap s.me.index Whole in
       steps_by (ReplicaAt s) Snap (e ∷ []) (by_snap s (snap_of s)) off
@@ -368,6 +261,7 @@ module _ (w : World) (traced : IsTraced w) where
         plain = record { no_request = refl; unheard = λ client u. told_none client w (record { event = e; why = u }) refl };
       }))
       (one_fits e (inr (record { ranges = tt; valid = refl; named = in_cluster kind.Replica s.me is.kind_is is.named; complete = refl })))
+  role_snaps other off is = rests_so other Snap off is (no_snap (name_of other) (kind_at other) is.kind_is refl) (snaps_so other)
 
   role_steps : (h : Hosted) (what : Doing) → is_asker h ≡ false → IsAlike w h → IsFair w (name_of h) what → Steps w h what
   role_steps h Begin off is fair = rests_so h Begin off is refl (begins_so h off)
@@ -377,12 +271,4 @@ module _ (w : World) (traced : IsTraced w) where
   -- whatever a hosted role does in a recording node is what its events do in the model
   pub hosted_steps : (h : Hosted) (what : Doing) → IsAlike w h → IsFair w (name_of h) what → Steps w h what
   hosted_steps (ClientAt s) what is fair = client_steps w s what traced is fair
-  hosted_steps (BatcherAt s) what is fair = role_steps (BatcherAt s) what refl is fair
-  hosted_steps (LeaderAt s) what is fair = role_steps (LeaderAt s) what refl is fair
-  hosted_steps (ProxyAt s) what is fair = role_steps (ProxyAt s) what refl is fair
-  hosted_steps (AcceptorAt s) what is fair = role_steps (AcceptorAt s) what refl is fair
-  hosted_steps (MatchmakerAt s) what is fair = role_steps (MatchmakerAt s) what refl is fair
-  hosted_steps (ReplicaAt s) what is fair = role_steps (ReplicaAt s) what refl is fair
-  hosted_steps (UnbatcherAt s) what is fair = role_steps (UnbatcherAt s) what refl is fair
-  hosted_steps (ReaderAt s) what is fair = role_steps (ReaderAt s) what refl is fair
-  hosted_steps (ReplacerAt s) what is fair = role_steps (ReplacerAt s) what refl is fair
+  hosted_steps other what is fair = role_steps other what refl is fair

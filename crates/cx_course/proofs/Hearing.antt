@@ -48,14 +48,7 @@ is_there w (event.Deliver k cut) n other heard is = subst (λ (i : ℕ). i < len
     found None is heard = absurd (true≢false (sym heard))
     found (Some d) is heard = within w.sent k d is
 is_there w (event.Write command batcher) n cut heard is = cc
-is_there w (event.Read client seq floor reader replica key) n cut heard is = cc
-is_there w (event.Session client seq floor replica key) n cut heard is = cc
-is_there w (event.Tick r) n cut heard is = cc
-is_there w (event.Order l order c) n cut heard is = cc
-is_there w (event.Replace replacer set c) n cut heard is = cc
-is_there w (event.Snap p c) n cut heard is = cc
-is_there w (event.Crash r) n cut heard is = cc
-is_there w (event.Restart r) n cut heard is = cc
+is_there w other n cut heard is = cc
 
 -- ---- what was heard
 
@@ -63,15 +56,7 @@ if_same : (client : ℕ) (sent more : List Letter) (b : Bool) (e : Event) → ((
     → ◌≡◌ {A = ℕ} (if b then delivered_to client (sent ++ more) e else 0) (if b then delivered_to client sent e else 0)
 if_same client sent more false e there = refl
 if_same client sent more true (event.Deliver n cut) there = ap (told_to client) (earlier sent more n (there n cut refl refl))
-if_same client sent more true (event.Write command batcher) there = refl
-if_same client sent more true (event.Read other seq floor reader replica key) there = refl
-if_same client sent more true (event.Session other seq floor replica key) there = refl
-if_same client sent more true (event.Tick r) there = refl
-if_same client sent more true (event.Order l order cut) there = refl
-if_same client sent more true (event.Replace replacer set cut) there = refl
-if_same client sent more true (event.Snap p cut) there = refl
-if_same client sent more true (event.Crash r) there = refl
-if_same client sent more true (event.Restart r) there = refl
+if_same client sent more true other there = refl
 
 same_at : (client : ℕ) (sent more : List Letter) (h : Happened) → IsThere sent h → heard_at client (sent ++ more) h ≡ heard_at client sent h
 same_at client sent more h there = if_same client sent more (is_heard h.why) h.event there

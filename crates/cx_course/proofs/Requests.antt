@@ -44,13 +44,7 @@ from_it n (event.Read client seq floor reader replica key) t is d (inl new) = ap
 from_it n (event.Read client seq floor reader replica key) t is d (inr never) = absurd never
 from_it n (event.Session client seq floor replica key) t is d (inl new) = ap (λ (x : Letter). x.from) new ∙ ap (λ (u : Token). role kind.Client u.client) (same_Some _ _ is)
 from_it n (event.Session client seq floor replica key) t is d (inr never) = absurd never
-from_it n (event.Deliver number cut) t is d m = absurd m
-from_it n (event.Tick r) t is d m = absurd m
-from_it n (event.Order l order cut) t is d m = absurd m
-from_it n (event.Replace replacer set cut) t is d m = absurd m
-from_it n (event.Snap p cut) t is d m = absurd m
-from_it n (event.Crash r) t is d m = absurd m
-from_it n (event.Restart r) t is d m = absurd m
+from_it n other t is d m = absurd m
 
 -- a line that is left goes out
 module _ (w : World) (s : ClientState) (is : IsAsker w s) (traced : IsTraced w) (o : Option ℕ) (e : Event) (here : Member e (left s)) where
@@ -68,13 +62,7 @@ module _ (w : World) (s : ClientState) (is : IsAsker w s) (traced : IsTraced w) 
   by_event (event.Write command batcher) so token = so
   by_event (event.Read client seq floor reader replica key) so token = so
   by_event (event.Session client seq floor replica key) so token = so
-  by_event (event.Deliver n cut) so token = absurd (none-some _ token)
-  by_event (event.Tick r) so token = absurd (none-some _ token)
-  by_event (event.Order l order cut) so token = absurd (none-some _ token)
-  by_event (event.Replace replacer set cut) so token = absurd (none-some _ token)
-  by_event (event.Snap p cut) so token = absurd (none-some _ token)
-  by_event (event.Crash r) so token = absurd (none-some _ token)
-  by_event (event.Restart r) so token = absurd (none-some _ token)
+  by_event other so token = absurd (none-some _ token)
 
   changes_so : change w Request ≡ Goes
   changes_so = by_event Request asks_so (its_token w s is o e here)

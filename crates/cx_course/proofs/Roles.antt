@@ -1,23 +1,25 @@
 -- One step of a role of the protocol, beside the one event that is recorded of it.
-use Rattle.std.proofs.Common.{◌≡◌, ℕ, Bool, true, false, List, [], ◌∷◌, ◌++◌, Option, None, Some, option_map, ap, sym, ◌∙◌, subst, refl}
+use Rattle.std.proofs.Common.{◌≡◌, ◌==◌, ◌&&◌, ℕ, true, false, List, [], ◌∷◌, ◌++◌, Option, None, Some, option_map, ap, sym, ◌∙◌, subst, refl}
 use Rattle.std.proofs.lemmas.Bool.{true≢false}
+use Rattle.std.proofs.lemmas.Option.{none-some}
 use Rattle.cx_base.specs.declared.cluster.Cluster.{Cluster}
 use Rattle.cx_base.specs.declared.event.Cut.TheVariants.{Whole}
 use Rattle.cx_base.specs.declared.event.Event.{Event}
 use Rattle.cx_base.specs.declared.role.Kind.{Kind}
 use Rattle.cx_base.specs.declared.role.Kind.TheVariants as kind
 use Rattle.cx_base.specs.declared.role.RoleId.{RoleId}
-use Rattle.cx_base.specs.Role.{same_role}
+use Rattle.cx_base.specs.declared.why.Why.TheVariants as why
+use Rattle.cx_base.specs.Role.{code_of}
 use Rattle.cx_inv_open.specs.Reopened.{stored_as}
 use Rattle.cx_inv_run.specs.Kinds.{OfKind}
 use Rattle.cx_inv_run.specs.States.{State, BatcherIn, LeaderIn, ProxyIn, ReplicaIn, ReaderIn, ReplacerIn, plain, plain_volatile, batcher_volatile, leader_volatile, proxy_volatile, replica_volatile, reader_volatile, replacer_volatile}
 use Rattle.cx_inv_run.proofs.Senders.{acceptor_kinds, batcher_kinds, matchmaker_kinds, proxy_kinds, reader_kinds, replica_kinds, unbatcher_kinds}
 use Rattle.cx_inv_run.proofs.LeaderSenders.{leader_kinds, replacer_kinds}
-use Rattle.cx_keep.specs.Keeper.{Append, Renewal}
+use Rattle.cx_keep.specs.Keeper.{Append, KeeperChange, Renewal}
 use Rattle.cx_model.specs.Acceptor.{acceptor_rules}
 use Rattle.cx_model.specs.Batcher.{batcher_rules}
 use Rattle.cx_model.specs.Leader.{leader_rules}
-use Rattle.cx_model.specs.Lists.{list_own, same_role-itself}
+use Rattle.cx_model.specs.Lists.{list_own, number_itself}
 use Rattle.cx_model.specs.Matchmaker.{matchmaker_rules}
 use Rattle.cx_model.specs.Member.{Member}
 use Rattle.cx_model.specs.Names.{names_role}
@@ -27,20 +29,23 @@ use Rattle.cx_model.specs.Reader.{reader_rules}
 use Rattle.cx_model.specs.Replacer.{replacer_rules}
 use Rattle.cx_model.specs.Replica.{ReplicaDurable, ReplicaVolatile, replica_renewed, replica_rules}
 use Rattle.cx_model.specs.Rules.{Rules, Running, folded, folded_from, outcome_of, running_after, with_kept}
-use Rattle.cx_model.specs.Turn.{turn}
 use Rattle.cx_model.specs.Unbatcher.{unbatcher_rules}
-use Rattle.cx_model.specs.World.{World, act_at, act_of, change, changed, durable_part, kept_by, list_of, run_from, step}
+use Rattle.cx_model.specs.World.{World, Change, act_at, act_of, change, durable_part, kept_by, list_of, nothing, run_from, step, turned}
 use Rattle.cx_letter.specs.Letter.{Letter}
 use Rattle.cx_letter.specs.declared.input.Act.{Act}
 use Rattle.cx_letter.specs.declared.input.Act.TheVariants as act
 use Rattle.cx_letter.specs.declared.input.Input.{Input}
+use Rattle.cx_letter.specs.declared.input.Input.TheVariants as input
 use Rattle.cx_letter.specs.declared.input.KeptRecord.{KeptRecord}
 use Rattle.cx_letter.specs.declared.input.Written.{Written}
 use Rattle.cx_letter.specs.declared.input.Written.TheVariants as written
 use Rattle.cx_letter.specs.declared.kept.Record.{Record}
 use Rattle.cx_role.specs.Snap.{snapped_by}
-use Rattle.cx_course.specs.Changing.{change_for, changed_by}
-use Rattle.cx_course.specs.Hosted.{Hosted, ClientAt, BatcherAt, LeaderAt, ProxyAt, AcceptorAt, MatchmakerAt, ReplicaAt, UnbatcherAt, ReaderAt, ReplacerAt, Step, by_row, by_snap, given, name_of, snap_of}
+use Rattle.cx_course.specs.declared.doing.Doing.{Doing}
+use Rattle.cx_course.specs.declared.doing.Doing.TheVariants.{Begin, Give, Snap}
+use Rattle.cx_course.specs.Changing.{StoreChange, change_for, changed_by}
+use Rattle.cx_course.specs.Course.{is_a}
+use Rattle.cx_course.specs.Hosted.{Hosted, ClientAt, BatcherAt, LeaderAt, ProxyAt, AcceptorAt, MatchmakerAt, ReplicaAt, UnbatcherAt, ReaderAt, ReplacerAt, Step, by_row, by_snap, does, given, kind_at, name_of, snap_of}
 use Rattle.cx_course.specs.Run.{is_client}
 use Rattle.cx_course.proofs.Alike.{IsAlike, IsRole, Moves}
 use Rattle.cx_course.proofs.Asker.{IsTraced}
@@ -84,29 +89,99 @@ may_keep : (k : Kind) (o : Option Record) → (k ≡ kind.Client → ⊥) → Ma
 may_keep k None other = tt
 may_keep k (Some r) other = other
 
+-- ---- by the rules of its kind
+
+-- What holds of the list of each kind by its rules holds of the list in every role's store. A client has none, and only a replica's is put anew.
+pub stored_by : (P : (List KeptRecord → List Record) → Type 0) (me : RoleId) (k : Kind) → (k ≡ kind.Client → P (λ kept. [])) → P (list_of replica_rules me)
+    → ((D V : Type 0) (rules : Rules D V) → ((d : D) (first : ℕ) → rules.renewed d first ≡ []) → P (list_of rules me)) → P (λ kept. stored_as me kept k)
+stored_by P me kind.Client none replica others = none refl
+stored_by P me kind.Replica none replica others = replica
+stored_by P me kind.Batcher none replica others = others _ _ batcher_rules (λ d first. refl)
+stored_by P me kind.Leader none replica others = others _ _ leader_rules (λ d first. refl)
+stored_by P me kind.Proxy none replica others = others _ _ proxy_rules (λ d first. refl)
+stored_by P me kind.Acceptor none replica others = others _ _ acceptor_rules (λ d first. refl)
+stored_by P me kind.Matchmaker none replica others = others _ _ matchmaker_rules (λ d first. refl)
+stored_by P me kind.Unbatcher none replica others = others _ _ unbatcher_rules (λ d first. refl)
+stored_by P me kind.Reader none replica others = others _ _ reader_rules (λ d first. refl)
+stored_by P me kind.Replacer none replica others = others _ _ replacer_rules (λ d first. refl)
+
+-- What holds of the turns of each kind by its rules holds of the acts at every role. A client hears whatever it is given.
+pub acts_by : (P : (Act → Change) → Type 0) (c : Cluster) (roles : RoleId → State) (kept : List KeptRecord) (me : RoleId) (k : Kind) → P (λ a. nothing (Some me) roles why.Heard)
+    → ((D V : Type 0) (rules : Rules D V) (make : V → State) (running : Option V) → P (λ a. turned rules make c roles kept a me running)) → P (λ a. act_of c roles kept a me k)
+acts_by P c roles kept me kind.Client heard turns = heard
+acts_by P c roles kept me kind.Batcher heard turns = turns _ _ batcher_rules BatcherIn (batcher_volatile (roles me))
+acts_by P c roles kept me kind.Leader heard turns = turns _ _ leader_rules LeaderIn (leader_volatile (roles me))
+acts_by P c roles kept me kind.Proxy heard turns = turns _ _ proxy_rules ProxyIn (proxy_volatile (roles me))
+acts_by P c roles kept me kind.Acceptor heard turns = turns _ _ acceptor_rules plain (plain_volatile (roles me))
+acts_by P c roles kept me kind.Matchmaker heard turns = turns _ _ matchmaker_rules plain (plain_volatile (roles me))
+acts_by P c roles kept me kind.Replica heard turns = turns _ _ replica_rules ReplicaIn (replica_volatile (roles me))
+acts_by P c roles kept me kind.Unbatcher heard turns = turns _ _ unbatcher_rules plain (plain_volatile (roles me))
+acts_by P c roles kept me kind.Reader heard turns = turns _ _ reader_rules ReaderIn (reader_volatile (roles me))
+acts_by P c roles kept me kind.Replacer heard turns = turns _ _ replacer_rules ReplacerIn (replacer_volatile (roles me))
+
+-- What a step changes in stores: at most its role's own, and only a replica puts a list anew.
+pub record ChangesOwn (h : Hosted) (kept : List StoreChange) : Type 0 where
+  pub change : Option KeeperChange
+  pub is : kept ≡ changed_by (name_of h) change
+  pub renewal : (records : List Record) → change ≡ Some (Renewal records) → kind_at h ≡ kind.Replica
+
+changes_none : (h : Hosted) → ChangesOwn h []
+changes_none h = record { change = None; is = refl; renewal = λ records e. absurd (none-some (Renewal records) e) }
+
+no_renewal : (o : Option Record) (records : List Record) → option_map Append o ≡ Some (Renewal records) → ⊥
+no_renewal None records e = cc
+no_renewal (Some r) records e = cc
+
+-- what a row keeps
+changes_row : (h : Hosted) (o : Option Record) → ChangesOwn h (changed_by (name_of h) (option_map Append o))
+changes_row h o = record { change = option_map Append o; is = refl; renewal = λ records e. absurd (no_renewal o records e) }
+
+given_changes : (h : Hosted) (i : Input) → ChangesOwn h (given h i).kept
+given_changes (ClientAt s) (input.Take d) = changes_none (ClientAt s)
+given_changes (ClientAt s) input.Tick = changes_none (ClientAt s)
+given_changes (ClientAt s) (input.Order order) = changes_none (ClientAt s)
+given_changes (BatcherAt s) i = changes_row (BatcherAt s) (outcome_of batcher_rules s i).kept
+given_changes (LeaderAt s) i = changes_row (LeaderAt s) (outcome_of leader_rules s i).kept
+given_changes (ProxyAt s) i = changes_row (ProxyAt s) (outcome_of proxy_rules s i).kept
+given_changes (AcceptorAt s) i = changes_row (AcceptorAt s) (outcome_of acceptor_rules s i).kept
+given_changes (MatchmakerAt s) i = changes_row (MatchmakerAt s) (outcome_of matchmaker_rules s i).kept
+given_changes (ReplicaAt s) i = changes_row (ReplicaAt s) (outcome_of replica_rules s i).kept
+given_changes (UnbatcherAt s) i = changes_row (UnbatcherAt s) (outcome_of unbatcher_rules s i).kept
+given_changes (ReaderAt s) i = changes_row (ReaderAt s) (outcome_of reader_rules s i).kept
+given_changes (ReplacerAt s) i = changes_row (ReplacerAt s) (outcome_of replacer_rules s i).kept
+
+pub does_change : (h : Hosted) (what : Doing) → ChangesOwn h (does h what).kept
+unfolding does
+does_change h (Give n i) = given_changes h i
+does_change (ReplicaAt s) Snap = record { change = option_map (λ b. Renewal (replica_renewed s.durable b)) (snap_of s); is = refl; renewal = λ records e. refl }
+does_change (ClientAt s) Begin = changes_none (ClientAt s)
+does_change other Begin = changes_none other
+does_change other Snap = changes_none other
+
 -- ---- a row
 
-abbrev is_clients : Kind → Bool
-is_clients kind.Client = true
-is_clients other = false
+pub is_no : (k j : Kind) (me : RoleId) → me.kind ≡ j → (code_of j == code_of k) ≡ false → is_a k me ≡ false
+is_no k j me is other = ap (λ i. (code_of i == code_of k) && (me.index == me.index)) is ∙ ap (λ b. b && (me.index == me.index)) other
 
-by_code : (k : Kind) → is_clients k ≡ false → k ≡ kind.Client → ⊥
-by_code k other is = true≢false (sym (ap is_clients is) ∙ other)
+pub is_one : (k : Kind) (me : RoleId) → me.kind ≡ k → is_a k me ≡ true
+is_one k me is = ap (λ i. (code_of i == code_of k) && (me.index == me.index)) is ∙ ap (λ b. b && (me.index == me.index)) (number_itself (code_of k)) ∙ number_itself me.index
+
+pub no_client : (me : RoleId) → is_a kind.Client me ≡ false → me.kind ≡ kind.Client → ⊥
+no_client me off client = true≢false (sym (is_one kind.Client me client) ∙ off)
 
 -- this event is the act
 pub record IsAct (w : World) (e : Event) (a : Act) (me : RoleId) : Type 0 where
   pub change : change w e ≡ act_at w a me
   pub plain : IsPlain w e
 
-module _ {D V : Type 0} (k : Kind) (make : V → State) (get : State → Option V) (got : (v : V) → get (make v) ≡ Some v) (rules : Rules D V) (kind_is : rules.kind ≡ k) (other : k ≡ kind.Client → ⊥)
-    (acts : (c : Cluster) (roles : RoleId → State) (kept : List KeptRecord) (a : Act) (me : RoleId)
-    → act_of c roles kept a me k ≡ changed make me roles (turn rules c me (durable_part rules me kept) a (get (roles me))))
+module _ {D V : Type 0} (rules : Rules D V) (make : V → State) (get : State → Option V) (got : (v : V) → get (make v) ≡ Some v)
+    (acts : (c : Cluster) (roles : RoleId → State) (kept : List KeptRecord) (a : Act) (me : RoleId) → act_of c roles kept a me rules.kind ≡ turned rules make c roles kept a me (get (roles me)))
     (wrap : Running D V → Hosted) (alike : (w : World) (s : Running D V) → IsRole rules make w s → IsAlike w (wrap s)) (name : (s : Running D V) → name_of (wrap s) ≡ s.me) where
-  row_lands : (w : World) (s : Running D V) (i : Input) (e : Event) → IsTraced w → IsRole rules make w s → IsAct w e (act.Give i Whole) s.me → OfKind s.me (outcome_of rules s i)
+  row_lands : (w : World) (s : Running D V) (i : Input) (e : Event) → is_a kind.Client s.me ≡ false → IsTraced w → IsRole rules make w s → IsAct w e (act.Give i Whole) s.me → OfKind s.me (outcome_of rules s i)
       → Lands w (e ∷ []) s.me (by_row rules wrap s i)
-  row_lands w s i e traced is this kinds =
+  row_lands w s i e off traced is this kinds =
       let o = outcome_of rules s i in
-      let m = act_moves k make get got rules kind_is acts w traced s is (act.Give i Whole) (made_by o) (whole_kept o o.kept) e this.plain (λ d m. (kinds.sends d m).0) this.change in
+      let m = act_moves rules make get got acts w traced s is (act.Give i Whole) (made_by o) (whole_kept o o.kept) e this.plain (λ d m. (kinds.sends d m).0) this.change in
       record {
         what = option_map written.Record o.kept;
         moves = m.0;
@@ -119,7 +194,7 @@ module _ {D V : Type 0} (k : Kind) (make : V → State) (get : State → Option 
         });
         name = name (running_after rules s o);
         kept = ap (changed_by s.me) (appended (stored_as s.me w.kept s.me.kind) o.kept);
-        may = may_keep s.me.kind o.kept (λ client. other (sym kind_is ∙ sym is.kind_is ∙ client));
+        may = may_keep s.me.kind o.kept (no_client s.me off);
         next = λ y is. (e, m.2 ∙ ap (kept_by s.me) is);
         answers = λ d m. absurd m;
       }
@@ -127,35 +202,25 @@ module _ {D V : Type 0} (k : Kind) (make : V → State) (get : State → Option 
 -- a role of the protocol is given something
 pub role_lands : (w : World) (h : Hosted) (i : Input) (e : Event) → is_client h ≡ false → IsTraced w → IsAlike w h → IsAct w e (act.Give i Whole) (name_of h)
     → Lands w (e ∷ []) (name_of h) (given h i)
-role_lands w (ClientAt s) i e off traced is this =
-    absurd (true≢false (sym (subst (λ r. same_role s.me r ≡ true) is.client.me (same_role-itself s.me)) ∙ off))
+role_lands w (ClientAt s) i e off traced is this = absurd (no_client s.me off (ap (λ (a : RoleId). a.kind) is.client.me))
 role_lands w (BatcherAt s) i e off traced is this =
-    row_lands kind.Batcher BatcherIn batcher_volatile (λ v. refl) batcher_rules refl (by_code kind.Batcher refl) (λ c roles kept a me. refl) BatcherAt (λ w s is. is) (λ s. refl) w s i e traced is this
-    (batcher_kinds s.cluster s.me is.kind_is s.volatile i)
+    row_lands batcher_rules BatcherIn batcher_volatile (λ v. refl) (λ c roles kept a me. refl) BatcherAt (λ w s is. is) (λ s. refl) w s i e off traced is this (batcher_kinds s.cluster s.me is.kind_is s.volatile i)
 role_lands w (LeaderAt s) i e off traced is this =
-    row_lands kind.Leader LeaderIn leader_volatile (λ v. refl) leader_rules refl (by_code kind.Leader refl) (λ c roles kept a me. refl) LeaderAt (λ w s is. is) (λ s. refl) w s i e traced is this
-    (leader_kinds s.cluster s.me is.kind_is s.durable s.volatile i)
+    row_lands leader_rules LeaderIn leader_volatile (λ v. refl) (λ c roles kept a me. refl) LeaderAt (λ w s is. is) (λ s. refl) w s i e off traced is this (leader_kinds s.cluster s.me is.kind_is s.durable s.volatile i)
 role_lands w (ProxyAt s) i e off traced is this =
-    row_lands kind.Proxy ProxyIn proxy_volatile (λ v. refl) proxy_rules refl (by_code kind.Proxy refl) (λ c roles kept a me. refl) ProxyAt (λ w s is. is) (λ s. refl) w s i e traced is this
-    (proxy_kinds s.cluster s.me is.kind_is s.volatile i)
+    row_lands proxy_rules ProxyIn proxy_volatile (λ v. refl) (λ c roles kept a me. refl) ProxyAt (λ w s is. is) (λ s. refl) w s i e off traced is this (proxy_kinds s.cluster s.me is.kind_is s.volatile i)
 role_lands w (AcceptorAt s) i e off traced is this =
-    row_lands kind.Acceptor plain plain_volatile (λ v. refl) acceptor_rules refl (by_code kind.Acceptor refl) (λ c roles kept a me. refl) AcceptorAt (λ w s is. is) (λ s. refl) w s i e traced is this
-    (acceptor_kinds s.cluster s.me is.kind_is s.durable i)
+    row_lands acceptor_rules plain plain_volatile (λ v. refl) (λ c roles kept a me. refl) AcceptorAt (λ w s is. is) (λ s. refl) w s i e off traced is this (acceptor_kinds s.cluster s.me is.kind_is s.durable i)
 role_lands w (MatchmakerAt s) i e off traced is this =
-    row_lands kind.Matchmaker plain plain_volatile (λ v. refl) matchmaker_rules refl (by_code kind.Matchmaker refl) (λ c roles kept a me. refl) MatchmakerAt (λ w s is. is) (λ s. refl) w s i e traced is this
-    (matchmaker_kinds s.cluster s.me is.kind_is s.durable i)
+    row_lands matchmaker_rules plain plain_volatile (λ v. refl) (λ c roles kept a me. refl) MatchmakerAt (λ w s is. is) (λ s. refl) w s i e off traced is this (matchmaker_kinds s.cluster s.me is.kind_is s.durable i)
 role_lands w (ReplicaAt s) i e off traced is this =
-    row_lands kind.Replica ReplicaIn replica_volatile (λ v. refl) replica_rules refl (by_code kind.Replica refl) (λ c roles kept a me. refl) ReplicaAt (λ w s is. is) (λ s. refl) w s i e traced is this
-    (replica_kinds s.cluster s.me is.kind_is s.durable s.volatile i)
+    row_lands replica_rules ReplicaIn replica_volatile (λ v. refl) (λ c roles kept a me. refl) ReplicaAt (λ w s is. is) (λ s. refl) w s i e off traced is this (replica_kinds s.cluster s.me is.kind_is s.durable s.volatile i)
 role_lands w (UnbatcherAt s) i e off traced is this =
-    row_lands kind.Unbatcher plain plain_volatile (λ v. refl) unbatcher_rules refl (by_code kind.Unbatcher refl) (λ c roles kept a me. refl) UnbatcherAt (λ w s is. is) (λ s. refl) w s i e traced is this
-    (unbatcher_kinds s.cluster s.me is.kind_is i)
+    row_lands unbatcher_rules plain plain_volatile (λ v. refl) (λ c roles kept a me. refl) UnbatcherAt (λ w s is. is) (λ s. refl) w s i e off traced is this (unbatcher_kinds s.cluster s.me is.kind_is i)
 role_lands w (ReaderAt s) i e off traced is this =
-    row_lands kind.Reader ReaderIn reader_volatile (λ v. refl) reader_rules refl (by_code kind.Reader refl) (λ c roles kept a me. refl) ReaderAt (λ w s is. is) (λ s. refl) w s i e traced is this
-    (reader_kinds s.cluster s.me is.kind_is s.durable s.volatile i)
+    row_lands reader_rules ReaderIn reader_volatile (λ v. refl) (λ c roles kept a me. refl) ReaderAt (λ w s is. is) (λ s. refl) w s i e off traced is this (reader_kinds s.cluster s.me is.kind_is s.durable s.volatile i)
 role_lands w (ReplacerAt s) i e off traced is this =
-    row_lands kind.Replacer ReplacerIn replacer_volatile (λ v. refl) replacer_rules refl (by_code kind.Replacer refl) (λ c roles kept a me. refl) ReplacerAt (λ w s is. is) (λ s. refl) w s i e traced is this
-    (replacer_kinds s.cluster s.me is.kind_is s.durable s.volatile i)
+    row_lands replacer_rules ReplacerIn replacer_volatile (λ v. refl) (λ c roles kept a me. refl) ReplacerAt (λ w s is. is) (λ s. refl) w s i e off traced is this (replacer_kinds s.cluster s.me is.kind_is s.durable s.volatile i)
 
 -- ---- a snap
 
@@ -203,7 +268,7 @@ module _ (w : World) (s : Running ReplicaDurable ReplicaVolatile) (traced : IsTr
   pub snap_lands : (e : Event) → IsAct w e (act.Snap Whole) s.me → Lands w (e ∷ []) s.me (by_snap s (snap_of s))
   snap_lands e this =
       let first = snap_of s in
-      let m = act_moves kind.Replica ReplicaIn replica_volatile (λ v. refl) replica_rules refl (λ c roles kept a me. refl) w traced s is (act.Snap Whole) (made_snap s.volatile first) (whole_snap s.volatile first) e
+      let m = act_moves replica_rules ReplicaIn replica_volatile (λ v. refl) (λ c roles kept a me. refl) w traced s is (act.Snap Whole) (made_snap s.volatile first) (whole_snap s.volatile first) e
       this.plain (λ d m. absurd m) this.change in
       record {
         what = option_map written.Snap first;

@@ -50,13 +50,7 @@ pub own_token : (c : Cluster) (o : Option ℕ) (client floor : ℕ) (e : Event) 
 own_token c o client floor (event.Write command batcher) is = ap (λ n. Some (token_by n command.seq)) (same_number command.client client is)
 own_token c o client floor (event.Read other seq before reader replica key) is = ap (λ n. Some (token_by n seq)) (same_number other client is)
 own_token c o client floor (event.Session other seq before replica key) is = ap (λ n. Some (token_by n seq)) (same_number other client is)
-own_token c o client floor (event.Deliver number cut) is = cc
-own_token c o client floor (event.Tick r) is = cc
-own_token c o client floor (event.Order l order cut) is = cc
-own_token c o client floor (event.Replace replacer set cut) is = cc
-own_token c o client floor (event.Snap p cut) is = cc
-own_token c o client floor (event.Crash r) is = cc
-own_token c o client floor (event.Restart r) is = cc
+own_token c o client floor other is = cc
 
 -- of a line that has a token, a request that tells a floor has its number, and asks the same with each other floor, whoever is asked
 pub record IsLine (c : Cluster) (o : Option ℕ) (line : Event) (floor : ℕ) (t : Token) : Type 0 where
@@ -68,39 +62,19 @@ line_of : (c : Cluster) (o : Option ℕ) (line : Event) (floor : ℕ) (t : Token
 line_of c o (event.Write command batcher) floor t is = record { seq = ap (λ (u : Token). u.seq) (sym (same_Some _ _ is)); floor_is = refl; same = λ other p. op_itself command.op }
 line_of c o (event.Read client seq before reader replica key) floor t is = record { seq = ap (λ (u : Token). u.seq) (sym (same_Some _ _ is)); floor_is = refl; same = λ other p. bytes_itself key }
 line_of c o (event.Session client seq before replica key) floor t is = record { seq = ap (λ (u : Token). u.seq) (sym (same_Some _ _ is)); floor_is = refl; same = λ other p. bytes_itself key }
-line_of c o (event.Deliver number cut) floor t is = absurd (none-some t is)
-line_of c o (event.Tick r) floor t is = absurd (none-some t is)
-line_of c o (event.Order l order cut) floor t is = absurd (none-some t is)
-line_of c o (event.Replace replacer set cut) floor t is = absurd (none-some t is)
-line_of c o (event.Snap p cut) floor t is = absurd (none-some t is)
-line_of c o (event.Crash r) floor t is = absurd (none-some t is)
-line_of c o (event.Restart r) floor t is = absurd (none-some t is)
+line_of c o other floor t is = absurd (none-some t is)
 
 -- it names what it named without the floor
 pub names_telling : (c : Cluster) (floor : ℕ) (e : Event) → names_event c (event_with_floor floor e) ≡ names_event c e
 names_telling c floor (event.Write command batcher) = refl
-names_telling c floor (event.Read client seq before reader replica key) = refl
-names_telling c floor (event.Session client seq before replica key) = refl
-names_telling c floor (event.Deliver number cut) = refl
-names_telling c floor (event.Tick r) = refl
-names_telling c floor (event.Order l order cut) = refl
-names_telling c floor (event.Replace replacer set cut) = refl
-names_telling c floor (event.Snap p cut) = refl
-names_telling c floor (event.Crash r) = refl
-names_telling c floor (event.Restart r) = refl
+names_telling c floor other = refl
 
 -- and is valid where the floor fits its number
 valid_telling : (c : Cluster) (o : Option ℕ) (floor : ℕ) (e : Event) → floor_fits (number_of e) floor ≡ true → is_valid_event (sent_as c o floor e) ≡ true
 valid_telling c o floor (event.Write command batcher) fits = fits
 valid_telling c o floor (event.Read client seq before reader replica key) fits = fits
 valid_telling c o floor (event.Session client seq before replica key) fits = fits
-valid_telling c o floor (event.Deliver number cut) fits = refl
-valid_telling c o floor (event.Tick r) fits = refl
-valid_telling c o floor (event.Order l order cut) fits = refl
-valid_telling c o floor (event.Replace replacer set cut) fits = refl
-valid_telling c o floor (event.Snap p cut) fits = refl
-valid_telling c o floor (event.Crash r) fits = refl
-valid_telling c o floor (event.Restart r) fits = refl
+valid_telling c o floor other fits = refl
 
 -- and can be recorded as the line can
 pub recordable_telling : (c : Cluster) (o : Option ℕ) (floor : ℕ) (e : Event) → IsRecordable c e → floor_fits (number_of e) floor ≡ true → IsRecordable c (sent_as c o floor e)
@@ -113,27 +87,11 @@ recordable_telling c o floor e line fits = record {
   where
     ranges : (e : Event) → HasRanges e → HasRanges (sent_as c o floor e)
     ranges (event.Write command batcher) is = is
-    ranges (event.Read client seq before reader replica key) is = is
-    ranges (event.Session client seq before replica key) is = is
-    ranges (event.Deliver number cut) is = is
-    ranges (event.Tick r) is = is
-    ranges (event.Order l order cut) is = is
-    ranges (event.Replace replacer set cut) is = is
-    ranges (event.Snap p cut) is = is
-    ranges (event.Crash r) is = is
-    ranges (event.Restart r) is = is
+    ranges other is = is
 
     stays_complete : (e : Event) → tells_all e ≡ true → tells_all (sent_as c o floor e) ≡ true
     stays_complete (event.Write command batcher) is = is
-    stays_complete (event.Read client seq before reader replica key) is = is
-    stays_complete (event.Session client seq before replica key) is = is
-    stays_complete (event.Deliver number cut) is = is
-    stays_complete (event.Tick r) is = is
-    stays_complete (event.Order l order cut) is = is
-    stays_complete (event.Replace replacer set cut) is = is
-    stays_complete (event.Snap p cut) is = is
-    stays_complete (event.Crash r) is = is
-    stays_complete (event.Restart r) is = is
+    stays_complete other is = is
 
 -- what is left is of the script
 pub dropped : (n : ℕ) (e : Event) (es : List Event) → Member e (drop n es) → Member e es

@@ -17,7 +17,7 @@ use Rattle.cx_model.specs.Outcome.{Outcome}
 use Rattle.cx_model.specs.Request.{token_of}
 use Rattle.cx_model.specs.Rules.{Rules, Running}
 use Rattle.cx_model.specs.Turn.{Turn, snap_turn, turn, turn_with}
-use Rattle.cx_model.specs.World.{World, Change, act_at, act_of, change, changed, durable_part, kept_by, world_after, step}
+use Rattle.cx_model.specs.World.{World, Change, act_at, act_of, change, changed, durable_part, kept_by, step, turned, world_after}
 use Rattle.cx_letter.specs.Letter.{Letter}
 use Rattle.cx_letter.specs.declared.input.Act.{Act}
 use Rattle.cx_letter.specs.declared.input.KeptRecord.{KeptRecord}
@@ -67,17 +67,14 @@ pub record IsPlain (w : World) (e : Event) : Type 0 where
   pub no_request : token_of e ≡ None
   pub unheard : (client : ℕ) (u : Why) → heard_at client w.sent (record { event = e; why = u }) ≡ 0
 
-module _ {D V : Type 0} (k : Kind) (make : V → State) (get : State → Option V) (got : (v : V) → get (make v) ≡ Some v) (rules : Rules D V) (kind_is : rules.kind ≡ k)
+module _ {D V : Type 0} (rules : Rules D V) (make : V → State) (get : State → Option V) (got : (v : V) → get (make v) ≡ Some v)
     (acts : (c : Cluster) (roles : RoleId → State) (kept : List KeptRecord) (act : Act) (me : RoleId)
-    → act_of c roles kept act me k ≡ changed make me roles (turn rules c me (durable_part rules me kept) act (get (roles me)))) where
+    → act_of c roles kept act me rules.kind ≡ turned rules make c roles kept act me (get (roles me))) where
   abbrev Row : World → Running D V → Made V → Change
   Row w s t = changed make s.me w.roles (turn_of t)
 
   module _ (w : World) (traced : IsTraced w) (s : Running D V) (is : IsRole rules make w s) (act : Act) (t : Made V)
       (makes : turn rules s.cluster s.me s.durable act (Some s.volatile) ≡ turn_of t) where
-    my_kind : s.me.kind ≡ k
-    my_kind = is.kind_is ∙ kind_is
-
     same_turn : turn rules w.cluster s.me (durable_part rules s.me w.kept) act (Some s.volatile) ≡ turn_of t
     same_turn =
         ap (λ (c : Cluster). turn rules c s.me (durable_part rules s.me w.kept) act (Some s.volatile)) (sym is.cluster)
@@ -86,7 +83,7 @@ module _ {D V : Type 0} (k : Kind) (make : V → State) (get : State → Option 
 
     acted : act_at w act s.me ≡ Row w s t
     acted =
-        ap (λ (j : Kind). act_of w.cluster w.roles w.kept act s.me j) my_kind
+        ap (λ (j : Kind). act_of w.cluster w.roles w.kept act s.me j) is.kind_is
         ∙ acts w.cluster w.roles w.kept act s.me
         ∙ ap (λ (o : Option V). changed make s.me w.roles (turn rules w.cluster s.me (durable_part rules s.me w.kept) act o)) (ap get is.volatile ∙ got s.volatile)
         ∙ ap (λ (u : Turn V). changed make s.me w.roles u) same_turn

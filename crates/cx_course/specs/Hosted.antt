@@ -120,15 +120,7 @@ given (ReplacerAt s) i = by_row replacer_rules ReplacerAt s i
 -- a client sends its outstanding requests; another role has nothing to begin with
 abbrev pub starting_step : Hosted → Step
 starting_step (ClientAt s) = record { next = ClientAt s; kept = []; sends = client_start s; text = []; answers = [] }
-starting_step (BatcherAt s) = rests (BatcherAt s)
-starting_step (LeaderAt s) = rests (LeaderAt s)
-starting_step (ProxyAt s) = rests (ProxyAt s)
-starting_step (AcceptorAt s) = rests (AcceptorAt s)
-starting_step (MatchmakerAt s) = rests (MatchmakerAt s)
-starting_step (ReplicaAt s) = rests (ReplicaAt s)
-starting_step (UnbatcherAt s) = rests (UnbatcherAt s)
-starting_step (ReaderAt s) = rests (ReaderAt s)
-starting_step (ReplacerAt s) = rests (ReplacerAt s)
+starting_step other = rests other
 
 -- below which slot a running replica may forget values, if it may
 abbrev pub snap_of : Running ReplicaDurable ReplicaVolatile → Option ℕ
@@ -147,16 +139,8 @@ by_snap s first =
 
 -- a replica snaps; another role has nothing to forget
 abbrev pub snapped : Hosted → Step
-snapped (ClientAt s) = rests (ClientAt s)
-snapped (BatcherAt s) = rests (BatcherAt s)
-snapped (LeaderAt s) = rests (LeaderAt s)
-snapped (ProxyAt s) = rests (ProxyAt s)
-snapped (AcceptorAt s) = rests (AcceptorAt s)
-snapped (MatchmakerAt s) = rests (MatchmakerAt s)
 snapped (ReplicaAt s) = by_snap s (snap_of s)
-snapped (UnbatcherAt s) = rests (UnbatcherAt s)
-snapped (ReaderAt s) = rests (ReaderAt s)
-snapped (ReplacerAt s) = rests (ReplacerAt s)
+snapped other = rests other
 
 -- what a hosted role does
 unfoldable pub does : Hosted → Doing → Step
@@ -167,15 +151,7 @@ does h Snap = snapped h
 -- whether it is a leader that doesn't lead, and isn't about to
 abbrev pub is_idle_leader : Hosted → Bool
 is_idle_leader (LeaderAt s) = is_idle s.volatile.mode
-is_idle_leader (ClientAt s) = false
-is_idle_leader (BatcherAt s) = false
-is_idle_leader (ProxyAt s) = false
-is_idle_leader (AcceptorAt s) = false
-is_idle_leader (MatchmakerAt s) = false
-is_idle_leader (ReplicaAt s) = false
-is_idle_leader (UnbatcherAt s) = false
-is_idle_leader (ReaderAt s) = false
-is_idle_leader (ReplacerAt s) = false
+is_idle_leader other = false
 
 -- whether it may take a step: a role whose append failed may not
 abbrev pub is_live_role : Hosted → Bool

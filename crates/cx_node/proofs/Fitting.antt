@@ -7,8 +7,8 @@ use Rattle.cx_base.specs.declared.event.Event.{Event}
 use Rattle.cx_keep.specs.Keeper.{KeeperChange}
 use Rattle.cx_course.specs.Course.{has_room_for, own_event, requests_by, step_events}
 use Rattle.cx_course.specs.Hosted.{Hosted, does}
+use Rattle.cx_course.proofs.Doings.{asks_nothing}
 use Rattle.cx_course.specs.declared.doing.Doing.{Doing}
-use Rattle.cx_course.specs.declared.doing.Doing.TheVariants.{Begin, Give, Snap}
 use Rattle.cx_letter.specs.Letter.{Letter}
 use Rattle.cx_seat.specs.Changing.{Changing}
 use Rattle.cx_seat.specs.Guest.{HasChangeFailedIn, Grows, Rests, hosted_of, keeper_of, who}
@@ -30,29 +30,8 @@ full_with r own more full =
 asks_none : {K : Type 0} (gives : Changing K) (h : Guest K) (what : Doing) (o : Option KeeperChange) (b : Option K)
     → HasChangeFailedIn gives o (keeper_of h) b
     → requests_by (does (hosted_of h) what).next (does (hosted_of h) what).sends ≡ []
-unfolding does
 asks_none gives (guest.Client role) what o b fails = absurd fails
-asks_none gives (guest.Batcher role) what o b fails = absurd fails
-asks_none gives (guest.Proxy role) what o b fails = absurd fails
-asks_none gives (guest.Unbatcher role) what o b fails = absurd fails
-asks_none gives (guest.Leader role keeper) Begin o b fails = refl
-asks_none gives (guest.Leader role keeper) (Give n i) o b fails = refl
-asks_none gives (guest.Leader role keeper) Snap o b fails = refl
-asks_none gives (guest.Acceptor role keeper) Begin o b fails = refl
-asks_none gives (guest.Acceptor role keeper) (Give n i) o b fails = refl
-asks_none gives (guest.Acceptor role keeper) Snap o b fails = refl
-asks_none gives (guest.Matchmaker role keeper) Begin o b fails = refl
-asks_none gives (guest.Matchmaker role keeper) (Give n i) o b fails = refl
-asks_none gives (guest.Matchmaker role keeper) Snap o b fails = refl
-asks_none gives (guest.Replica role keeper) Begin o b fails = refl
-asks_none gives (guest.Replica role keeper) (Give n i) o b fails = refl
-asks_none gives (guest.Replica role keeper) Snap o b fails = refl
-asks_none gives (guest.Reader role keeper) Begin o b fails = refl
-asks_none gives (guest.Reader role keeper) (Give n i) o b fails = refl
-asks_none gives (guest.Reader role keeper) Snap o b fails = refl
-asks_none gives (guest.Replacer role keeper) Begin o b fails = refl
-asks_none gives (guest.Replacer role keeper) (Give n i) o b fails = refl
-asks_none gives (guest.Replacer role keeper) Snap o b fails = refl
+asks_none gives other what o b fails = asks_nothing (hosted_of other) what refl
 
 -- so its own lines are all
 pub own_is_all : {K : Type 0} (gives : Changing K) (h : Guest K) (what : Doing) (o : Option KeeperChange) (b : Option K)

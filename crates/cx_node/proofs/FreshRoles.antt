@@ -5,8 +5,7 @@ use Rattle.std.specs.List.{All}
 use Rattle.cx_base.specs.declared.cluster.Cluster.{Cluster}
 use Rattle.cx_base.specs.declared.event.Event.{Event}
 use Rattle.cx_base.specs.declared.role.Kind.{Kind}
-use Rattle.cx_base.specs.declared.role.Kind.TheVariants.{Client, Batcher, Leader, Proxy, Acceptor, Matchmaker}
-use Rattle.cx_base.specs.declared.role.Kind.TheVariants.{Replica, Unbatcher, Reader, Replacer}
+use Rattle.cx_base.specs.declared.role.Kind.TheVariants.{Client, Batcher, Proxy, Unbatcher}
 use Rattle.cx_base.specs.declared.role.RoleId.{RoleId}
 use Rattle.cx_base.specs.Role.{role as a_role}
 use Rattle.cx_client.specs.Client.{IsClient, client_opened}
@@ -20,14 +19,8 @@ use Rattle.cx_course.specs.Run.{TakeResults}
 use Rattle.cx_course.specs.Tending.{node_run}
 use Rattle.cx_journal.specs.Files.{Files}
 use Rattle.cx_journal.specs.declared.store.RecordStore.{RecordStore}
-use Rattle.cx_model.specs.Acceptor.{acceptor_rules}
-use Rattle.cx_model.specs.Leader.{leader_rules}
-use Rattle.cx_model.specs.Matchmaker.{matchmaker_rules}
 use Rattle.cx_model.specs.Member.{Member}
 use Rattle.cx_model.specs.Names.{names_role}
-use Rattle.cx_model.specs.Reader.{reader_rules}
-use Rattle.cx_model.specs.Replacer.{replacer_rules}
-use Rattle.cx_model.specs.Replica.{replica_rules}
 use Rattle.cx_model.specs.Rules.{Rules, opened}
 use Rattle.cx_letter.specs.declared.kept.Record.{Record}
 use Rattle.cx_record.specs.Readable.{IsRecordable}
@@ -60,23 +53,18 @@ module _ (c : Cluster) (options : ClientOptions) (events : List Event) (scripts 
     heard = refl;
   }
 
-  role_fresh : {D V : Type 0} (rules : Rules D V) (me : RoleId) (records : List Record) → records ≡ [] → me.kind ≡ rules.kind
+  role_fresh : {D V : Type 0} {rules : Rules D V} {me : RoleId} {records : List Record} → records ≡ [] → me.kind ≡ rules.kind
       → names_role c me ≡ true → IsFreshRole rules c (opened rules c me records)
-  role_fresh rules me records none kind named = record { opened = ap (opened rules c me) none; kind_is = kind; named = named }
+  role_fresh {rules} {me} none kind named = record { opened = ap (opened rules c me) none; kind_is = kind; named = named }
 
   -- one of this kind
   is_fresh : (me : RoleId) (records : List Record) (k : Kind) → me.kind ≡ k → names_role c me ≡ true
       → (is_durable k ≡ true → records ≡ []) → IsFresh c (opened_as c options events me records k)
   is_fresh me records Client kind named none = client_fresh me kind named
-  is_fresh me records Batcher kind named none = record { opened = refl; kind_is = kind; named = named }
-  is_fresh me records Leader kind named none = role_fresh leader_rules me records (none refl) kind named
-  is_fresh me records Proxy kind named none = record { opened = refl; kind_is = kind; named = named }
-  is_fresh me records Acceptor kind named none = role_fresh acceptor_rules me records (none refl) kind named
-  is_fresh me records Matchmaker kind named none = role_fresh matchmaker_rules me records (none refl) kind named
-  is_fresh me records Replica kind named none = role_fresh replica_rules me records (none refl) kind named
-  is_fresh me records Unbatcher kind named none = record { opened = refl; kind_is = kind; named = named }
-  is_fresh me records Reader kind named none = role_fresh reader_rules me records (none refl) kind named
-  is_fresh me records Replacer kind named none = role_fresh replacer_rules me records (none refl) kind named
+  is_fresh me records Batcher kind named none = role_fresh refl kind named
+  is_fresh me records Proxy kind named none = role_fresh refl kind named
+  is_fresh me records Unbatcher kind named none = role_fresh refl kind named
+  is_fresh me records other kind named none = role_fresh (none refl) kind named
 
   -- all of them
   pub are_fresh : (recovered : RoleId → List Record) (roles : List RoleId) → AreDistinct (hosts c options events recovered roles)

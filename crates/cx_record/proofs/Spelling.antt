@@ -51,39 +51,15 @@ small_index c k i is = wide i (below i (count_of c k) is (counts c k))
 
 kind_avoids : (k : Kind) → Avoids is_break (kind_text k ++ codes ":")
 kind_avoids Client = avoids_so is_break (kind_text Client ++ codes ":") refl
-kind_avoids Batcher = avoids_so is_break (kind_text Batcher ++ codes ":") refl
-kind_avoids Leader = avoids_so is_break (kind_text Leader ++ codes ":") refl
-kind_avoids Proxy = avoids_so is_break (kind_text Proxy ++ codes ":") refl
-kind_avoids Acceptor = avoids_so is_break (kind_text Acceptor ++ codes ":") refl
-kind_avoids Matchmaker = avoids_so is_break (kind_text Matchmaker ++ codes ":") refl
-kind_avoids Replica = avoids_so is_break (kind_text Replica ++ codes ":") refl
-kind_avoids Unbatcher = avoids_so is_break (kind_text Unbatcher ++ codes ":") refl
-kind_avoids Reader = avoids_so is_break (kind_text Reader ++ codes ":") refl
-kind_avoids Replacer = avoids_so is_break (kind_text Replacer ++ codes ":") refl
+kind_avoids other = avoids_so is_break (kind_text other ++ codes ":") refl
 
 some_kind : (k : Kind) → is_empty (kind_text k ++ codes ":") ≡ false
 some_kind Client = refl
-some_kind Batcher = refl
-some_kind Leader = refl
-some_kind Proxy = refl
-some_kind Acceptor = refl
-some_kind Matchmaker = refl
-some_kind Replica = refl
-some_kind Unbatcher = refl
-some_kind Reader = refl
-some_kind Replacer = refl
+some_kind other = refl
 
 short_kind : (k : Kind) → length (kind_text k ++ codes ":") ≤ 10
 short_kind Client = omega arith
-short_kind Batcher = omega arith
-short_kind Leader = omega arith
-short_kind Proxy = omega arith
-short_kind Acceptor = omega arith
-short_kind Matchmaker = omega arith
-short_kind Replica = omega arith
-short_kind Unbatcher = omega arith
-short_kind Reader = omega arith
-short_kind Replacer = omega arith
+short_kind other = omega arith
 
 pub role_word : (c : Cluster) (k : Kind) (i : ℕ) → IsIndex c k i → IsWord (role_text (role k i))
 role_word c k i is =
@@ -97,27 +73,11 @@ role_word c k i is =
 
 pub index_back : (c : Cluster) (k : Kind) (i : ℕ) → IsIndex c k i → index_word c k (role_text (role k i)) ≡ Ok i
 index_back c Client i is = rw (number_back i (small_index c Client i is), is) refl
-index_back c Batcher i is = rw (number_back i (small_index c Batcher i is), is) refl
-index_back c Leader i is = rw (number_back i (small_index c Leader i is), is) refl
-index_back c Proxy i is = rw (number_back i (small_index c Proxy i is), is) refl
-index_back c Acceptor i is = rw (number_back i (small_index c Acceptor i is), is) refl
-index_back c Matchmaker i is = rw (number_back i (small_index c Matchmaker i is), is) refl
-index_back c Replica i is = rw (number_back i (small_index c Replica i is), is) refl
-index_back c Unbatcher i is = rw (number_back i (small_index c Unbatcher i is), is) refl
-index_back c Reader i is = rw (number_back i (small_index c Reader i is), is) refl
-index_back c Replacer i is = rw (number_back i (small_index c Replacer i is), is) refl
+index_back c other i is = rw (number_back i (small_index c other i is), is) refl
 
 pub server_back : (c : Cluster) (k : Kind) (i : ℕ) → IsIndex c k i → not (is_client k) ≡ true → server_word c (role_text (role k i)) ≡ Ok (role k i)
 server_back c Client i is off = cc
-server_back c Batcher i is off = rw (number_back i (small_index c Batcher i is), is) refl
-server_back c Leader i is off = rw (number_back i (small_index c Leader i is), is) refl
-server_back c Proxy i is off = rw (number_back i (small_index c Proxy i is), is) refl
-server_back c Acceptor i is off = rw (number_back i (small_index c Acceptor i is), is) refl
-server_back c Matchmaker i is off = rw (number_back i (small_index c Matchmaker i is), is) refl
-server_back c Replica i is off = rw (number_back i (small_index c Replica i is), is) refl
-server_back c Unbatcher i is off = rw (number_back i (small_index c Unbatcher i is), is) refl
-server_back c Reader i is off = rw (number_back i (small_index c Reader i is), is) refl
-server_back c Replacer i is off = rw (number_back i (small_index c Replacer i is), is) refl
+server_back c other i is off = rw (number_back i (small_index c other i is), is) refl
 
 -- ---- numbers, keys and texts
 

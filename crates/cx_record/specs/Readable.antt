@@ -32,12 +32,8 @@ HasRanges (event.Write command batcher) = (command.seq < 2 ^ 64) × HasNames com
 HasRanges (event.Read client seq floor reader replica key) = (seq < 2 ^ 64) × IsName 32 key
 HasRanges (event.Session client seq floor replica key) = (seq < 2 ^ 64) × IsName 32 key
 HasRanges (event.Deliver number cut) = number < 2 ^ 64
-HasRanges (event.Tick r) = Unit {0}
 HasRanges (event.Order leader order cut) = HasGrid order
-HasRanges (event.Replace replacer set cut) = Unit {0}
-HasRanges (event.Snap replica cut) = Unit {0}
-HasRanges (event.Crash r) = Unit {0}
-HasRanges (event.Restart r) = Unit {0}
+HasRanges other = Unit {0}
 
 -- whether the line of an event tells all of it: that of an order to collect has no word for a cut
 abbrev pub tells_all : Event → Bool

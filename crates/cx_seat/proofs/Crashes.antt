@@ -16,23 +16,15 @@ use Rattle.cx_base.specs.declared.role.Kind.{Kind}
 use Rattle.cx_base.specs.declared.role.Kind.TheVariants as kind
 use Rattle.cx_base.specs.declared.role.RoleId.{RoleId}
 use Rattle.cx_base.specs.Role.{role, same_role}
-use Rattle.cx_model.specs.Acceptor.{acceptor_rules}
-use Rattle.cx_model.specs.Batcher.{batcher_rules}
-use Rattle.cx_model.specs.Leader.{leader_rules}
-use Rattle.cx_model.specs.Lists.{list_own, same_role-true}
-use Rattle.cx_model.specs.Matchmaker.{matchmaker_rules}
+use Rattle.cx_model.specs.Lists.{same_role-true}
 use Rattle.cx_model.specs.Member.{Member}
 use Rattle.cx_model.specs.Outcome.{Outcome}
-use Rattle.cx_model.specs.Proxy.{proxy_rules}
-use Rattle.cx_model.specs.Reader.{reader_rules}
-use Rattle.cx_model.specs.Replacer.{replacer_rules}
 use Rattle.cx_model.specs.Replica.{ReplicaDurable, held, notes_of, pieces, replica_renewed, replica_rules}
 use Rattle.cx_model.specs.Rules.{Rules, folded}
 use Rattle.cx_model.specs.Turn.{snap_turn, turn, turn_with}
-use Rattle.cx_model.specs.Unbatcher.{unbatcher_rules}
 use Rattle.cx_model.specs.World.{World, act_of, change, come, durable_part, kept_by, list_after, list_after_kept, run}
 use Rattle.cx_model.specs.World.{step}
-use Rattle.cx_model.specs.State.{State, plain_volatile, batcher_volatile, leader_volatile, proxy_volatile, replica_volatile, reader_volatile, replacer_volatile}
+use Rattle.cx_model.specs.State.{State, replica_volatile}
 use Rattle.cx_inv_open.specs.Reopened.{stored_as}
 use Rattle.cx_inv_run.specs.Kinds.{IsKeeper, IsWriter}
 use Rattle.cx_inv_run.proofs.KindLaws.{kinds_are_so}
@@ -63,6 +55,8 @@ use Rattle.cx_journal.proofs.Gates.{all_kept-push}
 use Rattle.cx_journal.proofs.Payloads.{both_so}
 use Rattle.cx_promises.proofs.Lawful.{lawful}
 use Rattle.cx_course.specs.Changing.{change_for}
+use Rattle.cx_course.proofs.Roles.{MayWrite, acts_by, stored_by}
+use Rattle.cx_course.proofs.Stores.{own_written}
 use Rattle.cx_seat.specs.Stops.{IsOfRun, MayChange, with_cut}
 use Rattle.cx_seat.specs.Stores.{has_second, is_two}
 
@@ -106,19 +100,15 @@ cut_snapped {D} {V} rules c to me what d (Some v) h = go (rules.snap c to d v) h
     go None h = cc
     go (Some first) h = record { lost = refl; kept_too = h }
 
+none_kept : {A : Type 0} (me : RoleId) (what : Written) → [] ≡ kept_by me (Some what) → A
+none_kept me what h = cc
+
 cut_act : (c : Cluster) (roles : RoleId → State) (kept : List KeptRecord) (i : Input) (to me : RoleId) (what : Written)
     (k : Kind) → (act_of c roles kept (Give i Whole) to k).kept ≡ kept_by me (Some what)
     → CutKeeps me what ((act_of c roles kept (Give i Torn) to k).kept) ((act_of c roles kept (Give i Kept) to k).kept)
-cut_act c roles kept i to me what kind.Client h = cc
-cut_act c roles kept i to me what kind.Batcher h = cut_given batcher_rules c to me what (durable_part batcher_rules to kept) i (batcher_volatile (roles to)) h
-cut_act c roles kept i to me what kind.Leader h = cut_given leader_rules c to me what (durable_part leader_rules to kept) i (leader_volatile (roles to)) h
-cut_act c roles kept i to me what kind.Proxy h = cut_given proxy_rules c to me what (durable_part proxy_rules to kept) i (proxy_volatile (roles to)) h
-cut_act c roles kept i to me what kind.Acceptor h = cut_given acceptor_rules c to me what (durable_part acceptor_rules to kept) i (plain_volatile (roles to)) h
-cut_act c roles kept i to me what kind.Matchmaker h = cut_given matchmaker_rules c to me what (durable_part matchmaker_rules to kept) i (plain_volatile (roles to)) h
-cut_act c roles kept i to me what kind.Replica h = cut_given replica_rules c to me what (durable_part replica_rules to kept) i (replica_volatile (roles to)) h
-cut_act c roles kept i to me what kind.Unbatcher h = cut_given unbatcher_rules c to me what (durable_part unbatcher_rules to kept) i (plain_volatile (roles to)) h
-cut_act c roles kept i to me what kind.Reader h = cut_given reader_rules c to me what (durable_part reader_rules to kept) i (reader_volatile (roles to)) h
-cut_act c roles kept i to me what kind.Replacer h = cut_given replacer_rules c to me what (durable_part replacer_rules to kept) i (replacer_volatile (roles to)) h
+cut_act c roles kept i to me what k =
+    acts_by (λ at. (at (Give i Whole)).kept ≡ kept_by me (Some what) → CutKeeps me what ((at (Give i Torn)).kept) ((at (Give i Kept)).kept)) c roles kept to k
+    (λ h. none_kept me what h) (λ D V rules make running h. cut_given rules c to me what (durable_part rules to kept) i running h)
 
 cut_come : (w : World) (me : RoleId) (what : Written) (o : Option Letter)
     → (come w Whole o).kept ≡ kept_by me (Some what)
@@ -146,31 +136,13 @@ cut_change w (event.Restart who) me what may h = absurd may
 
 -- the list in a role's store, after a change of its own
 
-client_keeps : {A : Type 0} (r : Record) → IsKeeper kind.Client r → A
-client_keeps (kept_record.Promise i) k = cc
-client_keeps other k = cc
+no_keeper : {A : Type 0} (r : Record) → IsKeeper kind.Client r → A
+no_keeper (kept_record.Promise i) is = cc
+no_keeper other is = cc
 
-stored_record : (me : RoleId) (r : Record) (ks : List KeptRecord) (k : Kind) → IsKeeper k r
-    → stored_as me (ks ++ kept_by me (Some (written.Record r))) k ≡ stored_as me ks k ++ r ∷ []
-stored_record me r ks kind.Client is = client_keeps r is
-stored_record me r ks kind.Batcher is = list_own batcher_rules me ks (Some (written.Record r))
-stored_record me r ks kind.Leader is = list_own leader_rules me ks (Some (written.Record r))
-stored_record me r ks kind.Proxy is = list_own proxy_rules me ks (Some (written.Record r))
-stored_record me r ks kind.Acceptor is = list_own acceptor_rules me ks (Some (written.Record r))
-stored_record me r ks kind.Matchmaker is = list_own matchmaker_rules me ks (Some (written.Record r))
-stored_record me r ks kind.Replica is = list_own replica_rules me ks (Some (written.Record r))
-stored_record me r ks kind.Unbatcher is = list_own unbatcher_rules me ks (Some (written.Record r))
-stored_record me r ks kind.Reader is = list_own reader_rules me ks (Some (written.Record r))
-stored_record me r ks kind.Replacer is = list_own replacer_rules me ks (Some (written.Record r))
-
-stored_next : (me : RoleId) (what : Written) (ks : List KeptRecord) (k : Kind) → IsWriter k what
-    → stored_as me (ks ++ kept_by me (Some what)) k
-    ≡ change_after (stored_as me ks k) (change_for (stored_as me ks k) what)
-stored_next me (written.Record r) ks k is = stored_record me r ks k is
-stored_next me (written.Snap first) ks k is =
-    subst (λ (own : Kind). stored_as me (ks ++ kept_by me (Some (written.Snap first))) own
-    ≡ change_after (stored_as me ks own) (change_for (stored_as me ks own) (written.Snap first))) (sym is)
-    (list_own replica_rules me ks (Some (written.Snap first)))
+may_write : (k : Kind) (what : Written) → IsWriter k what → MayWrite k (Some what)
+may_write k (written.Record r) is = λ client. no_keeper r (subst (λ (j : Kind). IsKeeper j r) client is)
+may_write k (written.Snap first) is = is
 
 kept_next : (c : Cluster) (es : List Event) (e : Event) → (run c (es ++ e ∷ [])).kept ≡ (run c es).kept
     ++ (change (run c es) e).kept
@@ -242,16 +214,9 @@ as_replica me d first is = subst (λ (k : Kind). are_tagged k (replica_renewed d
 
 stored_tagged : (me : RoleId) (ks : List KeptRecord) → ((k : KeptRecord) → Member k ks → IsWriter k.role.kind k.what) → (k : Kind)
     → are_tagged me.kind (stored_as me ks k) ≡ true
-stored_tagged me ks are kind.Client = refl
-stored_tagged me ks are kind.Batcher = tagged_from batcher_rules me (λ d first is. refl) [] ks are refl
-stored_tagged me ks are kind.Leader = tagged_from leader_rules me (λ d first is. refl) [] ks are refl
-stored_tagged me ks are kind.Proxy = tagged_from proxy_rules me (λ d first is. refl) [] ks are refl
-stored_tagged me ks are kind.Acceptor = tagged_from acceptor_rules me (λ d first is. refl) [] ks are refl
-stored_tagged me ks are kind.Matchmaker = tagged_from matchmaker_rules me (λ d first is. refl) [] ks are refl
-stored_tagged me ks are kind.Replica = tagged_from replica_rules me (as_replica me) [] ks are refl
-stored_tagged me ks are kind.Unbatcher = tagged_from unbatcher_rules me (λ d first is. refl) [] ks are refl
-stored_tagged me ks are kind.Reader = tagged_from reader_rules me (λ d first is. refl) [] ks are refl
-stored_tagged me ks are kind.Replacer = tagged_from replacer_rules me (λ d first is. refl) [] ks are refl
+stored_tagged me ks are k =
+    stored_by (λ list. are_tagged me.kind (list ks) ≡ true) me k (λ client. refl) (tagged_from replica_rules me (as_replica me) [] ks are refl)
+    (λ D V rules none. tagged_from rules me (λ d first is. ap (are_tagged me.kind) (none d first)) [] ks are refl)
 
 -- so it may have the list, where the fields of its records are in their ranges
 own_kept : (k : Kind) (rs : List Record) → are_tagged k rs ≡ true → all_kept_by None rs ≡ true → all_kept_by (Some k) rs ≡ true
@@ -297,7 +262,7 @@ module _ (c : Cluster) (es : List Event) (e : Event) (me : RoleId) (what : Writt
       → IsFilesImageOf (change_after list (change_for list what)) files → IsOfRun c es e cut me files
   changed cut kept fit stored =
       of_run c es e cut me files _ (ap (λ (ks : List KeptRecord). stored_as me ((run c es).kept ++ ks) me.kind) kept
-      ∙ stored_next me what (run c es).kept me.kind own_writer) fit stored
+      ∙ own_written me (run c es).kept what me.kind (may_write me.kind what own_writer)) fit stored
 
   pub lost_of_run : MayChange e → all_kept_by None list ≡ true → IsFilesImageOf list files → IsOfRun c es e Torn me files
   lost_of_run may fit stored =

@@ -1,14 +1,11 @@
 -- What a step or a snap of a role that ended early is for its seat.
-use Rattle.std.proofs.Common.{◌≡◌, ◌⊎◌, Bool, true, List, [], ◌∷◌, Option, Some, Err, refl, sym, ap, subst, inl, inr}
-use Rattle.std.proofs.Common.{if◌then◌else◌}
+use Rattle.std.proofs.Common.{◌≡◌, ◌⊎◌, Bool, List, [], Option, Some, Err, refl, sym, ap, subst, inl, inr}
 use Rattle.std.specs.Prelude.{slice_get}
 use Rattle.std.specs.Option.{option_map}
 use Rattle.cx_base.specs.declared.role.RoleId.{RoleId}
-use Rattle.cx_base.specs.Role.{same_role}
 use Rattle.cx_keep.specs.Keeper.{Append, KeeperChange, Renewal}
 use Rattle.cx_keep.specs.declared.keeper.KeepFault.{KeepFault}
 use Rattle.cx_keep.specs.declared.keeper.KeepFault.TheVariants.{Failed, NoMemory}
-use Rattle.cx_model.specs.Lists.{same_role-itself}
 use Rattle.cx_model.specs.Outcome.{Outcome}
 use Rattle.cx_model.specs.Replica.{ReplicaDurable, ReplicaVolatile, replica_renewed, replica_rules}
 use Rattle.cx_model.specs.Rules.{Rules, Running}
@@ -18,15 +15,10 @@ use Rattle.cx_role.specs.Role.{Appending, IsStep, Refuses as RefusesAppend}
 use Rattle.cx_role.specs.Snap.{IsSnap, Renewing}
 use Rattle.cx_seat.specs.declared.guest.Guest.TheVariants as guest
 use Rattle.cx_course.specs.Changing.{changed_by, changes_of}
+use Rattle.cx_course.proofs.Stores.{first_change}
 use Rattle.cx_seat.specs.Changing.{Changing, Refuses, changing}
 use Rattle.cx_seat.specs.Guest.{HasChangeFailed, MakesRow, Performs}
 use Rattle.cx_course.specs.Hosted.{ReplicaAt, snap_of, snapped}
-
-first_change : (me : RoleId) (c : KeeperChange) → slice_get (changes_of me (changed_by me (Some c))) 0 ≡ Some c
-first_change me c = own (same_role-itself me)
-  where
-    own : same_role me me ≡ true → slice_get (if same_role me me then c ∷ [] else []) 0 ≡ Some c
-    own is = rw is refl
 
 module _ {K : Type 0} (append_gives : Appending K) (renew_gives : Renewing K) (tells : K → Bool) (old new : K)
     (sent : List Letter) where
@@ -37,7 +29,7 @@ module _ {K : Type 0} (append_gives : Appending K) (renew_gives : Renewing K) (t
       → HasChangeFailed gives (slice_get (changes_of me (changed_by me o)) 0) old new
   fails_first me c o is failed =
       subst (λ x. HasChangeFailed gives (slice_get (changes_of me (changed_by me x)) 0) old new) (sym is)
-      (subst (λ x. HasChangeFailed gives x old new) (sym (first_change me c)) failed)
+      (subst (λ x. HasChangeFailed gives x old new) (sym (first_change me (Some c))) failed)
 
   module _ {D V : Type 0} (rules : Rules D V) (before after : Running D V) (row : Outcome V) where
     refused : RefusesAppend append_gives old new → Refuses gives old new

@@ -6,27 +6,19 @@ use Rattle.std.proofs.lemmas.Option.{same_Some, slice_get_cases}
 use Rattle.cx_base.specs.declared.cluster.Cluster.{Cluster}
 use Rattle.cx_base.specs.declared.event.Event.{Event}
 use Rattle.cx_base.specs.declared.role.Kind.{Kind}
-use Rattle.cx_base.specs.declared.role.Kind.TheVariants.{Client, Batcher, Leader, Proxy, Acceptor, Matchmaker}
-use Rattle.cx_base.specs.declared.role.Kind.TheVariants.{Replica, Unbatcher, Reader, Replacer}
+use Rattle.cx_base.specs.declared.role.Kind.TheVariants.{Client, Batcher, Proxy, Unbatcher}
 use Rattle.cx_base.specs.declared.role.RoleId.{RoleId}
+use Rattle.cx_inv_open.specs.Reopened.{refused_as}
 use Rattle.cx_client.specs.declared.asking.ClientOptions.{ClientOptions}
 use Rattle.cx_journal.specs.Files.{Files, front_in}
 use Rattle.cx_journal.specs.Image.{Image}
 use Rattle.cx_journal.specs.Journal.{frames}
 use Rattle.cx_journal.specs.Payload.{payloads}
 use Rattle.cx_journal.specs.declared.store.RecordStore.{RecordStore}
-use Rattle.cx_model.specs.Acceptor.{acceptor_rules}
-use Rattle.cx_model.specs.Leader.{leader_rules}
-use Rattle.cx_model.specs.Matchmaker.{matchmaker_rules}
-use Rattle.cx_model.specs.Reader.{reader_rules}
-use Rattle.cx_model.specs.Replacer.{replacer_rules}
-use Rattle.cx_model.specs.Replica.{replica_rules}
-use Rattle.cx_model.specs.Rules.{Rules, refused}
 use Rattle.cx_letter.specs.declared.kept.Record.{Record}
 use Rattle.cx_seat.specs.declared.guest.Guest.{Guest}
 use Rattle.cx_seat.specs.Opening.{AreOpened, IsBadAs, IsFirstBad}
-use Rattle.cx_seat.specs.Wake.{IsBadStore}
-use Rattle.cx_seat.proofs.OpenedRoles.{good_opened}
+use Rattle.cx_seat.proofs.OpenedRoles.{IsBadFor, good_opened}
 
 -- ---- one place
 
@@ -39,14 +31,14 @@ same_place a b e = cc
 same_records : (rs ts : List Record) → ◌≡◌ {A = Image} (Ok rs) (Ok ts) → rs ≡ ts
 same_records rs ts e = cc
 
-bad_once : {D V : Type 0} (rules : Rules D V) (c : Cluster) (me : RoleId) (files : Files) (a b : ℕ)
-    → IsBadStore rules c me files a → IsBadStore rules c me files b → a ≡ b
-bad_once rules c me files a b (inl p) (inl q) = same_place a b (sym p ∙ q)
-bad_once rules c me files a b (inl p) (inr q) = ok_is_err q.0 a (sym q.1 ∙ p)
-bad_once rules c me files a b (inr p) (inl q) = ok_is_err p.0 b (sym p.1 ∙ q)
-bad_once rules c me files a b (inr p) (inr q) =
+bad_once : (refuses : List Record → Option ℕ) (me : RoleId) (files : Files) (a b : ℕ)
+    → IsBadFor refuses me files a → IsBadFor refuses me files b → a ≡ b
+bad_once refuses me files a b (inl p) (inl q) = same_place a b (sym p ∙ q)
+bad_once refuses me files a b (inl p) (inr q) = ok_is_err q.0 a (sym q.1 ∙ p)
+bad_once refuses me files a b (inr p) (inl q) = ok_is_err p.0 b (sym p.1 ∙ q)
+bad_once refuses me files a b (inr p) (inr q) =
     let records : p.0 ≡ q.0 = same_records p.0 q.0 (sym p.1 ∙ q.1) in
-    let index : p.2 ≡ q.2 = same_Some p.2 q.2 (sym p.3 ∙ ap (refused rules c me) records ∙ q.3) in
+    let index : p.2 ≡ q.2 = same_Some p.2 q.2 (sym p.3 ∙ ap refuses records ∙ q.3) in
     p.4 ∙ ap (λ (rs : List Record). length (front_in files ++ frames (payloads (take p.2 rs)))) records
     ∙ ap (λ (i : ℕ). length (front_in files ++ frames (payloads (take i q.0)))) index ∙ sym q.4
 
@@ -54,14 +46,9 @@ bad_as_once : (c : Cluster) (me : RoleId) (files : Files) (a b : ℕ) (k : Kind)
     → IsBadAs c me files b k → a ≡ b
 bad_as_once c me files a b Client p q = absurd p
 bad_as_once c me files a b Batcher p q = absurd p
-bad_as_once c me files a b Leader p q = bad_once leader_rules c me files a b p q
 bad_as_once c me files a b Proxy p q = absurd p
-bad_as_once c me files a b Acceptor p q = bad_once acceptor_rules c me files a b p q
-bad_as_once c me files a b Matchmaker p q = bad_once matchmaker_rules c me files a b p q
-bad_as_once c me files a b Replica p q = bad_once replica_rules c me files a b p q
 bad_as_once c me files a b Unbatcher p q = absurd p
-bad_as_once c me files a b Reader p q = bad_once reader_rules c me files a b p q
-bad_as_once c me files a b Replacer p q = bad_once replacer_rules c me files a b p q
+bad_as_once c me files a b other p q = bad_once (λ records. refused_as c me records other) me files a b p q
 
 -- ---- one role
 

@@ -1,5 +1,5 @@
 -- Roles that were opened: they are who they were named to be, they may run, and what each was opened from.
-use Rattle.std.proofs.Common.{◌≡◌, ℕ, zero, suc, arith, Bool, true, false, List, [], ◌∷◌, length, map, Option, None}
+use Rattle.std.proofs.Common.{◌≡◌, ◌⊎◌, ◌++◌, ℕ, zero, suc, arith, Bool, true, false, List, [], ◌∷◌, length, map, take, Option, None}
 use Rattle.std.proofs.Common.{Some, option_map, Ok, Err, refl, sym, ap, ◌∙◌, subst, inl, inr}
 use Rattle.std.specs.Prelude.{slice_get, IsTrue}
 use Rattle.std.specs.List.{list_all}
@@ -7,23 +7,17 @@ use Rattle.std.proofs.lemmas.Option.{none-some, same_Some}
 use Rattle.cx_base.specs.declared.cluster.Cluster.{Cluster}
 use Rattle.cx_base.specs.declared.event.Event.{Event}
 use Rattle.cx_base.specs.declared.role.Kind.{Kind}
-use Rattle.cx_base.specs.declared.role.Kind.TheVariants.{Client, Batcher, Leader, Proxy, Acceptor, Matchmaker}
-use Rattle.cx_base.specs.declared.role.Kind.TheVariants.{Replica, Unbatcher, Reader, Replacer}
+use Rattle.cx_base.specs.declared.role.Kind.TheVariants.{Client, Batcher, Proxy, Unbatcher}
 use Rattle.cx_base.specs.declared.role.RoleId.{RoleId}
 use Rattle.cx_inv_open.specs.Reopened.{refused_as}
 use Rattle.cx_client.specs.declared.asking.ClientOptions.{ClientOptions}
-use Rattle.cx_journal.specs.Files.{Files, files_image}
+use Rattle.cx_journal.specs.Files.{Files, files_image, front_in}
 use Rattle.cx_journal.specs.Image.{Image}
+use Rattle.cx_journal.specs.Journal.{frames}
+use Rattle.cx_journal.specs.Payload.{payloads}
 use Rattle.cx_journal.specs.declared.store.RecordStore.{RecordStore}
 use Rattle.cx_journal.proofs.Payloads.{both_so}
-use Rattle.cx_model.specs.Acceptor.{acceptor_rules}
-use Rattle.cx_model.specs.Leader.{leader_rules}
-use Rattle.cx_model.specs.Matchmaker.{matchmaker_rules}
 use Rattle.cx_model.specs.Names.{names_role}
-use Rattle.cx_model.specs.Reader.{reader_rules}
-use Rattle.cx_model.specs.Replacer.{replacer_rules}
-use Rattle.cx_model.specs.Replica.{replica_rules}
-use Rattle.cx_model.specs.Rules.{Rules, refused}
 use Rattle.cx_letter.specs.declared.kept.Record.{Record}
 use Rattle.cx_seat.specs.declared.guest.Guest.{Guest}
 use Rattle.cx_course.specs.Alike.{AreDistinct}
@@ -31,7 +25,6 @@ use Rattle.cx_seat.specs.Guest.{AreReady, hosted_in, hosted_of, keeper_of, who}
 use Rattle.cx_course.specs.Hosted.{is_live_role, kind_at, name_of}
 use Rattle.cx_seat.specs.Opening.{AreApart, AreOpened, HasRecords, HasStore, IsBadAs, IsOpened, is_durable, opened_as}
 use Rattle.cx_seat.specs.Stores.{has_second}
-use Rattle.cx_seat.specs.Wake.{IsBadStore}
 
 -- ---- places in two lists
 
@@ -66,55 +59,39 @@ all_named p (y ∷ ys) all (suc i) x e = all_named p ys (both_so (p y) (list_all
 pub name_opened : (c : Cluster) (options : ClientOptions) (events : List Event) (me : RoleId) (records : List Record) (k : Kind)
     → name_of (opened_as c options events me records k) ≡ me
 name_opened c options events me records Client = refl
-name_opened c options events me records Batcher = refl
-name_opened c options events me records Leader = refl
-name_opened c options events me records Proxy = refl
-name_opened c options events me records Acceptor = refl
-name_opened c options events me records Matchmaker = refl
-name_opened c options events me records Replica = refl
-name_opened c options events me records Unbatcher = refl
-name_opened c options events me records Reader = refl
-name_opened c options events me records Replacer = refl
+name_opened c options events me records other = refl
 
 live_opened : (c : Cluster) (options : ClientOptions) (events : List Event) (me : RoleId) (records : List Record) (k : Kind)
     → is_live_role (opened_as c options events me records k) ≡ true
 live_opened c options events me records Client = refl
-live_opened c options events me records Batcher = refl
-live_opened c options events me records Leader = refl
-live_opened c options events me records Proxy = refl
-live_opened c options events me records Acceptor = refl
-live_opened c options events me records Matchmaker = refl
-live_opened c options events me records Replica = refl
-live_opened c options events me records Unbatcher = refl
-live_opened c options events me records Reader = refl
-live_opened c options events me records Replacer = refl
+live_opened c options events me records other = refl
 
 kind_opened : (c : Cluster) (options : ClientOptions) (events : List Event) (me : RoleId) (records : List Record) (k : Kind)
     → kind_at (opened_as c options events me records k) ≡ k
 kind_opened c options events me records Client = refl
-kind_opened c options events me records Batcher = refl
-kind_opened c options events me records Leader = refl
-kind_opened c options events me records Proxy = refl
-kind_opened c options events me records Acceptor = refl
-kind_opened c options events me records Matchmaker = refl
-kind_opened c options events me records Replica = refl
-kind_opened c options events me records Unbatcher = refl
-kind_opened c options events me records Reader = refl
-kind_opened c options events me records Replacer = refl
+kind_opened c options events me records other = refl
 
 -- ---- stores of their own
 
--- one that is read, and refused for no record, is none at no place
-good_store : {D V : Type 0} (rules : Rules D V) (c : Cluster) (me : RoleId) (files : Files) (records : List Record)
-    (at : ℕ) → files_image (Some me.kind) files ≡ Ok records → refused rules c me records ≡ None
-    → IsBadStore rules c me files at → ⊥
-good_store rules c me files records at read accepted (inl broken) = ok_is_err (sym read ∙ broken)
+-- the bytes have no image, or it has a record that is refused, for the reason at this place
+abbrev pub IsBadFor : (List Record → Option ℕ) → RoleId → Files → ℕ → Type 0
+IsBadFor refuses me files at =
+    (files_image (Some me.kind) files ≡ Err at)
+    ⊎ ((records : List Record) × (files_image (Some me.kind) files ≡ Ok records)
+    × (index : ℕ) × (refuses records ≡ Some index)
+    × (at ≡ length (front_in files ++ frames (payloads (take index records)))))
+
+-- a store that is read, and refused for no record, is bad at no place
+good_store : (refuses : List Record → Option ℕ) (me : RoleId) (files : Files) (records : List Record)
+    (at : ℕ) → files_image (Some me.kind) files ≡ Ok records → refuses records ≡ None
+    → IsBadFor refuses me files at → ⊥
+good_store refuses me files records at read accepted (inl broken) = ok_is_err (sym read ∙ broken)
   where
     ok_is_err : ◌≡◌ {A = Image} (Ok records) (Err at) → ⊥
     ok_is_err e = cc
-good_store rules c me files records at read accepted (inr bad) =
+good_store refuses me files records at read accepted (inr bad) =
     let same : records ≡ bad.0 = same_records records bad.0 (sym read ∙ bad.1) in
-    none-some bad.2 (sym accepted ∙ ap (refused rules c me) same ∙ bad.3)
+    none-some bad.2 (sym accepted ∙ ap refuses same ∙ bad.3)
   where
     same_records : (rs ts : List Record) → ◌≡◌ {A = Image} (Ok rs) (Ok ts) → rs ≡ ts
     same_records rs ts e = cc
@@ -125,20 +102,10 @@ pub good_as : (c : Cluster) (me : RoleId) (files : Files) (records : List Record
     → IsBadAs c me files at k → ⊥
 good_as c me files records at Client read accepted bad = bad
 good_as c me files records at Batcher read accepted bad = bad
-good_as c me files records at Leader read accepted bad =
-    good_store leader_rules c me files records at (read refl) accepted bad
 good_as c me files records at Proxy read accepted bad = bad
-good_as c me files records at Acceptor read accepted bad =
-    good_store acceptor_rules c me files records at (read refl) accepted bad
-good_as c me files records at Matchmaker read accepted bad =
-    good_store matchmaker_rules c me files records at (read refl) accepted bad
-good_as c me files records at Replica read accepted bad =
-    good_store replica_rules c me files records at (read refl) accepted bad
 good_as c me files records at Unbatcher read accepted bad = bad
-good_as c me files records at Reader read accepted bad =
-    good_store reader_rules c me files records at (read refl) accepted bad
-good_as c me files records at Replacer read accepted bad =
-    good_store replacer_rules c me files records at (read refl) accepted bad
+good_as c me files records at other read accepted bad =
+    good_store (λ rs. refused_as c me rs other) me files records at (read refl) accepted bad
 
 module _ {D : Type 0} (seen : D → Option (List ℕ)) (disk_faults : D → ℕ) (tells second : Bool) where
   has_store : (records : List Record) (b : Bool) (o : Option (RecordStore D)) → b ≡ true

@@ -34,16 +34,13 @@ hosted_of (guest.Replacer role keeper) = ReplacerAt role
 
 -- the keeper of its records, where it has any
 abbrev pub keeper_of : {K : Type 0} → Guest K → Option K
-keeper_of (guest.Client role) = None
-keeper_of (guest.Batcher role) = None
 keeper_of (guest.Leader role keeper) = Some keeper
-keeper_of (guest.Proxy role) = None
 keeper_of (guest.Acceptor role keeper) = Some keeper
 keeper_of (guest.Matchmaker role keeper) = Some keeper
 keeper_of (guest.Replica role keeper) = Some keeper
-keeper_of (guest.Unbatcher role) = None
 keeper_of (guest.Reader role keeper) = Some keeper
 keeper_of (guest.Replacer role keeper) = Some keeper
+keeper_of other = None
 
 abbrev pub hosted_in : {K : Type 0} → List (Guest K) → List Hosted
 hosted_in guests = map hosted_of guests

@@ -44,14 +44,9 @@ use Rattle.cx_seat.specs.Wake.{IsBadStore}
 abbrev pub is_durable : Kind → Bool
 is_durable kind.Client = false
 is_durable kind.Batcher = false
-is_durable kind.Leader = true
 is_durable kind.Proxy = false
-is_durable kind.Acceptor = true
-is_durable kind.Matchmaker = true
-is_durable kind.Replica = true
 is_durable kind.Unbatcher = false
-is_durable kind.Reader = true
-is_durable kind.Replacer = true
+is_durable other = true
 
 -- A role of this kind as it is opened: a client with its requests among those of the input, another one from its
 -- records.

@@ -11,16 +11,8 @@ use Rattle.cx_journal.specs.declared.store.RecordStore.TheVariants.{One, Two}
 
 -- whether a role of this kind has a second store
 abbrev pub has_second : Kind → Bool
-has_second kind.Client = false
-has_second kind.Batcher = false
-has_second kind.Leader = false
-has_second kind.Proxy = false
-has_second kind.Acceptor = false
-has_second kind.Matchmaker = false
 has_second kind.Replica = true
-has_second kind.Unbatcher = false
-has_second kind.Reader = false
-has_second kind.Replacer = false
+has_second other = false
 
 abbrev pub files_by : Bool → List ℕ → List ℕ → Files
 files_by false first second = OneFile first
