@@ -52,13 +52,17 @@ impl Role for Acceptor {
 
     ghost state = { λ s. s };
 
-    fn open(
-        alloc: Global,
-        cluster: &Cluster,
-        me: RoleId,
-        records: &[Record],
-    ) -> Result<Self, WakeFault> {
-        Acceptor::new(alloc, cluster, me).reopen(records)
+    fn new(alloc: Global, cluster: &Cluster, me: RoleId) -> Result<Self, NoMemory> {
+        Ok(Acceptor {
+            alloc,
+            cluster: *cluster,
+            me,
+            live: true,
+            promise: Round::ZERO,
+            cw: 0,
+            votes: Vec::new(alloc),
+            top: 0,
+        })
     }
 
     fn reopen(self, records: &[Record]) -> Result<Self, WakeFault> {

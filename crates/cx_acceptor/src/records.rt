@@ -1,37 +1,20 @@
 //! What an acceptor remembers of its records.
 
 ghost use Rattle.std.specs.Prelude.{◌≡◌};
-ghost use Rattle.cx_role.specs.Prelude.{[], true, OnOk, OnErr, IsTrue, Kind, opened};
+ghost use Rattle.cx_role.specs.Prelude.{true, OnOk, OnErr, IsTrue};
 ghost use Rattle.cx_role.specs.Prelude.kept;
-ghost use Rattle.cx_model.specs.Acceptor.{acceptor_rules, acceptor_after, acceptor_fits};
+ghost use Rattle.cx_model.specs.Acceptor.{acceptor_after, acceptor_fits};
 ghost use Rattle.cx_field.specs.Fields as field;
 ghost use Rattle.cx_letter.specs.Records.{fits as record_fits};
 
 use crate::Acceptor;
 use crate::votes::{has_vote_in_round, is_in_window, keep_from, place};
-use cx_base::{Cluster, Duplicate, NoMemory, RoleId, Round};
+use cx_base::{Duplicate, NoMemory, Round};
 use cx_field::Vote;
 use cx_letter::Record;
 use cx_role::{names_round, names_value};
-use std::alloc::Global;
 
 impl Acceptor {
-    pub(crate) fn new(alloc: Global, cluster: &Cluster, me: RoleId) -> Self
-        requires { me.kind ≡ Kind.Acceptor }
-        ensures { result ≡ opened acceptor_rules cluster.now me [] }
-    {
-        Acceptor {
-            alloc,
-            cluster: *cluster,
-            me,
-            live: true,
-            promise: Round::ZERO,
-            cw: 0,
-            votes: Vec::new(alloc),
-            top: 0,
-        }
-    }
-
     /// Whether it could have appended this record.
     pub(crate) fn fits(&self, what: &Record) -> bool
         ensures { result ≡ acceptor_fits self.now.cluster self.now.me self.now.durable what.now }

@@ -1,7 +1,7 @@
 //! The batcher.
 
 ghost use Rattle.std.specs.Prelude.{◌≡◌, ◌≤◌, ◌++◌, ◌∷◌};
-ghost use Rattle.cx_role.specs.Prelude.{[], vec_len, OnOk, OnErr, IsTrue, list_all, Command};
+ghost use Rattle.cx_role.specs.Prelude.{[], vec_len, IfOk, OnOk, OnErr, IsTrue, list_all, Command};
 ghost use Rattle.cx_role.specs.Prelude.{opened, IsReply, Replies};
 ghost use Rattle.cx_role.specs.Prelude.kind;
 ghost use Rattle.cx_field.specs.Fields as field;
@@ -38,20 +38,6 @@ impl Model for Batcher {
 }
 
 impl Batcher {
-    fn new(alloc: Global, cluster: &Cluster, me: RoleId) -> Self
-        requires { me.kind ≡ kind.Batcher }
-        ensures { result ≡ opened batcher_rules cluster.now me [] }
-    {
-        Batcher {
-            alloc,
-            cluster: *cluster,
-            me,
-            live: true,
-            waiting: Vec::new(alloc),
-            round: Round::ZERO,
-        }
-    }
-
     // A client hands in a command.
     fn submit(&mut self, command: &Command, out: &mut Outbox) -> Result<Why, NoMemory>
         requires fits { IsTrue (field.command.fits command.now) }
@@ -91,13 +77,18 @@ impl Role for Batcher {
 
     ghost state = { λ s. s };
 
-    fn open(
-        alloc: Global,
-        cluster: &Cluster,
-        me: RoleId,
-        records: &[Record],
-    ) -> Result<Self, WakeFault> {
-        Batcher::new(alloc, cluster, me).reopen(records)
+    fn new(alloc: Global, cluster: &Cluster, me: RoleId) -> Result<Self, NoMemory>
+        requires { me.kind ≡ kind.Batcher }
+        ensures { IfOk result (λ batcher. batcher ≡ opened batcher_rules cluster.now me []) }
+    {
+        Ok(Batcher {
+            alloc,
+            cluster: *cluster,
+            me,
+            live: true,
+            waiting: Vec::new(alloc),
+            round: Round::ZERO,
+        })
     }
 
     #[tactic(auto, using(crate::proofs::Records::batcher_refuses))]
@@ -105,7 +96,7 @@ impl Role for Batcher {
         if let [_, ..] = records {
             return Err(WakeFault::Record { index: 0 });
         }
-        Ok(Batcher::new(self.alloc, &self.cluster, self.me))
+        Ok(Batcher::new(self.alloc, &self.cluster, self.me)?)
     }
 
     #[tactic(auto, using(crate::proofs::Rows::other_takes))]

@@ -48,18 +48,12 @@ impl Role for Unbatcher {
 
     ghost state = { λ s. s };
 
-    fn open(
-        _alloc: Global,
-        cluster: &Cluster,
-        me: RoleId,
-        records: &[Record],
-    ) -> Result<Self, WakeFault> {
-        Unbatcher {
+    fn new(_alloc: Global, cluster: &Cluster, me: RoleId) -> Result<Self, NoMemory> {
+        Ok(Unbatcher {
             cluster: *cluster,
             me,
             live: true,
-        }
-        .reopen(records)
+        })
     }
 
     #[tactic(auto, using(crate::proofs::Records::unbatcher_refuses))]

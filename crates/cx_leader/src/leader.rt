@@ -148,28 +148,15 @@ impl Role for Leader {
     ghost state = { λ s. s };
 
     #[tactic(auto, using(crate::proofs::Opened::openings))]
-    fn open(
-        alloc: Global,
-        cluster: &Cluster,
-        me: RoleId,
-        records: &[Record],
-    ) -> Result<Self, WakeFault> {
-        let own = last_begun(None, cluster, me, records)?;
-        Ok(new_leader(alloc, cluster, me.index, own)?)
+    fn new(alloc: Global, cluster: &Cluster, me: RoleId) -> Result<Self, NoMemory> {
+        Ok(new_leader(alloc, cluster, me.index, None)?)
     }
 
     #[tactic(auto, using(crate::proofs::Opened::openings))]
     fn reopen(self, records: &[Record]) -> Result<Self, WakeFault> {
-        let Leader {
-            alloc,
-            cluster,
-            index,
-            own,
-            ..
-        } = self;
-        let me = RoleId::new(Kind::Leader, index);
-        let own = last_begun(own, &cluster, me, records)?;
-        Ok(new_leader(alloc, &cluster, index, own)?)
+        let me = RoleId::new(Kind::Leader, self.index);
+        let own = last_begun(self.own, &self.cluster, me, records)?;
+        Ok(new_leader(self.alloc, &self.cluster, self.index, own)?)
     }
 
     #[tactic(auto, using(crate::proofs::Fits::take_fits))]

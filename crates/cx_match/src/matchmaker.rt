@@ -58,13 +58,19 @@ impl Role for Matchmaker {
 
     ghost state = { λ s. s };
 
-    fn open(
-        alloc: Global,
-        cluster: &Cluster,
-        me: RoleId,
-        records: &[Record],
-    ) -> Result<Self, WakeFault> {
-        Matchmaker::new(alloc, cluster, me).reopen(records)
+    fn new(alloc: Global, cluster: &Cluster, me: RoleId) -> Result<Self, NoMemory> {
+        Ok(Matchmaker {
+            alloc,
+            cluster: *cluster,
+            me,
+            live: true,
+            watermark: Round::ZERO,
+            entries: Vec::new(alloc),
+            booted: None,
+            ballot: Round::ZERO,
+            accepted: Round::ZERO,
+            next: Set::empty(),
+        })
     }
 
     fn reopen(self, records: &[Record]) -> Result<Self, WakeFault> {
@@ -90,16 +96,25 @@ impl Role for Matchmaker {
         }
         let from = datagram.from();
         match datagram.msg() {
-            Msg::MatchA { round, grid } => self.match_a(keeper, from, *round, *grid, out),
-            Msg::GarbageA { round, grid } => self.garbage_a(keeper, from, *round, *grid, out),
-            Msg::MatchRead { asking } => Ok(self.match_read(from, *asking, out)?),
-            Msg::StopA { round } => self.stop_a(keeper, from, *round, out),
-            Msg::NextA { round, set } => self.next_a(keeper, from, *round, set, out),
             Msg::BootA {
                 set,
                 watermark,
                 entries,
             } => self.boot_a(keeper, from, set, *watermark, entries, out),
+            // Only a member of a set answers its leaders, readers and replacers, and one that has stopped only replacers.
+            Msg::MatchA { .. }
+            | Msg::GarbageA { .. }
+            | Msg::MatchRead { .. }
+            | Msg::StopA { .. }
+            | Msg::NextA { .. }
+                if !self.is_booted() => { Ok(Why::New) }
+            Msg::MatchA { .. } | Msg::GarbageA { .. } | Msg::MatchRead { .. }
+                if self.is_stopped() => { Ok(Why::Stopped) }
+            Msg::MatchA { round, grid } => self.match_a(keeper, from, *round, *grid, out),
+            Msg::GarbageA { round, grid } => self.garbage_a(keeper, from, *round, *grid, out),
+            Msg::MatchRead { asking } => Ok(self.match_read(from, *asking, out)?),
+            Msg::StopA { round } => self.stop_a(keeper, from, *round, out),
+            Msg::NextA { round, set } => self.next_a(keeper, from, *round, set, out),
             _ => Ok(Why::Stranger),
         }
     }

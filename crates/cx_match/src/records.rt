@@ -1,19 +1,18 @@
 //! What a matchmaker remembers of its records.
 
 ghost use Rattle.std.specs.Prelude.{◌≡◌, Ok, Err, IsErrOf, false};
-ghost use Rattle.cx_role.specs.Prelude.{[], true, IfOk, OnOk, OnErr, IsTrue, Kind, opened};
-ghost use Rattle.cx_model.specs.Matchmaker.{matchmaker_rules, matchmaker_after, matchmaker_fits};
+ghost use Rattle.cx_role.specs.Prelude.{true, IfOk, OnOk, OnErr, IsTrue};
+ghost use Rattle.cx_model.specs.Matchmaker.{matchmaker_after, matchmaker_fits};
 ghost use Rattle.cx_letter.specs.Records.{fits as record_fits};
 ghost use Rattle.cx_role.specs.Role.{Refuses};
 
 use crate::Matchmaker;
 use crate::entries::{are_before, retire};
-use cx_base::{Cluster, NoMemory, ROUNDS, RoleId, Round, Set, copy_all};
+use cx_base::{NoMemory, ROUNDS, copy_all};
 use cx_field::Entry;
 use cx_keep::Keeper;
 use cx_letter::Record;
 use cx_role::{StepFault, keep, names_ballot, names_entries, names_grid, names_round, names_set};
-use std::alloc::Global;
 
 /// Keeps the record of a step. A record that goes out of use here is no burden to the rows.
 pub fn keep_own<K: Keeper>(keeper: &mut K, live: &mut bool, what: Record) -> Result<(), StepFault>
@@ -31,24 +30,6 @@ pub fn keep_own<K: Keeper>(keeper: &mut K, live: &mut bool, what: Record) -> Res
 }
 
 impl Matchmaker {
-    pub(crate) fn new(alloc: Global, cluster: &Cluster, me: RoleId) -> Self
-        requires { me.kind ≡ Kind.Matchmaker }
-        ensures { result ≡ opened matchmaker_rules cluster.now me [] }
-    {
-        Matchmaker {
-            alloc,
-            cluster: *cluster,
-            me,
-            live: true,
-            watermark: Round::ZERO,
-            entries: Vec::new(alloc),
-            booted: None,
-            ballot: Round::ZERO,
-            accepted: Round::ZERO,
-            next: Set::empty(),
-        }
-    }
-
     /// Whether it could have appended this record.
     pub(crate) fn fits(&self, what: &Record) -> bool
         ensures { result ≡ matchmaker_fits self.now.cluster self.now.me self.now.durable what.now }

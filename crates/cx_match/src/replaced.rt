@@ -2,7 +2,7 @@
 
 ghost use Rattle.std.specs.Prelude.{◌≡◌};
 ghost use Rattle.cx_role.specs.Prelude.{[], None, IsTrue, Kind, role, names_set, IsStep};
-ghost use Rattle.cx_model.specs.Matchmaker.{boot_a_row, boot_in, in_set, matchmaker_rules, next_a_row, stop_a_row};
+ghost use Rattle.cx_model.specs.Matchmaker.{boot_a_row, boot_in, matchmaker_rules, next_a_row, stop_a_row};
 ghost use Rattle.cx_field.specs.Fields as field;
 
 use crate::Matchmaker;
@@ -15,8 +15,8 @@ use cx_letter::{Record, boot_b, next_b, stop_b, stop_nack};
 use cx_role::{Outbox, StepFault};
 
 impl Matchmaker {
-    // A lower ballot than the one that it promised is refused.
-    fn halt<K: Keeper>(
+    /// A replacer asks it to stop, and to promise a ballot. A lower ballot than the one that it promised is refused.
+    pub(crate) fn stop_a<K: Keeper>(
         &mut self,
         keeper: &mut K,
         from: RoleId,
@@ -63,30 +63,8 @@ impl Matchmaker {
         Ok(Why::Halted)
     }
 
-    /// A replacer asks it to stop, and to promise a ballot.
-    pub(crate) fn stop_a<K: Keeper>(
-        &mut self,
-        keeper: &mut K,
-        from: RoleId,
-        round: Round,
-        out: &mut Outbox,
-    ) -> Result<Why, StepFault>
-        requires empty { out.old.list ≡ [] }
-        requires sender { from ≡ role Kind.Replacer from.index }
-        requires round { IsTrue (field.round.fits round) }
-        ensures { let s = self.old in
-            IsStep K.append_gives K.tells matchmaker_rules s
-            (in_set s.cluster s.me s.durable (stop_a_row s.me s.durable from round))
-            result self.new keeper.old keeper.new out.new.list }
-    {
-        if !self.is_booted() {
-            return Ok(Why::New);
-        }
-        self.halt(keeper, from, round, out)
-    }
-
-    // What it accepts in a ballot it promises too.
-    fn accept<K: Keeper>(
+    /// A replacer asks it to accept a set, as the one that follows its own. What it accepts in a ballot it promises too.
+    pub(crate) fn next_a<K: Keeper>(
         &mut self,
         keeper: &mut K,
         from: RoleId,
@@ -118,30 +96,6 @@ impl Matchmaker {
         self.next = *set;
         out.push(next_b(self.me.index, from.index, round));
         Ok(Why::Accepted)
-    }
-
-    /// A replacer asks it to accept a set, as the one that follows its own.
-    pub(crate) fn next_a<K: Keeper>(
-        &mut self,
-        keeper: &mut K,
-        from: RoleId,
-        round: Round,
-        set: &Set,
-        out: &mut Outbox,
-    ) -> Result<Why, StepFault>
-        requires empty { out.old.list ≡ [] }
-        requires sender { from ≡ role Kind.Replacer from.index }
-        requires round { IsTrue (field.round.fits round) }
-        requires set { IsTrue (names_set self.old.cluster set.now) }
-        ensures { let s = self.old in
-            IsStep K.append_gives K.tells matchmaker_rules s
-            (in_set s.cluster s.me s.durable (next_a_row s.me s.durable from round set.now))
-            result self.new keeper.old keeper.new out.new.list }
-    {
-        if !self.is_booted() {
-            return Ok(Why::New);
-        }
-        self.accept(keeper, from, round, set, out)
     }
 
     // A matchmaker that is of no set begins in this one.

@@ -2,7 +2,7 @@
 
 ghost use Rattle.std.specs.Prelude.{◌≡◌};
 ghost use Rattle.cx_role.specs.Prelude.{[], IsTrue, Kind, role, IsReply, IsStep};
-ghost use Rattle.cx_model.specs.Matchmaker.{at_work, garbage_a_row, matchmaker_rules, match_a_row, match_read_row};
+ghost use Rattle.cx_model.specs.Matchmaker.{garbage_a_row, matchmaker_rules, match_a_row, match_read_row};
 ghost use Rattle.cx_field.specs.Fields as field;
 
 use crate::Matchmaker;
@@ -15,9 +15,10 @@ use cx_letter::{Record, garbage_b, match_b, match_nack, match_read_ack};
 use cx_role::{Outbox, StepFault};
 
 impl Matchmaker {
-    // A round below the retirement watermark, one below another that is recorded, and one where there are 16 or more are refused (JSys 2021;
-    // the limit is this project's own).
-    fn record_round<K: Keeper>(
+    /// A leader asks that a round be recorded, and for the earlier rounds and their grids (JSys 2021). A round below the
+    /// retirement watermark, one below another that is recorded, and one where there are 16 or more are refused (the limit
+    /// is this project's own).
+    pub(crate) fn match_a<K: Keeper>(
         &mut self,
         keeper: &mut K,
         from: RoleId,
@@ -71,35 +72,9 @@ impl Matchmaker {
         Ok(Why::Matched)
     }
 
-    /// A leader asks that a round be recorded, and for the earlier rounds and their grids (JSys 2021).
-    pub(crate) fn match_a<K: Keeper>(
-        &mut self,
-        keeper: &mut K,
-        from: RoleId,
-        round: Round,
-        grid: Grid,
-        out: &mut Outbox,
-    ) -> Result<Why, StepFault>
-        requires empty { out.old.list ≡ [] }
-        requires sender { from ≡ role Kind.Leader from.index }
-        requires round { IsTrue (field.round.fits round) }
-        requires grid { IsTrue (field.grid.fits grid) }
-        ensures { let s = self.old in
-            IsStep K.append_gives K.tells matchmaker_rules s
-            (at_work s.cluster s.me s.durable (match_a_row s.me s.durable from round grid))
-            result self.new keeper.old keeper.new out.new.list }
-    {
-        if !self.is_booted() {
-            return Ok(Why::New);
-        }
-        if self.is_stopped() {
-            return Ok(Why::Stopped);
-        }
-        self.record_round(keeper, from, round, grid, out)
-    }
-
-    // The entry of the leader's own round stays, or is made (this project's own).
-    fn forget_below<K: Keeper>(
+    /// A leader asks to forget the rounds below its own (JSys 2021). The entry of its own round stays, or is made (this
+    /// project's own).
+    pub(crate) fn garbage_a<K: Keeper>(
         &mut self,
         keeper: &mut K,
         from: RoleId,
@@ -128,46 +103,6 @@ impl Matchmaker {
         Ok(Why::Raised)
     }
 
-    /// A leader asks to forget the rounds below its own (JSys 2021).
-    pub(crate) fn garbage_a<K: Keeper>(
-        &mut self,
-        keeper: &mut K,
-        from: RoleId,
-        round: Round,
-        grid: Grid,
-        out: &mut Outbox,
-    ) -> Result<Why, StepFault>
-        requires empty { out.old.list ≡ [] }
-        requires sender { from ≡ role Kind.Leader from.index }
-        requires round { IsTrue (field.round.fits round) }
-        requires grid { IsTrue (field.grid.fits grid) }
-        ensures { let s = self.old in
-            IsStep K.append_gives K.tells matchmaker_rules s
-            (at_work s.cluster s.me s.durable (garbage_a_row s.me s.durable from round grid))
-            result self.new keeper.old keeper.new out.new.list }
-    {
-        if !self.is_booted() {
-            return Ok(Why::New);
-        }
-        if self.is_stopped() {
-            return Ok(Why::Stopped);
-        }
-        self.forget_below(keeper, from, round, grid, out)
-    }
-
-    fn report(&self, from: RoleId, asking: Asking, out: &mut Outbox) -> Result<Why, NoMemory>
-        requires empty { out.old.list ≡ [] }
-        requires sender { from ≡ role Kind.Reader from.index }
-        requires asking { IsTrue (field.asking.fits asking) }
-        ensures { IsReply matchmaker_rules self.now
-            (match_read_row self.now.me self.now.durable from asking) result self.now out.new.list }
-    {
-        let entries = all_entries(self.alloc, &self.entries)?;
-        out.room(1)?;
-        out.push(match_read_ack(self.me.index, from.index, asking, self.watermark, entries));
-        Ok(Why::Asked)
-    }
-
     /// A reader asks for the retirement watermark and all entries (this project's own).
     pub(crate) fn match_read(
         &self,
@@ -178,16 +113,12 @@ impl Matchmaker {
         requires empty { out.old.list ≡ [] }
         requires sender { from ≡ role Kind.Reader from.index }
         requires asking { IsTrue (field.asking.fits asking) }
-        ensures { let s = self.now in
-            IsReply matchmaker_rules s
-            (at_work s.cluster s.me s.durable (match_read_row s.me s.durable from asking)) result s out.new.list }
+        ensures { IsReply matchmaker_rules self.now
+            (match_read_row self.now.me self.now.durable from asking) result self.now out.new.list }
     {
-        if !self.is_booted() {
-            return Ok(Why::New);
-        }
-        if self.is_stopped() {
-            return Ok(Why::Stopped);
-        }
-        self.report(from, asking, out)
+        let entries = all_entries(self.alloc, &self.entries)?;
+        out.room(1)?;
+        out.push(match_read_ack(self.me.index, from.index, asking, self.watermark, entries));
+        Ok(Why::Asked)
     }
 }

@@ -1,7 +1,7 @@
 //! The proxy leader.
 
 ghost use Rattle.std.specs.Prelude.{◌≡◌, ◌<◌};
-ghost use Rattle.cx_role.specs.Prelude.{[], opened, IsReply};
+ghost use Rattle.cx_role.specs.Prelude.{[], IfOk, opened, IsReply};
 ghost use Rattle.cx_role.specs.Prelude.kind;
 ghost use Rattle.cx_model.specs.Proxy.{ProxyVolatile, proxy_rules};
 ghost use Rattle.cx_proxy.specs.Holds.{IsPendingInRange};
@@ -42,19 +42,6 @@ impl Model for Proxy {
 }
 
 impl Proxy {
-    fn new(alloc: Global, cluster: &Cluster, me: RoleId) -> Self
-        requires { me.kind ≡ kind.Proxy }
-        ensures { result ≡ opened proxy_rules cluster.now me [] }
-    {
-        Proxy {
-            alloc,
-            cluster: *cluster,
-            me,
-            live: true,
-            pending: Pendings::new(alloc, 0),
-        }
-    }
-
     // The values that are pending.
     pub(crate) fn pendings(&self) -> &Pendings
         ensures first { result.now.first ≡ self.now.volatile.known }
@@ -131,13 +118,17 @@ impl Role for Proxy {
 
     ghost state = { λ s. s };
 
-    fn open(
-        alloc: Global,
-        cluster: &Cluster,
-        me: RoleId,
-        records: &[Record],
-    ) -> Result<Self, WakeFault> {
-        Proxy::new(alloc, cluster, me).reopen(records)
+    fn new(alloc: Global, cluster: &Cluster, me: RoleId) -> Result<Self, NoMemory>
+        requires { me.kind ≡ kind.Proxy }
+        ensures { IfOk result (λ proxy. proxy ≡ opened proxy_rules cluster.now me []) }
+    {
+        Ok(Proxy {
+            alloc,
+            cluster: *cluster,
+            me,
+            live: true,
+            pending: Pendings::new(alloc, 0),
+        })
     }
 
     #[tactic(auto, using(crate::proofs::Rows::proxy_refuses))]
@@ -145,7 +136,7 @@ impl Role for Proxy {
         if let [_, ..] = records {
             return Err(WakeFault::Record { index: 0 });
         }
-        Ok(Proxy::new(self.alloc, &self.cluster, self.me))
+        Ok(Proxy::new(self.alloc, &self.cluster, self.me)?)
     }
 
     fn take<K: Keeper>(

@@ -69,13 +69,17 @@ impl Role for Reader {
     ghost state = { λ s. s };
 
     #[tactic(auto, using(crate::proofs::Opened::reader_itself))]
-    fn open(
-        alloc: Global,
-        cluster: &Cluster,
-        me: RoleId,
-        records: &[Record],
-    ) -> Result<Self, WakeFault> {
-        Reader::new(alloc, cluster, me.index).reopen(records)
+    fn new(alloc: Global, cluster: &Cluster, me: RoleId) -> Result<Self, NoMemory> {
+        Ok(Reader {
+            alloc,
+            cluster: *cluster,
+            index: me.index,
+            live: true,
+            turn: 0,
+            waiting: Vec::new(alloc),
+            running: None,
+            set: Set::first(cluster),
+        })
     }
 
     fn reopen(self, records: &[Record]) -> Result<Self, WakeFault> {

@@ -16,7 +16,7 @@ use std::alloc::Global;
 
 impl Replacer {
     /// A replacer that was just opened, whose records left this ballot.
-    pub(crate) fn new(alloc: Global, cluster: &Cluster, index: u16, own: Round) -> Self
+    pub(crate) fn with_ballot(alloc: Global, cluster: &Cluster, index: u16, own: Round) -> Self
         requires { index < cluster.now.replacers }
         ensures { result ≡ record {
           cluster = cluster.now;

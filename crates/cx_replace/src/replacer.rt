@@ -102,28 +102,15 @@ impl Role for Replacer {
     ghost state = { λ s. s };
 
     #[tactic(auto, using(crate::proofs::Opened::openings))]
-    fn open(
-        alloc: Global,
-        cluster: &Cluster,
-        me: RoleId,
-        records: &[Record],
-    ) -> Result<Self, WakeFault> {
-        let own = last_ballot(Round::ZERO, cluster, me, records)?;
-        Ok(Replacer::new(alloc, cluster, me.index, own))
+    fn new(alloc: Global, cluster: &Cluster, me: RoleId) -> Result<Self, NoMemory> {
+        Ok(Replacer::with_ballot(alloc, cluster, me.index, Round::ZERO))
     }
 
     #[tactic(auto, using(crate::proofs::Opened::openings))]
     fn reopen(self, records: &[Record]) -> Result<Self, WakeFault> {
-        let Replacer {
-            alloc,
-            cluster,
-            index,
-            own,
-            ..
-        } = self;
-        let me = RoleId::new(Kind::Replacer, index);
-        let own = last_ballot(own, &cluster, me, records)?;
-        Ok(Replacer::new(alloc, &cluster, index, own))
+        let me = RoleId::new(Kind::Replacer, self.index);
+        let own = last_ballot(self.own, &self.cluster, me, records)?;
+        Ok(Replacer::with_ballot(self.alloc, &self.cluster, self.index, own))
     }
 
     #[tactic(auto, using(crate::proofs::FitLaws::take_fits))]

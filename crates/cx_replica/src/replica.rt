@@ -1,10 +1,8 @@
 //! A replica's state, and how it is opened.
 
-ghost use Rattle.std.specs.Prelude.{◌≡◌, ◌<◌, [], true, false, is_some, IfOk, IfSome, IsTrue};
-ghost use Rattle.cx_base.specs.declared.role.Kind.TheVariants as kind;
+ghost use Rattle.std.specs.Prelude.{◌≡◌, true, false, is_some, IfSome, IsTrue};
 ghost use Rattle.cx_field.specs.Fields as field;
 ghost use Rattle.cx_model.specs.Replica.{ReplicaDurable, ReplicaVolatile, held, is_renewal_whole, replica_rules};
-ghost use Rattle.cx_model.specs.Rules.{opened};
 
 use crate::machine::Machine;
 use crate::sending::{ask_next, tell_held};
@@ -75,25 +73,6 @@ impl Replica {
         self.log.held()
     }
 
-    /// A replica that has no records, before it takes a step.
-    fn new(alloc: Global, cluster: &Cluster, me: RoleId) -> Result<Self, NoMemory>
-        requires kind { me.kind ≡ kind.Replica }
-        requires place { me.index < cluster.now.replicas }
-        ensures { IfOk result (λ replica. replica ≡ record (opened replica_rules cluster.now me []) { live = false }) }
-    {
-        Ok(Replica {
-            alloc,
-            cluster: *cluster,
-            me,
-            live: false,
-            log: Log::new(alloc)?,
-            machine: Machine::new(alloc),
-            wanted: Wanted::new(),
-            deferred: Vec::new(alloc),
-            fetched: 0,
-        })
-    }
-
     /// What its records left, before it takes a step again.
     fn stopped(self) -> Self
         ensures { result ≡ record self { live = false; volatile = replica_rules.fresh self.cluster } }
@@ -129,13 +108,18 @@ impl Role for Replica {
 
     ghost state = { λ s. s };
 
-    fn open(
-        alloc: Global,
-        cluster: &Cluster,
-        me: RoleId,
-        records: &[Record],
-    ) -> Result<Self, WakeFault> {
-        Replica::new(alloc, cluster, me)?.reopen(records)
+    fn new(alloc: Global, cluster: &Cluster, me: RoleId) -> Result<Self, NoMemory> {
+        Ok(Replica {
+            alloc,
+            cluster: *cluster,
+            me,
+            live: true,
+            log: Log::new(alloc)?,
+            machine: Machine::new(alloc),
+            wanted: Wanted::new(),
+            deferred: Vec::new(alloc),
+            fetched: 0,
+        })
     }
 
     fn reopen(self, records: &[Record]) -> Result<Self, WakeFault> {

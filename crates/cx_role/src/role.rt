@@ -58,6 +58,12 @@ pub trait Role: Sized {
     /// Its state.
     ghost state: { Self → Running Durable Volatile };
 
+    /// The role without records; it is one of the cluster's, of the kind that the rules are for.
+    fn new(alloc: Global, cluster: &Cluster, me: RoleId) -> Result<Self, NoMemory>
+        requires kind { me.kind ≡ rules.kind }
+        requires named { IsTrue (names_role cluster.now me) }
+        ensures { IfOk result (λ role. state role ≡ opened rules cluster.now me []) };
+
     /// The role as these records leave it; it is one of the cluster's, of the kind that the rules are for. The fault names
     /// exactly the first record that the role could not have appended in the state that those before it leave.
     fn open(
@@ -71,7 +77,10 @@ pub trait Role: Sized {
         requires records { IsTrue (all_fit records.now) }
         ensures role { IfOk result (λ role. state role ≡ opened rules cluster.now me records.now) }
         ensures whole { IfOk result (λ _. refused rules cluster.now me records.now ≡ None) }
-        ensures fault { IfErr result (IsWakeFault (refused rules cluster.now me records.now)) };
+        ensures fault { IfErr result (IsWakeFault (refused rules cluster.now me records.now)) }
+    {
+        Self::new(alloc, cluster, me)?.reopen(records)
+    }
 
     /// The role as it is opened again, once it has stopped: what its records left stays, with these after them, and the rest is as
     /// in a role that was just opened. The fault names exactly the first of them that the role could not have appended.

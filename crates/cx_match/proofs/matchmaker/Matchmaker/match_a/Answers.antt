@@ -4,7 +4,7 @@ use Rattle.cx_match.proofs.SoundLaws.{has_space, match_fits, sound_match}
 use Rattle.cx_role.proofs.Ranges.{real_above}
 use Rattle.cx_match.proofs.Telling.{one_told}
 use Rattle.std.proofs.lemmas.Result.{err_from_is_err_and}
-use Rattle.cx_match.proofs.matchmaker.Matchmaker.record_round.Goals as goal
+use Rattle.cx_match.proofs.matchmaker.Matchmaker.match_a.Goals as goal
 
 pub match_nack-requires-clause-other : goal.match_nack-requires-clause-other
 match_nack-requires-clause-other g c = real_above c.args.round c.self.inside.watermark c.requires.round c.self.invariant.watermark (rw c.is_before.ensures at c.if-is_before.true)

@@ -1,5 +1,5 @@
 use Rattle.cx_match.proofs.SoundLaws.{garbage_fits, sound_garbage}
-use Rattle.cx_match.proofs.matchmaker.Matchmaker.forget_below.Goals as goal
+use Rattle.cx_match.proofs.matchmaker.Matchmaker.garbage_a.Goals as goal
 
 pub keep_own-requires : goal.keep_own-requires
 keep_own-requires g c = garbage_fits c.args.round c.args.grid c.requires.round c.requires.grid
