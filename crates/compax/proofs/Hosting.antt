@@ -17,22 +17,29 @@ module _ (turns : ℕ) (tend : Option ℕ) (window : ℕ) (recording : Bool) (ro
   not_generated : {A : Type 0} (seed count : ℕ) → Some (Node turns tend window recording roles) ≡ Some (Generate seed count) → A
   not_generated seed count e = cc
 
-  same_turns : (t : ℕ) (m : Option ℕ) (w : ℕ) (b : Bool) (rs : List RoleId) → Some (Node turns tend window recording roles) ≡ Some (Node t m w b rs) → turns ≡ t
+  same_turns : (t : ℕ) (m : Option ℕ) (w : ℕ) (b : Bool) (rs : List RoleId)
+      → Some (Node turns tend window recording roles) ≡ Some (Node t m w b rs) → turns ≡ t
   same_turns t m w b rs e = cc
 
-  same_tend : (t : ℕ) (m : Option ℕ) (w : ℕ) (b : Bool) (rs : List RoleId) → Some (Node turns tend window recording roles) ≡ Some (Node t m w b rs) → tend ≡ m
+  same_tend : (t : ℕ) (m : Option ℕ) (w : ℕ) (b : Bool) (rs : List RoleId)
+      → Some (Node turns tend window recording roles) ≡ Some (Node t m w b rs) → tend ≡ m
   same_tend t m w b rs e = cc
 
-  same_window : (t : ℕ) (m : Option ℕ) (w : ℕ) (b : Bool) (rs : List RoleId) → Some (Node turns tend window recording roles) ≡ Some (Node t m w b rs) → window ≡ w
+  same_window : (t : ℕ) (m : Option ℕ) (w : ℕ) (b : Bool) (rs : List RoleId)
+      → Some (Node turns tend window recording roles) ≡ Some (Node t m w b rs) → window ≡ w
   same_window t m w b rs e = cc
 
-  same_recording : (t : ℕ) (m : Option ℕ) (w : ℕ) (b : Bool) (rs : List RoleId) → Some (Node turns tend window recording roles) ≡ Some (Node t m w b rs) → recording ≡ b
+  same_recording : (t : ℕ) (m : Option ℕ) (w : ℕ) (b : Bool) (rs : List RoleId)
+      → Some (Node turns tend window recording roles) ≡ Some (Node t m w b rs) → recording ≡ b
   same_recording t m w b rs e = cc
 
-  same_roles : (t : ℕ) (m : Option ℕ) (w : ℕ) (b : Bool) (rs : List RoleId) → Some (Node turns tend window recording roles) ≡ Some (Node t m w b rs) → roles ≡ rs
+  same_roles : (t : ℕ) (m : Option ℕ) (w : ℕ) (b : Bool) (rs : List RoleId)
+      → Some (Node turns tend window recording roles) ≡ Some (Node t m w b rs) → roles ≡ rs
   same_roles t m w b rs e = cc
 
-  node_answered : (old new : Outside) (s : Status) → IsNodeAnswer roles tend window recording turns old new s → NodeCompletes recording roles old new s → HostedTellsUsed recording roles old new s → HostedTellsBad recording roles old new s → IsTopAnswer (Some (Node turns tend window recording roles)) old new s
+  node_answered : (old new : Outside) (s : Status) → IsNodeAnswer roles tend window recording turns old new s
+      → NodeCompletes recording roles old new s → HostedTellsUsed recording roles old new s → HostedTellsBad recording roles old new s
+      → IsTopAnswer (Some (Node turns tend window recording roles)) old new s
   node_answered old new s hosted completes tells_used tells_bad = record {
     bad_words = λ unhosted e. absurd (unhosted tt);
     refused = not_none;
@@ -63,6 +70,8 @@ module _ (turns : ℕ) (tend : Option ℕ) (window : ℕ) (recording : Bool) (ro
   }
 
   -- what hosting came to is what is answered
-  pub answered_node : (said : Option Invocation) (old new : Outside) (s : Status) → said ≡ Some (Node turns tend window recording roles) → IsNodeAnswer roles tend window recording turns old new s → NodeCompletes recording roles old new s → HostedTellsUsed recording roles old new s → HostedTellsBad recording roles old new s
-      → IsTopAnswer said old new s
-  answered_node said old new s asked hosted completes tells_used tells_bad = subst (λ (o : Option Invocation). IsTopAnswer o old new s) (sym asked) (node_answered old new s hosted completes tells_used tells_bad)
+  pub answered_node : (said : Option Invocation) (old new : Outside) (s : Status) → said ≡ Some (Node turns tend window recording roles)
+      → IsNodeAnswer roles tend window recording turns old new s → NodeCompletes recording roles old new s
+      → HostedTellsUsed recording roles old new s → HostedTellsBad recording roles old new s → IsTopAnswer said old new s
+  answered_node said old new s asked hosted completes tells_used tells_bad =
+      subst (λ (o : Option Invocation). IsTopAnswer o old new s) (sym asked) (node_answered old new s hosted completes tells_used tells_bad)

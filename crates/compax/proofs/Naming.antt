@@ -1,5 +1,6 @@
 -- Roles that are named one by one, and tested one by one.
-use Rattle.std.proofs.Common.{◌≡◌, ℕ, Bool, ◌&&◌, not, true, false, List, [], ◌∷◌, ◌++◌, append_assoc, Option, Some, None, option_map, option_and_then, refl, sym, ap, ◌∙◌}
+use Rattle.std.proofs.Common.{◌≡◌, ℕ, Bool, ◌&&◌, not, true, false, List, [], ◌∷◌, ◌++◌, append_assoc, Option, Some, None, option_map}
+use Rattle.std.proofs.Common.{option_and_then, refl, sym, ap, ◌∙◌}
 use Rattle.std.specs.List.{list_any}
 use Rattle.std.proofs.lemmas.List.{append-nil}
 use Rattle.cx_base.specs.declared.role.RoleId.{RoleId}
@@ -14,19 +15,22 @@ pub onto_nothing : (more : Option (List RoleId)) → onto [] more ≡ more
 onto_nothing None = refl
 onto_nothing (Some roles) = refl
 
-onto_one : (done : List RoleId) (me : RoleId) (more : Option (List RoleId)) → onto (done ++ me ∷ []) more ≡ onto done (option_map (λ roles. me ∷ roles) more)
+onto_one : (done : List RoleId) (me : RoleId) (more : Option (List RoleId))
+    → onto (done ++ me ∷ []) more ≡ onto done (option_map (λ roles. me ∷ roles) more)
 onto_one done me None = refl
 onto_one done me (Some roles) = ap Some (append_assoc done (me ∷ []) roles)
 
 -- a word more
 pub names_one : (done : List RoleId) (word : List ℕ) (words : List (List ℕ)) (me : RoleId) → role_of word ≡ Some me
     → onto (done ++ me ∷ []) (all_roles words) ≡ onto done (all_roles (word ∷ words))
-names_one done word words me is =
-    onto_one done me (all_roles words) ∙ ap (λ (o : Option RoleId). onto done (option_and_then (λ r. option_map (λ roles. r ∷ roles) (all_roles words)) o)) (sym is)
+names_one done word words me is = onto_one done me (all_roles words)
+    ∙ ap (λ (o : Option RoleId). onto done (option_and_then (λ r. option_map (λ roles. r ∷ roles) (all_roles words)) o)) (sym is)
 
 -- a word that names none
-pub names_none : (done : List RoleId) (word : List ℕ) (words : List (List ℕ)) → role_of word ≡ None → onto done (all_roles (word ∷ words)) ≡ None
-names_none done word words is = ap (λ (o : Option RoleId). onto done (option_and_then (λ r. option_map (λ roles. r ∷ roles) (all_roles words)) o)) is
+pub names_none : (done : List RoleId) (word : List ℕ) (words : List (List ℕ)) → role_of word ≡ None
+    → onto done (all_roles (word ∷ words)) ≡ None
+names_none done word words is =
+    ap (λ (o : Option RoleId). onto done (option_and_then (λ r. option_map (λ roles. r ∷ roles) (all_roles words)) o)) is
 
 pub names_all : (done : List RoleId) → onto done (all_roles []) ≡ Some done
 names_all done = ap Some (append-nil done)

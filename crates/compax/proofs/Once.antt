@@ -1,5 +1,6 @@
 -- A role that stands once stands at one place.
-use Rattle.std.proofs.Common.{◌≡◌, ℕ, zero, suc, Bool, ◌==◌, ◌&&◌, not, true, false, List, [], ◌∷◌, Some, slice_get, refl, sym, ap, ◌∙◌, arith, inl, inr}
+use Rattle.std.proofs.Common.{◌≡◌, ℕ, zero, suc, Bool, ◌==◌, ◌&&◌, not, true, false, List, [], ◌∷◌, Some, slice_get, refl, sym, ap, ◌∙◌}
+use Rattle.std.proofs.Common.{arith, inl, inr}
 use Rattle.std.specs.List.{list_any}
 use Rattle.std.proofs.lemmas.Bool.{cases_Bool}
 use Rattle.std.proofs.lemmas.Bool.Decides.{nat_tests}
@@ -31,7 +32,8 @@ rest : (a b : Bool) → (not a && b) ≡ true → b ≡ true
 rest true b once = cc
 rest false b once = once
 
-pub at_one_place : (roles : List RoleId) → stand_once roles ≡ true → (i j : ℕ) (me : RoleId) → slice_get roles i ≡ Some me → slice_get roles j ≡ Some me → i ≡ j
+pub at_one_place : (roles : List RoleId) → stand_once roles ≡ true → (i j : ℕ) (me : RoleId) → slice_get roles i ≡ Some me
+    → slice_get roles j ≡ Some me → i ≡ j
 at_one_place [] once i j me at too = cc
 at_one_place (r ∷ roles) once zero zero me at too = refl
 at_one_place (r ∷ roles) once zero (suc j) me at too =

@@ -14,7 +14,8 @@ pub least_said : (program : List ℕ) → said (program ∷ codes "gen" ∷ code
 unfolding said clap_on_literals
 least_said program = refl
 
-pub most_said : (program : List ℕ) → said (program ∷ codes "gen" ∷ codes "18446744073709551615" ∷ codes "65535" ∷ []) ≡ Some (Generate 18446744073709551615 65535)
+pub most_said : (program : List ℕ)
+    → said (program ∷ codes "gen" ∷ codes "18446744073709551615" ∷ codes "65535" ∷ []) ≡ Some (Generate 18446744073709551615 65535)
 unfolding said clap_on_literals
 most_said program = refl
 
@@ -34,11 +35,13 @@ pub help_said : (program : List ℕ) → said (program ∷ codes "--help" ∷ []
 unfolding said clap_on_literals
 help_said program = refl
 
-pub node_said : (program : List ℕ) → said (program ∷ codes "node" ∷ codes "client:0" ∷ []) ≡ Some (Node 1000000 None 1 false (role Client 0 ∷ []))
+pub node_said : (program : List ℕ)
+    → said (program ∷ codes "node" ∷ codes "client:0" ∷ []) ≡ Some (Node 1000000 None 1 false (role Client 0 ∷ []))
 unfolding said clap_on_literals
 node_said program = refl
 
-pub turns_said : (program : List ℕ) → said (program ∷ codes "node" ∷ codes "--turns" ∷ codes "75" ∷ codes "client:0" ∷ codes "batcher:0" ∷ []) ≡ Some (Node 75 None 1 false (role Client 0 ∷ role Batcher 0 ∷ []))
+pub turns_said : (program : List ℕ) → said (program ∷ codes "node" ∷ codes "--turns" ∷ codes "75" ∷ codes "client:0" ∷ codes "batcher:0"
+    ∷ []) ≡ Some (Node 75 None 1 false (role Client 0 ∷ role Batcher 0 ∷ []))
 unfolding said clap_on_literals
 turns_said program = refl
 
@@ -46,11 +49,13 @@ pub no_turn_said : (program : List ℕ) → said (program ∷ codes "node" ∷ c
 unfolding said clap_on_literals
 no_turn_said program = refl
 
-pub tend_said : (program : List ℕ) → said (program ∷ codes "node" ∷ codes "--tend" ∷ codes "64" ∷ codes "client:0" ∷ []) ≡ Some (Node 1000000 (Some 64) 1 false (role Client 0 ∷ []))
+pub tend_said : (program : List ℕ) → said (program ∷ codes "node" ∷ codes "--tend" ∷ codes "64" ∷ codes "client:0" ∷ [])
+    ≡ Some (Node 1000000 (Some 64) 1 false (role Client 0 ∷ []))
 unfolding said clap_on_literals
 tend_said program = refl
 
-pub most_tend_said : (program : List ℕ) → said (program ∷ codes "node" ∷ codes "--tend" ∷ codes "65536" ∷ codes "--turns" ∷ codes "75" ∷ codes "client:0" ∷ []) ≡ Some (Node 75 (Some 65536) 1 false (role Client 0 ∷ []))
+pub most_tend_said : (program : List ℕ) → said (program ∷ codes "node" ∷ codes "--tend" ∷ codes "65536" ∷ codes "--turns" ∷ codes "75"
+    ∷ codes "client:0" ∷ []) ≡ Some (Node 75 (Some 65536) 1 false (role Client 0 ∷ []))
 unfolding said clap_on_literals
 most_tend_said program = refl
 
@@ -62,7 +67,8 @@ pub tend_above : (program : List ℕ) → said (program ∷ codes "node" ∷ cod
 unfolding said clap_on_literals
 tend_above program = refl
 
-pub window_said : (program : List ℕ) → said (program ∷ codes "node" ∷ codes "--window" ∷ codes "64" ∷ codes "client:0" ∷ []) ≡ Some (Node 1000000 None 64 false (role Client 0 ∷ []))
+pub window_said : (program : List ℕ) → said (program ∷ codes "node" ∷ codes "--window" ∷ codes "64" ∷ codes "client:0" ∷ [])
+    ≡ Some (Node 1000000 None 64 false (role Client 0 ∷ []))
 unfolding said clap_on_literals
 window_said program = refl
 
@@ -75,20 +81,24 @@ pub window_above : (program : List ℕ) → said (program ∷ codes "node" ∷ c
 unfolding said clap_on_literals
 window_above program = refl
 
-pub tend_twice : (program : List ℕ) → said (program ∷ codes "node" ∷ codes "--tend" ∷ codes "64" ∷ codes "--tend" ∷ codes "64" ∷ codes "client:0" ∷ []) ≡ None
+pub tend_twice : (program : List ℕ)
+    → said (program ∷ codes "node" ∷ codes "--tend" ∷ codes "64" ∷ codes "--tend" ∷ codes "64" ∷ codes "client:0" ∷ []) ≡ None
 unfolding said clap_on_literals
 tend_twice program = refl
 
-pub record_said : (program : List ℕ) → said (program ∷ codes "node" ∷ codes "--record" ∷ codes "client:0" ∷ []) ≡ Some (Node 1000000 None 1 true (role Client 0 ∷ []))
+pub record_said : (program : List ℕ)
+    → said (program ∷ codes "node" ∷ codes "--record" ∷ codes "client:0" ∷ []) ≡ Some (Node 1000000 None 1 true (role Client 0 ∷ []))
 unfolding said clap_on_literals
 record_said program = refl
 
-pub all_said : (program : List ℕ) → said (program ∷ codes "node" ∷ codes "--tend" ∷ codes "64" ∷ codes "--window" ∷ codes "4" ∷ codes "--turns" ∷ codes "75" ∷ codes "--record" ∷ codes "client:0" ∷ []) ≡ Some (Node 75 (Some 64) 4 true (role Client 0 ∷ []))
+pub all_said : (program : List ℕ) → said (program ∷ codes "node" ∷ codes "--tend" ∷ codes "64" ∷ codes "--window" ∷ codes "4"
+    ∷ codes "--turns" ∷ codes "75" ∷ codes "--record" ∷ codes "client:0" ∷ []) ≡ Some (Node 75 (Some 64) 4 true (role Client 0 ∷ []))
 unfolding said clap_on_literals
 all_said program = refl
 
 -- it may stand behind a role
-pub record_behind : (program : List ℕ) → said (program ∷ codes "node" ∷ codes "client:0" ∷ codes "--record" ∷ codes "batcher:0" ∷ []) ≡ Some (Node 1000000 None 1 true (role Client 0 ∷ role Batcher 0 ∷ []))
+pub record_behind : (program : List ℕ) → said (program ∷ codes "node" ∷ codes "client:0" ∷ codes "--record" ∷ codes "batcher:0" ∷ [])
+    ≡ Some (Node 1000000 None 1 true (role Client 0 ∷ role Batcher 0 ∷ []))
 unfolding said clap_on_literals
 record_behind program = refl
 

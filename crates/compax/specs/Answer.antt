@@ -51,10 +51,14 @@ pub record IsTopAnswer (said : Option Invocation) (old new : Outside) (s : Statu
   pub generating_completes : (seed count : ℕ) → said ≡ Some (Generate seed count) → GenCompletes old.writes new.writes s
   pub comes_of_gen : (seed count : ℕ) → said ≡ Some (Generate seed count) → ComesOfGen s
   -- A node bound, sent, kept and printed what the run of its roles says, or its status says why it stopped.
-  pub hosted : (turns : ℕ) (tend : Option ℕ) (window : ℕ) (recording : Bool) (roles : List RoleId) → said ≡ Some (Node turns tend window recording roles) → IsNodeAnswer roles tend window recording turns old new s
-  pub hosting_completes : (turns : ℕ) (tend : Option ℕ) (window : ℕ) (recording : Bool) (roles : List RoleId) → said ≡ Some (Node turns tend window recording roles) → NodeCompletes recording roles old new s
-  pub hosting_tells_used : (turns : ℕ) (tend : Option ℕ) (window : ℕ) (recording : Bool) (roles : List RoleId) → said ≡ Some (Node turns tend window recording roles) → HostedTellsUsed recording roles old new s
-  pub hosting_tells_bad : (turns : ℕ) (tend : Option ℕ) (window : ℕ) (recording : Bool) (roles : List RoleId) → said ≡ Some (Node turns tend window recording roles) → HostedTellsBad recording roles old new s
+  pub hosted : (turns : ℕ) (tend : Option ℕ) (window : ℕ) (recording : Bool) (roles : List RoleId)
+      → said ≡ Some (Node turns tend window recording roles) → IsNodeAnswer roles tend window recording turns old new s
+  pub hosting_completes : (turns : ℕ) (tend : Option ℕ) (window : ℕ) (recording : Bool) (roles : List RoleId)
+      → said ≡ Some (Node turns tend window recording roles) → NodeCompletes recording roles old new s
+  pub hosting_tells_used : (turns : ℕ) (tend : Option ℕ) (window : ℕ) (recording : Bool) (roles : List RoleId)
+      → said ≡ Some (Node turns tend window recording roles) → HostedTellsUsed recording roles old new s
+  pub hosting_tells_bad : (turns : ℕ) (tend : Option ℕ) (window : ℕ) (recording : Bool) (roles : List RoleId)
+      → said ≡ Some (Node turns tend window recording roles) → HostedTellsBad recording roles old new s
 
 -- What is promised of the run that the words ask for, however far it was run: of the input's, or of the generated one.
 abbrev pub IsLawfulAnswer : Option Invocation → Option (List ℕ) → Option (List ℕ) → Type 0

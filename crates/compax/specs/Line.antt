@@ -1,7 +1,8 @@
 -- The line that says on standard error how a run ended.
 use Rattle.std.specs.Prelude.{ℕ, List, [], ◌++◌, codes, decimal}
 use Rattle.cx_base.specs.declared.status.Status.{Status}
-use Rattle.cx_base.specs.declared.status.Status.TheVariants.{Done, BadWords, BadInput, ReadFault, WriteFault, LinkFault, StoreFault, Turns, NoMemory, BadStore, NotFresh, RecordFull}
+use Rattle.cx_base.specs.declared.status.Status.TheVariants.{Done, BadWords, BadInput, ReadFault, WriteFault, LinkFault, StoreFault, Turns}
+use Rattle.cx_base.specs.declared.status.Status.TheVariants.{NoMemory, BadStore, NotFresh, RecordFull}
 use Rattle.cx_base.specs.Role.{role_text}
 
 abbrev pub line_of : Status → List ℕ

@@ -1,11 +1,13 @@
 -- What the words of a command line say, by clap's definitions for this command.
-use Rattle.std.specs.Prelude.{◌≡◌, ℕ, List, [], ◌∷◌, codes, pos, Bool, true, false, ◌&&◌, nat_le, Option, Some, None, option_map, option_and_then, if◌then◌else◌}
+use Rattle.std.specs.Prelude.{◌≡◌, ℕ, List, [], ◌∷◌, codes, pos, Bool, true, false, ◌&&◌, nat_le, Option, Some, None, option_map}
+use Rattle.std.specs.Prelude.{option_and_then, if◌then◌else◌}
 use Rattle.std.specs.Option.{option_map_or}
 use Rattle.std.specs.Str.{bytes_eq}
 use Rattle.std.specs.Str.Parse.{digits_value, without_leading_plus}
 use Rattle.clap.specs.ValueTests.{is_unsigned_in}
 use Rattle.clap.specs.Lexer.{usize_max}
-use Rattle.clap.specs.Words.{App, Kinds, Row, Rule, Text, all_of, fault_of, new_app, new_rule, one_of, subcommand_of, subcommand_rows_of, with_rule, with_subcommand}
+use Rattle.clap.specs.Words.{App, Kinds, Row, Rule, Text, all_of, fault_of, new_app, new_rule, one_of, subcommand_of, subcommand_rows_of}
+use Rattle.clap.specs.Words.{with_rule, with_subcommand}
 use Rattle.clap.specs.declared.builder.action.ArgAction.TheVariants.{SetTrue}
 use Rattle.clap.specs.declared.builder.value_parser.ValueParser.TheVariants as parser
 use Rattle.clap.specs.declared.parser.matches.ArgMatches.{ArgMatches}
@@ -37,7 +39,8 @@ count_rule = record (new_rule (codes "COUNT")) { required = true; parser = Some 
 
 -- `--turns N`, N a number of 32 bits from 1 to 1,000,000,000
 abbrev pub turns_rule : Rule
-turns_rule = record (new_rule (codes "turns")) { long = Some (codes "turns"); defaults = codes "1000000" ∷ []; parser = Some (parser.Signed (pos 1) (pos 1000000000)) }
+turns_rule = record (new_rule (codes
+    "turns")) { long = Some (codes "turns"); defaults = codes "1000000" ∷ []; parser = Some (parser.Signed (pos 1) (pos 1000000000)) }
 
 -- `--tend N`, N a number of 32 bits from 64 to 65,536; it may be left out
 abbrev pub tend_rule : Rule
@@ -45,7 +48,8 @@ tend_rule = record (new_rule (codes "tend")) { long = Some (codes "tend"); parse
 
 -- `--window W`, W a number of 8 bits
 abbrev pub window_rule : Rule
-window_rule = record (new_rule (codes "window")) { long = Some (codes "window"); defaults = codes "1" ∷ []; parser = Some (parser.Signed (pos 0) (pos most_u8)) }
+window_rule = record (new_rule
+    (codes "window")) { long = Some (codes "window"); defaults = codes "1" ∷ []; parser = Some (parser.Signed (pos 0) (pos most_u8)) }
 
 -- `--record`
 abbrev pub record_rule : Rule
@@ -71,7 +75,8 @@ abbrev pub requires_subcommand : App → App
 requires_subcommand a = record a { top = record a.top { subcommand_required = true } }
 
 abbrev pub compax_app : App
-compax_app = with_subcommand (with_subcommand (with_subcommand (requires_subcommand (new_app (codes "compax"))) replay_app.top) generate.top) node.top
+compax_app = with_subcommand (with_subcommand (with_subcommand (requires_subcommand (new_app (codes "compax"))) replay_app.top)
+    generate.top) node.top
 
 -- ---- what the words say
 
@@ -84,7 +89,8 @@ abbrev pub number_at : ℕ → Text → List Row → Option ℕ
 number_at most id rows = option_and_then (text_number most) (one_of id rows)
 
 abbrev pub generated : List Row → Option Invocation
-generated rows = option_and_then (λ seed. option_map (Generate seed) (number_at most_count (codes "COUNT") rows)) (number_at most_seed (codes "SEED") rows)
+generated rows = option_and_then (λ seed. option_map (Generate seed) (number_at most_count (codes "COUNT") rows))
+    (number_at most_seed (codes "SEED") rows)
 
 -- the roles under an id
 abbrev pub roles_at : Text → List Row → Option (List RoleId)
@@ -103,7 +109,8 @@ is_set id rows = option_map_or (λ (t : Text). bytes_eq t (codes "true")) (one_o
 
 -- a node with this number of turns and this window
 abbrev pub node_with : List Row → ℕ → ℕ → Option Invocation
-node_with rows turns window = option_map (Node turns (number_at most_u32 (codes "tend") rows) window (is_set (codes "record") rows)) (roles_at (codes "ROLE") rows)
+node_with rows turns window =
+    option_map (Node turns (number_at most_u32 (codes "tend") rows) window (is_set (codes "record") rows)) (roles_at (codes "ROLE") rows)
 
 abbrev pub hosted : List Row → Option Invocation
 hosted rows = option_and_then (λ turns. option_and_then (node_with rows turns) (window_at rows)) (number_at most_u32 (codes "turns") rows)
@@ -128,4 +135,5 @@ said words = if has_no_kind (fault_of compax_app words) then option_and_then ask
 -- these are the matches of words, or they give a fault
 abbrev pub IsMatch : List Text → Option ArgMatches → Type 0
 IsMatch words None = has_no_kind (fault_of compax_app words) ≡ false
-IsMatch words (Some matches) = (has_no_kind (fault_of compax_app words) ≡ true) × (subcommand_rows_of matches ≡ subcommand_of compax_app words)
+IsMatch words (Some matches) =
+    (has_no_kind (fault_of compax_app words) ≡ true) × (subcommand_rows_of matches ≡ subcommand_of compax_app words)

@@ -11,7 +11,8 @@ use cx_edge::{Sink, write_all};
 use itoa::Buffer;
 
 fn write<E: Sink>(err: &mut E, text: &[u8])
-    ensures { SaysText (E.taken err.old) (E.taken err.new) (E.faults err.old) (E.faults err.new) text.now }
+    ensures { SaysText (E.taken err.old) (E.taken err.new) (E.faults err.old)
+        (E.faults err.new) text.now }
 {
     let _written = write_all(err, text);
 }
@@ -74,7 +75,8 @@ fn write_bad_store<E: Sink>(err: &mut E, role: RoleId, at: u64)
 
 /// Writes the line of a status, which is empty where all went well.
 pub fn write_line<E: Sink>(err: &mut E, status: &Status)
-    ensures { SaysText (E.taken err.old) (E.taken err.new) (E.faults err.old) (E.faults err.new) (line_of status.now) }
+    ensures { SaysText (E.taken err.old) (E.taken err.new) (E.faults err.old) (E.faults err.new)
+        (line_of status.now) }
 {
     match status {
         Status::Done => write(err, b""),

@@ -84,8 +84,10 @@ pub fn top<S: Source, W: Sink, E: Sink, L: Link, D: Depot>(
         (outside S.Source L.Link D.Depot W.Sink input.old link.old depot.old out.old)
         (outside S.Source L.Link D.Depot W.Sink input.new link.new depot.new out.new) result }
     ensures given_back { D.out depot.new ≡ [] }
-    ensures lawful { IsLawfulAnswer (said (map string_bytes words.now)) (S.left input.old) (S.left input.new) }
-    ensures line { SaysText (E.taken err.old) (E.taken err.new) (E.faults err.old) (E.faults err.new) (line_of result) }
+    ensures lawful { IsLawfulAnswer (said (map string_bytes words.now)) (S.left input.old)
+        (S.left input.new) }
+    ensures line { SaysText (E.taken err.old) (E.taken err.new) (E.faults err.old)
+        (E.faults err.new) (line_of result) }
 {
     let status = answer(alloc, words, input, out, link, depot);
     write_line(err, &status);

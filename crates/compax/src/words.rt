@@ -194,7 +194,8 @@ fn recording_given(matches: &ArgMatches) -> bool
 }
 
 fn roles_given(alloc: Global, matches: &ArgMatches) -> Result<Option<NamedRoles>, AllocError>
-    ensures { IfOk result (λ roles. roles ≡ roles_at (codes "ROLE") (rows_of (found_of matches.now))) }
+    ensures { IfOk result
+        (λ roles. roles ≡ roles_at (codes "ROLE") (rows_of (found_of matches.now))) }
 {
     match matches.get_raw("ROLE") {
         Some(words) => NamedRoles::named(alloc, words),
@@ -224,7 +225,8 @@ fn hosted(alloc: Global, matches: &ArgMatches) -> Result<Option<Invocation>, All
 
 // What a subcommand asks for by its values.
 fn asked_by(alloc: Global, name: &str, given: &ArgMatches) -> Result<Option<Invocation>, AllocError>
-    ensures { IfOk result (λ invocation. invocation ≡ asked_by (name.now, rows_of (found_of given.now))) }
+    ensures { IfOk result
+        (λ invocation. invocation ≡ asked_by (name.now, rows_of (found_of given.now))) }
 {
     if name == "replay" {
         Ok(Some(Invocation::Replay))
@@ -269,30 +271,36 @@ pub fn said(alloc: Global, words: &[String]) -> Result<Option<Invocation>, Alloc
 #[tactic(auto, using(crate::proofs::Spoken::replay_said, crate::proofs::Spoken::least_said, crate::proofs::Spoken::most_said, crate::proofs::Spoken::seed_above, crate::proofs::Spoken::count_above, crate::proofs::Spoken::nothing_said, crate::proofs::Spoken::help_said, crate::proofs::Spoken::node_said, crate::proofs::Spoken::turns_said, crate::proofs::Spoken::no_turn_said, crate::proofs::Spoken::tend_said, crate::proofs::Spoken::most_tend_said, crate::proofs::Spoken::tend_below, crate::proofs::Spoken::tend_above, crate::proofs::Spoken::tend_twice, crate::proofs::Spoken::window_said, crate::proofs::Spoken::no_window_said, crate::proofs::Spoken::window_above, crate::proofs::Spoken::record_said, crate::proofs::Spoken::all_said, crate::proofs::Spoken::record_behind, crate::proofs::Spoken::record_twice, crate::proofs::Spoken::record_valued, crate::proofs::Spoken::no_role_said, crate::proofs::Spoken::twice_said, crate::proofs::Spoken::misspelt_said))]
 pub fn said_of_words_written_out()
     ensures replay { (program : List ℕ) → said (program ∷ codes "replay" ∷ []) ≡ Some Replay }
-    ensures least { (program : List ℕ) → said (program ∷ codes "gen" ∷ codes "0" ∷ codes "0" ∷ []) ≡ Some (Gen 0 0) }
+    ensures least { (program : List ℕ)
+        → said (program ∷ codes "gen" ∷ codes "0" ∷ codes "0" ∷ []) ≡ Some (Gen 0 0) }
     ensures most { (program : List ℕ)
         → said (program ∷ codes "gen" ∷ codes "18446744073709551615" ∷ codes "65535" ∷ [])
         ≡ Some (Gen 18446744073709551615 65535) }
     ensures seed_above { (program : List ℕ)
         → said (program ∷ codes "gen" ∷ codes "18446744073709551616" ∷ codes "0" ∷ []) ≡ None }
-    ensures count_above { (program : List ℕ) → said (program ∷ codes "gen" ∷ codes "0" ∷ codes "65536" ∷ []) ≡ None }
+    ensures count_above { (program : List ℕ)
+        → said (program ∷ codes "gen" ∷ codes "0" ∷ codes "65536" ∷ []) ≡ None }
     ensures nothing { (program : List ℕ) → said (program ∷ []) ≡ None }
     ensures help { (program : List ℕ) → said (program ∷ codes "--help" ∷ []) ≡ None }
     ensures node { (program : List ℕ) → said (program ∷ codes "node" ∷ codes "client:0" ∷ [])
         ≡ Some (Host 1000000 None 1 false (role Client 0 ∷ [])) }
     ensures turns { (program : List ℕ)
         → said (program ∷ codes "node" ∷ codes "--turns" ∷ codes "75" ∷ codes "client:0"
-        ∷ codes "batcher:0" ∷ []) ≡ Some (Host 75 None 1 false (role Client 0 ∷ role Batcher 0 ∷ [])) }
+        ∷ codes "batcher:0" ∷ [])
+        ≡ Some (Host 75 None 1 false (role Client 0 ∷ role Batcher 0 ∷ [])) }
     ensures no_turn { (program : List ℕ)
-        → said (program ∷ codes "node" ∷ codes "--turns" ∷ codes "0" ∷ codes "client:0" ∷ []) ≡ None }
+        → said (program ∷ codes "node" ∷ codes "--turns" ∷ codes "0" ∷ codes "client:0" ∷ [])
+        ≡ None }
     ensures tend { (program : List ℕ)
         → said (program ∷ codes "node" ∷ codes "--tend" ∷ codes "64" ∷ codes "client:0" ∷ [])
         ≡ Some (Host 1000000 (Some 64) 1 false (role Client 0 ∷ [])) }
     ensures most_tend { (program : List ℕ)
-        → said (program ∷ codes "node" ∷ codes "--tend" ∷ codes "65536" ∷ codes "--turns" ∷ codes "75"
+        → said (program ∷ codes "node" ∷ codes "--tend" ∷ codes "65536" ∷ codes "--turns"
+        ∷ codes "75"
         ∷ codes "client:0" ∷ []) ≡ Some (Host 75 (Some 65536) 1 false (role Client 0 ∷ [])) }
     ensures tend_below { (program : List ℕ)
-        → said (program ∷ codes "node" ∷ codes "--tend" ∷ codes "63" ∷ codes "client:0" ∷ []) ≡ None }
+        → said (program ∷ codes "node" ∷ codes "--tend" ∷ codes "63" ∷ codes "client:0" ∷ [])
+        ≡ None }
     ensures tend_above { (program : List ℕ)
         → said (program ∷ codes "node" ∷ codes "--tend" ∷ codes "65537" ∷ codes "client:0"
         ∷ []) ≡ None }
@@ -303,25 +311,29 @@ pub fn said_of_words_written_out()
         → said (program ∷ codes "node" ∷ codes "--window" ∷ codes "64" ∷ codes "client:0" ∷ [])
         ≡ Some (Host 1000000 None 64 false (role Client 0 ∷ [])) }
     ensures no_window { (program : List ℕ)
-        → said (program ∷ codes "node" ∷ codes "--window" ∷ codes "0" ∷ codes "client:0" ∷ []) ≡ None }
+        → said (program ∷ codes "node" ∷ codes "--window" ∷ codes "0" ∷ codes "client:0" ∷ [])
+        ≡ None }
     ensures window_above { (program : List ℕ)
-        → said (program ∷ codes "node" ∷ codes "--window" ∷ codes "65" ∷ codes "leader:0" ∷ []) ≡ None }
+        → said (program ∷ codes "node" ∷ codes "--window" ∷ codes "65" ∷ codes "leader:0" ∷ [])
+        ≡ None }
     ensures record { (program : List ℕ)
         → said (program ∷ codes "node" ∷ codes "--record" ∷ codes "client:0" ∷ [])
         ≡ Some (Host 1000000 None 1 true (role Client 0 ∷ [])) }
     ensures all { (program : List ℕ)
-        → said (program ∷ codes "node" ∷ codes "--tend" ∷ codes "64" ∷ codes "--window" ∷ codes "4" ∷ codes "--turns"
-        ∷ codes "75" ∷ codes "--record" ∷ codes "client:0" ∷ [])
+        → said (program ∷ codes "node" ∷ codes "--tend" ∷ codes "64" ∷ codes "--window" ∷ codes "4"
+        ∷ codes "--turns" ∷ codes "75" ∷ codes "--record" ∷ codes "client:0" ∷ [])
         ≡ Some (Host 75 (Some 64) 4 true (role Client 0 ∷ [])) }
     ensures record_behind { (program : List ℕ)
         → said (program ∷ codes "node" ∷ codes "client:0" ∷ codes "--record" ∷ codes "batcher:0"
         ∷ []) ≡ Some (Host 1000000 None 1 true (role Client 0 ∷ role Batcher 0 ∷ [])) }
     ensures record_twice { (program : List ℕ)
-        → said (program ∷ codes "node" ∷ codes "--record" ∷ codes "--record" ∷ codes "client:0" ∷ []) ≡ None }
+        → said (program ∷ codes "node" ∷ codes "--record" ∷ codes "--record" ∷ codes "client:0"
+        ∷ []) ≡ None }
     ensures record_valued { (program : List ℕ)
         → said (program ∷ codes "node" ∷ codes "--record=true" ∷ codes "client:0" ∷ []) ≡ None }
     ensures no_role { (program : List ℕ) → said (program ∷ codes "node" ∷ []) ≡ None }
     ensures twice { (program : List ℕ)
         → said (program ∷ codes "node" ∷ codes "client:0" ∷ codes "client:0" ∷ []) ≡ None }
-    ensures misspelt { (program : List ℕ) → said (program ∷ codes "node" ∷ codes "claent:0" ∷ []) ≡ None }
+    ensures misspelt { (program : List ℕ)
+        → said (program ∷ codes "node" ∷ codes "claent:0" ∷ []) ≡ None }
 {}

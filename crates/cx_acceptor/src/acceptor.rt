@@ -40,7 +40,8 @@ impl Model for Acceptor {
     } };
 
     ghost invariant = { λ a.
-        IsSound a.me (record { promise = a.promise; cw = a.cw; votes = a.votes.items; top = a.top }) };
+        IsSound a.me
+        (record { promise = a.promise; cw = a.cw; votes = a.votes.items; top = a.top }) };
 }
 
 impl Role for Acceptor {

@@ -57,8 +57,8 @@ impl Acceptor {
         requires sender { from ≡ role Kind.Reader from.index }
         requires asking { IsTrue (field.asking.fits asking) }
         requires watermark { IsTrue (field.round0.fits watermark) }
-        ensures { IsReply acceptor_rules self.now (pre_read_row self.now.me self.now.durable from asking watermark)
-            result self.now out.new.list }
+        ensures { IsReply acceptor_rules self.now (pre_read_row self.now.me self.now.durable from
+            asking watermark) result self.now out.new.list }
     {
         let mark = self.cw.max(self.top);
         out.room(1)?;

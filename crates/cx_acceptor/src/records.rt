@@ -49,7 +49,8 @@ impl Acceptor {
     pub(crate) fn remember(&mut self, what: &Record) -> Result<(), NoMemory>
         requires ranges { IsTrue (record_fits what.now) }
         requires own { acceptor_fits self.old.cluster self.old.me self.old.durable what.now ≡ true }
-        ensures ok { OnOk result (self.new ≡ record self.old { durable = acceptor_after self.old.durable what.now }) }
+        ensures ok { OnOk result
+            (self.new ≡ record self.old { durable = acceptor_after self.old.durable what.now }) }
         ensures err { OnErr result (self.new ≡ self.old) }
     {
         match what {
@@ -88,7 +89,9 @@ impl Acceptor {
     pub(crate) fn raise(&mut self, round: Round, mark: u64)
         requires round { IsTrue (field.round.fits round) }
         requires mark { IsTrue (field.mark.fits mark) }
-        ensures { self.new ≡ record self.old { durable = acceptor_after self.old.durable (kept.Water round mark) } }
+        ensures { self.new ≡ record self.old {
+          durable = acceptor_after self.old.durable (kept.Water round mark);
+        } }
     {
         self.promise = round;
         self.cw = self.cw.max(mark);

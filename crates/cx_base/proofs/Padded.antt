@@ -49,8 +49,15 @@ grid_padded s front same grid =
     let count : length s.members ≡ n = grid.count in
     let len : length front ≡ n = ap length same ∙ count in
     let tail : List ℕ = drop (length s.members) (replicate 16 0) in
-    let tail-is : tail ≡ replicate (16 - n) 0 = drop-replicate {X = ℕ} (length s.members) 16 0 ∙ ap (λ (k : ℕ). replicate {A = ℕ} (16 - k) 0) count in (
-      omega (arith, length-append front tail, length-drop {A = ℕ} (length s.members) (replicate 16 0), length-replicate {A = ℕ} 16 0, grid.room),
+    let tail-is : tail ≡ replicate (16 - n) 0 =
+    drop-replicate {X = ℕ} (length s.members) 16 0 ∙ ap (λ (k : ℕ). replicate {A = ℕ} (16 - k) 0) count in (
+      omega (
+        arith,
+        length-append front tail,
+        length-drop {A = ℕ} (length s.members) (replicate 16 0),
+        length-replicate {A = ℕ} 16 0,
+        grid.room,
+      ),
       drop_at front tail n len ∙ tail-is,
       subst (λ (ms : List ℕ). IsGrid (record { rows = s.rows; cols = s.cols; members = ms })) (sym (take_at front tail n len ∙ same)) grid,
     )

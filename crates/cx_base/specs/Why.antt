@@ -1,7 +1,13 @@
 -- The words for the result of a step.
 use Rattle.std.specs.Prelude.{ℕ, List, codes}
 use Rattle.cx_base.specs.declared.why.Why.{Why}
-use Rattle.cx_base.specs.declared.why.Why.TheVariants.{Absent, Accepted, Again, Answered, Applied, Asked, Asking, Batched, Booted, Bypassed, Chosen, Collected, Collecting, Counted, Crashed, Decided, Deferred, Done, Down, Early, End, Fetched, Full, Halted, Heard, Held, Idle, Informed, Informing, Kept, Later, Leads, Learnt, Matched, Nack, Nacked, New, Old, Opened, Past, Phase1, Promised, Proposed, Queued, Raised, Replaced, Resent, Retired, Same, Sent, Snapped, Stale, Started, Stopped, Stranger, Torn, Unasked, Unbatched, Up, Voted, Waiting, Window}
+use Rattle.cx_base.specs.declared.why.Why.TheVariants.{Absent, Accepted, Again, Answered, Applied, Asked, Asking, Batched, Booted, Bypassed}
+use Rattle.cx_base.specs.declared.why.Why.TheVariants.{Chosen, Collected, Collecting, Counted, Crashed, Decided, Deferred, Done, Down}
+use Rattle.cx_base.specs.declared.why.Why.TheVariants.{Early, End, Fetched, Full, Halted, Heard, Held, Idle, Informed, Informing, Kept}
+use Rattle.cx_base.specs.declared.why.Why.TheVariants.{Later, Leads, Learnt, Matched, Nack, Nacked, New, Old, Opened, Past, Phase1}
+use Rattle.cx_base.specs.declared.why.Why.TheVariants.{Promised, Proposed, Queued, Raised, Replaced, Resent, Retired, Same, Sent, Snapped}
+use Rattle.cx_base.specs.declared.why.Why.TheVariants.{Stale, Started, Stopped, Stranger, Torn, Unasked, Unbatched, Up, Voted, Waiting}
+use Rattle.cx_base.specs.declared.why.Why.TheVariants.{Window}
 
 abbrev pub why_text : Why → List ℕ
 why_text Absent = codes "absent"

@@ -58,7 +58,8 @@ impl Batcher {
 
     // A leader announces that it leads.
     fn told(&mut self, round: Round) -> Why
-        ensures { Replies batcher_rules self.old (leads_row self.old.volatile round) result self.new [] }
+        ensures { Replies batcher_rules self.old (leads_row self.old.volatile round) result
+            self.new [] }
     {
         if !self.round.is_before(&round) {
             return Why::Old;

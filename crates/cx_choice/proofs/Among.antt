@@ -28,22 +28,23 @@ and_no true = refl
 and_no false = refl
 
 -- a vote in another slot adds none
-pub elsewhere : (values : List (Bor Value)) (rounds : List (OfRound Shape)) (votes : List KeptRecord) (s : ℕ) (j : Round) (t : ℕ) (u v : Value) → (t == s) ≡ false
-    → is_value_among values v ≡ (is_value_among values v || is_whole_vote_in rounds votes s v j t u)
+pub elsewhere : (values : List (Bor Value)) (rounds : List (OfRound Shape)) (votes : List KeptRecord) (s : ℕ) (j : Round) (t : ℕ)
+    (u v : Value) → (t == s) ≡ false → is_value_among values v ≡ (is_value_among values v || is_whole_vote_in rounds votes s v j t u)
 elsewhere values rounds votes s j t u v e = rw e (sym (or_no (is_value_among values v)))
 
 -- nor does one for a value that is among the others
-pub among : (values : List (Bor Value)) (rounds : List (OfRound Shape)) (votes : List KeptRecord) (s : ℕ) (j : Round) (t : ℕ) (u v : Value) → is_value_among values u ≡ true
-    → is_value_among values v ≡ (is_value_among values v || is_whole_vote_in rounds votes s v j t u)
+pub among : (values : List (Bor Value)) (rounds : List (OfRound Shape)) (votes : List KeptRecord) (s : ℕ) (j : Round) (t : ℕ) (u v : Value)
+    → is_value_among values u ≡ true → is_value_among values v ≡ (is_value_among values v || is_whole_vote_in rounds votes s v j t u)
 among values rounds votes s j t u v e =
     elim (cases_Bool (same_value u v)) [
       | inr other ↦ rw (other, and_no (t == s)) (sym (or_no (is_value_among values v)))
-      | inl same ↦ let there : is_value_among values v ≡ true = ap (is_value_among values) (sym (same_value-true u v same)) ∙ e in rw there refl
+      | inl same ↦
+          let there : is_value_among values v ≡ true = ap (is_value_among values) (sym (same_value-true u v same)) ∙ e in rw there refl
     ]
 
 -- nor does one whose round has too few votes for it
-pub few : (values : List (Bor Value)) (rounds : List (OfRound Shape)) (votes : List KeptRecord) (s : ℕ) (j : Round) (t : ℕ) (u v : Value) → is_enough rounds votes s j u ≡ false
-    → is_value_among values v ≡ (is_value_among values v || is_whole_vote_in rounds votes s v j t u)
+pub few : (values : List (Bor Value)) (rounds : List (OfRound Shape)) (votes : List KeptRecord) (s : ℕ) (j : Round) (t : ℕ) (u v : Value)
+    → is_enough rounds votes s j u ≡ false → is_value_among values v ≡ (is_value_among values v || is_whole_vote_in rounds votes s v j t u)
 few values rounds votes s j t u v e =
     elim (cases_Bool (same_value u v)) [
       | inr other ↦ rw (other, and_no (t == s)) (sym (or_no (is_value_among values v)))
@@ -53,26 +54,32 @@ few values rounds votes s j t u v e =
     ]
 
 -- one whose round has enough is added
-pub more : (values new : List (Bor Value)) (rounds : List (OfRound Shape)) (votes : List KeptRecord) (s : ℕ) (j : Round) (t : ℕ) (one : Bor Value) (v : Value) → new ≡ values ++ one ∷ []
-    → (t == s) ≡ true → is_enough rounds votes s j one.now ≡ true → is_value_among new v ≡ (is_value_among values v || is_whole_vote_in rounds votes s v j t one.now)
+pub more : (values new : List (Bor Value)) (rounds : List (OfRound Shape)) (votes : List KeptRecord) (s : ℕ) (j : Round) (t : ℕ)
+    (one : Bor Value) (v : Value) → new ≡ values ++ one ∷ []
+    → (t == s) ≡ true → is_enough rounds votes s j one.now ≡ true
+    → is_value_among new v ≡ (is_value_among values v || is_whole_vote_in rounds votes s v j t one.now)
 more values new rounds votes s j t one v is here enough =
-    let parts : is_value_among new v ≡ (is_value_among values v || (same_value one.now v || false)) = ap (λ l. is_value_among l v) is ∙ list_any-append (λ (u : Bor Value). same_value u.now v) values (one ∷ []) in
+    let parts : is_value_among new v ≡ (is_value_among values v || (same_value one.now v || false)) =
+    ap (λ l. is_value_among l v) is ∙ list_any-append (λ (u : Bor Value). same_value u.now v) values (one ∷ []) in
     elim (cases_Bool (same_value one.now v)) [
       | inl same ↦
-          let enough_v : is_enough rounds votes s j v ≡ true = ap (is_enough rounds votes s j) (sym (same_value-true one.now v same)) ∙ enough in
+          let enough_v : is_enough rounds votes s j v ≡ true =
+          ap (is_enough rounds votes s j) (sym (same_value-true one.now v same)) ∙ enough in
           parts ∙ (rw (here, same, enough_v) refl)
       | inr other ↦ parts ∙ (rw (here, other) refl)
     ]
 
 -- the values of the whole votes are the chosen ones
-pub all_told : (values : List (Bor Value)) (rounds : List (OfRound Shape)) (votes : List KeptRecord) (casts : List (OfRound (Bor KeptRecord))) (s : ℕ) (v : Value) → AreCast votes casts
+pub all_told : (values : List (Bor Value)) (rounds : List (OfRound Shape)) (votes : List KeptRecord)
+    (casts : List (OfRound (Bor KeptRecord))) (s : ℕ) (v : Value) → AreCast votes casts
     → is_value_among values v ≡ list_any (λ (k : KeptRecord). is_whole_vote rounds (casts_in casts) s v k.what) votes
     → is_value_among values v ≡ is_chosen_among rounds votes s v
 all_told values rounds votes casts s v are told =
     told ∙ (λ i. list_any (λ (k : KeptRecord). same_whole k.what i) votes) ∙ sym (chosen_by_whole rounds votes s v) where
       same_whole : (what : Written) → is_whole_vote rounds (casts_in casts) s v what ≡ is_whole_vote rounds votes s v what
       same_whole (written.Record (kept.Promise i)) = refl
-      same_whole (written.Record (kept.Vote j t cw u)) = ap (λ b. (t == s) && same_value u v && b) (same_among (of_round j rounds) votes casts s v are)
+      same_whole (written.Record (kept.Vote j t cw u)) =
+          ap (λ b. (t == s) && same_value u v && b) (same_among (of_round j rounds) votes casts s v are)
       same_whole (written.Record (kept.Water i mark)) = refl
       same_whole (written.Record (kept.Match i g)) = refl
       same_whole (written.Record (kept.Garbage i g)) = refl
@@ -90,9 +97,12 @@ all_told values rounds votes casts s v are told =
       same_whole (written.Snap first) = refl
 
 -- so they are when all votes were looked at
-pub finished : (values : List (Bor Value)) (rounds : List (OfRound Shape)) (votes rest : List KeptRecord) (casts : List (OfRound (Bor KeptRecord))) (s : ℕ) (v : Value) → AreCast votes casts
-    → rest ≡ [] → (is_value_among values v || list_any (λ (k : KeptRecord). is_whole_vote rounds (casts_in casts) s v k.what) rest) ≡ list_any (λ (k : KeptRecord). is_whole_vote rounds (casts_in casts) s v k.what) votes
+pub finished : (values : List (Bor Value)) (rounds : List (OfRound Shape)) (votes rest : List KeptRecord)
+    (casts : List (OfRound (Bor KeptRecord))) (s : ℕ) (v : Value) → AreCast votes casts
+    → rest ≡ [] → (is_value_among values v || list_any (λ (k : KeptRecord). is_whole_vote rounds (casts_in casts) s v k.what) rest)
+    ≡ list_any (λ (k : KeptRecord). is_whole_vote rounds (casts_in casts) s v k.what) votes
     → is_value_among values v ≡ is_chosen_among rounds votes s v
 finished values rounds votes rest casts s v are none told =
-    let all : (is_value_among values v || false) ≡ list_any (λ (k : KeptRecord). is_whole_vote rounds (casts_in casts) s v k.what) votes = rw none at told in
+    let all : (is_value_among values v || false) ≡ list_any (λ (k : KeptRecord). is_whole_vote rounds (casts_in casts) s v k.what) votes =
+    rw none at told in
     all_told values rounds votes casts s v are (sym (or_no (is_value_among values v)) ∙ all)

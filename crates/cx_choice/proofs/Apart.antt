@@ -57,7 +57,8 @@ elsewhere_is_no_vote j s v (written.Record (kept.Boot set watermark entries)) e 
 elsewhere_is_no_vote j s v (written.Record (kept.Turn turn)) e = refl
 elsewhere_is_no_vote j s v (written.Snap first) e = refl
 
-same_votes : (history : List KeptRecord) (a : ℕ) (j : Round) (s : ℕ) (v : Value) → has_vote (votes_of s history) a j s v ≡ has_vote history a j s v
+same_votes : (history : List KeptRecord) (a : ℕ) (j : Round) (s : ℕ) (v : Value)
+    → has_vote (votes_of s history) a j s v ≡ has_vote history a j s v
 same_votes history a j s v =
     kept_any (λ (k : KeptRecord). same_role k.role (role Acceptor a) && is_vote j s v k.what) (λ (k : KeptRecord). is_vote_in s k.what)
     (λ k e. rw (elsewhere_is_no_vote j s v k.what e) (and_no (same_role k.role (role Acceptor a)))) history
@@ -84,7 +85,8 @@ by_record history s v (written.Record (kept.Boot set watermark entries)) = refl
 by_record history s v (written.Record (kept.Turn turn)) = refl
 by_record history s v (written.Snap first) = refl
 
-by_records : (history ks : List KeptRecord) (s : ℕ) (v : Value) → is_chosen_among (rounds_of ks) (votes_of s history) s v ≡ list_any (λ (k : KeptRecord). is_chosen_by history s v k.what) ks
+by_records : (history ks : List KeptRecord) (s : ℕ) (v : Value)
+    → is_chosen_among (rounds_of ks) (votes_of s history) s v ≡ list_any (λ (k : KeptRecord). is_chosen_by history s v k.what) ks
 by_records history [] s v = refl
 by_records history (k ∷ ks) s v =
     list_any-append (λ (b : OfRound Shape). is_chosen_in (votes_of s history) b.round b.item s v) (begun_by k.what) (rounds_of ks)
@@ -93,7 +95,8 @@ by_records history (k ∷ ks) s v =
 same_chosen : (history : List KeptRecord) (rounds : List (OfRound Shape)) (s : ℕ) (v : Value) → AreRounds history rounds
     → is_chosen_among rounds (votes_of s history) s v ≡ is_chosen history s v
 same_chosen history rounds s v are =
-    sym (list_any-IsPermutation (λ (b : OfRound Shape). is_chosen_in (votes_of s history) b.round b.item s v) (rounds_of history) rounds are.all) ∙ by_records history history s v
+    sym (list_any-IsPermutation (λ (b : OfRound Shape). is_chosen_in (votes_of s history) b.round b.item s v) (rounds_of history) rounds
+    are.all) ∙ by_records history history s v
 
 -- a vote is for a value chosen by them exactly where it is for one that is chosen
 pub same_selects : (history : List KeptRecord) (rounds : List (OfRound Shape)) (s : ℕ) (what : Written) → AreRounds history rounds
@@ -116,7 +119,8 @@ same_selects history rounds s (written.Record (kept.Boot set watermark entries))
 same_selects history rounds s (written.Record (kept.Turn turn)) are = refl
 same_selects history rounds s (written.Snap first) are = refl
 
-no_vote_elsewhere : (history : List KeptRecord) (s : ℕ) (r : Written) (later : Option Value) → is_vote_in s r ≡ false → chosen_vote history s r later ≡ later
+no_vote_elsewhere : (history : List KeptRecord) (s : ℕ) (r : Written) (later : Option Value) → is_vote_in s r ≡ false
+    → chosen_vote history s r later ≡ later
 no_vote_elsewhere history s (written.Record (kept.Promise i)) later e = refl
 no_vote_elsewhere history s (written.Record (kept.Vote i t cw u)) later e = rw e refl
 no_vote_elsewhere history s (written.Record (kept.Water i mark)) later e = refl
@@ -135,7 +139,8 @@ no_vote_elsewhere history s (written.Record (kept.Boot set watermark entries)) l
 no_vote_elsewhere history s (written.Record (kept.Turn turn)) later e = refl
 no_vote_elsewhere history s (written.Snap first) later e = refl
 
-first_of_votes : (history : List KeptRecord) (s : ℕ) (ks : List KeptRecord) → first_chosen history s (votes_of s ks) ≡ first_chosen history s ks
+first_of_votes : (history : List KeptRecord) (s : ℕ) (ks : List KeptRecord)
+    → first_chosen history s (votes_of s ks) ≡ first_chosen history s ks
 first_of_votes history s [] = refl
 first_of_votes history s (k ∷ ks) =
     elim (cases_Bool (is_vote_in s k.what)) [

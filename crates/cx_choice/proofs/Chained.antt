@@ -1,5 +1,6 @@
 -- The chain of a slot's votes, from one of them on.
-use Rattle.std.proofs.Common.{◌≡◌, ◌<◌, ◌≤◌, ◌+◌, ◌==◌, ℕ, zero, suc, true, false, List, [], ◌∷◌, ◌++◌, Some, drop, get_or, length, map, slice_get, ap, subst, sym, refl, inl, inr, ◌∙◌, append_assoc, arith}
+use Rattle.std.proofs.Common.{◌≡◌, ◌<◌, ◌≤◌, ◌+◌, ◌==◌, ℕ, zero, suc, true, false, List, [], ◌∷◌, ◌++◌, Some, drop, get_or, length, map}
+use Rattle.std.proofs.Common.{slice_get, ap, subst, sym, refl, inl, inr, ◌∙◌, append_assoc, arith}
 use Rattle.std.proofs.lemmas.Bool.{cases_Bool}
 use Rattle.std.proofs.lemmas.Bool.Decides.{nat_tests}
 use Rattle.std.proofs.lemmas.Grind.{get_or_default_zero}
@@ -64,47 +65,61 @@ within_kept (x ∷ history) (suc n) k e = let rest = within_kept history n k e i
 
 -- the vote that a link leads to was kept
 pub leads_within : (s here number : ℕ) (history : List KeptRecord) → here ≡ suc number → IsVote s here history → number < length history
-leads_within s here number history e vote = let there : IsVote s (suc number) history = subst (λ h. IsVote s h history) e vote in within_kept history number there.0 there.1
+leads_within s here number history e vote =
+    let there : IsVote s (suc number) history = subst (λ h. IsVote s h history) e vote in within_kept history number there.0 there.1
 
 -- what a link leads to, and where the chain goes on
 pub record Leads (s here next : ℕ) (history : List KeptRecord) (one : KeptRecord) : Type 0 where
   pub votes : votes_on s here history ≡ one ∷ votes_on s next history
   pub goes_on : IsVote s next history
 
-pub one_on : (votes : VoteChains) (history : List KeptRecord) (s here number next : ℕ) (one : KeptRecord) → HaveVotes votes history 0 → s < length history → here ≡ suc number
-    → IsVote s here history → slice_get history number ≡ Some one → next ≡ get_or votes.next.items number next → Leads s here next history one
+pub one_on : (votes : VoteChains) (history : List KeptRecord) (s here number next : ℕ) (one : KeptRecord) → HaveVotes votes history 0
+    → s < length history → here ≡ suc number
+    → IsVote s here history → slice_get history number ≡ Some one → next ≡ get_or votes.next.items number next
+    → Leads s here next history one
 one_on votes history s here number next one have within e vote at is =
     let there : IsVote s (suc number) history = subst (λ h. IsVote s h history) e vote in
     let known : Some there.0 ≡ Some one = sym there.1 ∙ at in
     let same : there.0 ≡ one = cc in
     let taken : is_vote_in s one.what ≡ true = rw (← same) there.2 in
     let stands : number < length votes.next.items = rw have.count (within_kept history number one at) in
-    let link : next ≡ vote_from s (number + 1) history = is ∙ get_or_default_zero votes.next.items number next stands ∙ have.next s number one within (omega arith) at taken in
-    let begins : votes_on s (suc number) history ≡ one ∷ votes_of s (drop (number + 1) history) = rw (next_kept history number one at, taken) refl in
+    let link : next ≡ vote_from s (number + 1) history =
+    is ∙ get_or_default_zero votes.next.items number next stands ∙ have.next s number one within (omega arith) at taken in
+    let begins : votes_on s (suc number) history ≡ one ∷ votes_of s (drop (number + 1) history) =
+    rw (next_kept history number one at, taken) refl in
     record {
       votes = rw (e, link) (begins ∙ ap (λ l. one ∷ l) (sym (votes_on_from s (number + 1) history)));
       goes_on = rw link (leads_from s (number + 1) history);
     }
 
 -- one vote more is read
-pub more_found : (found new : List KeptRecord) (history : List KeptRecord) (s here next : ℕ) (one : KeptRecord) → Leads s here next history one → new ≡ found ++ one ∷ []
+pub more_found : (found new : List KeptRecord) (history : List KeptRecord) (s here next : ℕ) (one : KeptRecord)
+    → Leads s here next history one → new ≡ found ++ one ∷ []
     → found ++ votes_on s here history ≡ votes_of s history → new ++ votes_on s next history ≡ votes_of s history
-more_found found new history s here next one leads more so_far =
-    ap (λ l. l ++ votes_on s next history) more ∙ append_assoc found (one ∷ []) (votes_on s next history) ∙ ap (λ l. found ++ l) (sym leads.votes) ∙ so_far
+more_found found new history s here next one leads more so_far = ap (λ l. l ++ votes_on s next history) more
+    ∙ append_assoc found (one ∷ []) (votes_on s next history) ∙ ap (λ l. found ++ l) (sym leads.votes) ∙ so_far
 
-pub fewer_on : (s here next : ℕ) (history : List KeptRecord) (one : KeptRecord) → Leads s here next history one → length (votes_on s next history) < length (votes_on s here history)
+pub fewer_on : (s here next : ℕ) (history : List KeptRecord) (one : KeptRecord) → Leads s here next history one
+    → length (votes_on s next history) < length (votes_on s here history)
 fewer_on s here next history one leads = rw leads.votes (omega arith)
 
 -- and its number
-pub more_numbers : (history found new : List KeptRecord) (numbers more : List ℕ) (number : ℕ) (one : KeptRecord) → slice_get history number ≡ Some one → new ≡ found ++ one ∷ []
+pub more_numbers : (history found new : List KeptRecord) (numbers more : List ℕ) (number : ℕ) (one : KeptRecord)
+    → slice_get history number ≡ Some one → new ≡ found ++ one ∷ []
     → more ≡ numbers ++ number ∷ [] → map (slice_get history) numbers ≡ map (λ (vote : KeptRecord). Some vote) found
     → map (slice_get history) more ≡ map (λ (vote : KeptRecord). Some vote) new
-more_numbers history found new numbers more number one at is are so_far =
-    rw (is, are, map-append (slice_get history) numbers (number ∷ []), map-append (λ (vote : KeptRecord). Some vote) found (one ∷ []), so_far, at) refl
+more_numbers history found new numbers more number one at is are so_far = rw (
+  is,
+  are,
+  map-append (slice_get history) numbers (number ∷ []),
+  map-append (λ (vote : KeptRecord). Some vote) found (one ∷ []),
+  so_far,
+  at,
+) refl
 
 -- one record more
-pub more_votes : (old new : VoteChains) (kept : List KeptRecord) (from number : ℕ) (k : KeptRecord) → from ≡ number + 1 → slice_get kept number ≡ Some k
-    → HaveVotes old kept from → Puts old new number k.what → HaveVotes new kept number
+pub more_votes : (old new : VoteChains) (kept : List KeptRecord) (from number : ℕ) (k : KeptRecord) → from ≡ number + 1
+    → slice_get kept number ≡ Some k → HaveVotes old kept from → Puts old new number k.what → HaveVotes new kept number
 more_votes old new kept from number k e at have puts =
     let begins = next_kept kept number k at in
     record {
@@ -121,7 +136,8 @@ more_votes old new kept from number k e at have puts =
                 let old_first : get_or old.first.items s 0 ≡ vote_from s (number + 1) kept = rw (← e) (have.first s within) in
                 rw is (puts.next s (rw have.count within) (rw is_one at vote) ∙ old_first)
             | inr other ↦
-                let differs : n ≡ number → ⊥ = λ is. absurd (let yes : (n == number) ≡ true = rw is (grind (arith, nat_tests)) in let wrong : true ≡ false = sym yes ∙ other in cc) in
+                let differs : n ≡ number → ⊥ = λ is. absurd (let yes : (n == number) ≡ true = rw is (grind (arith, nat_tests)) in
+                let wrong : true ≡ false = sym yes ∙ other in cc) in
                 let high : from ≤ n = grind (arith, nat_tests) in
                 puts.others n differs ∙ have.next s n one within high there vote
           ];

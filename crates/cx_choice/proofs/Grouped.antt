@@ -1,5 +1,6 @@
 -- In the order of their rounds, those of one round are together.
-use Rattle.std.proofs.Common.{◌≡◌, ◌<◌, ◌≤◌, ◌+◌, ◌-◌, ◌∷◌, [], ℕ, zero, suc, Bool, true, false, List, drop, filter, get_or, length, not, take, nat_lt, ap, refl, sym, inl, inr, ◌∙◌, arith}
+use Rattle.std.proofs.Common.{◌≡◌, ◌<◌, ◌≤◌, ◌+◌, ◌-◌, ◌∷◌, [], ℕ, zero, suc, Bool, true, false, List, drop, filter, get_or, length, not}
+use Rattle.std.proofs.Common.{take, nat_lt, ap, refl, sym, inl, inr, ◌∙◌, arith}
 use Rattle.std.proofs.lemmas.Bool.{cases_Bool}
 use Rattle.std.proofs.lemmas.Bool.Decides.{nat_tests}
 use Rattle.std.proofs.lemmas.List.Sorted.{sorted_far}
@@ -16,9 +17,11 @@ weak : {T : Type 0} → IsStrictWeakOrder (λ (a b : OfRound T). is_before a.rou
 weak {T} = record { one_way = λ a b h. one_way a.round b.round h; chain = λ a b c h k. chain a.round b.round c.round h k }
 
 -- what comes before one that is before a round is before it too
-pub begin_parted : {T : Type 0} (round : Round) (list : List (OfRound T)) → IsByRound list → IsPartitionedBy (λ (one : OfRound T). is_before one.round round) list
+pub begin_parted : {T : Type 0} (round : Round) (list : List (OfRound T)) → IsByRound list
+    → IsPartitionedBy (λ (one : OfRound T). is_before one.round round) list
 begin_parted {T} round list rises i j d ij there less =
-    let far : is_before (get_or list j d).round (get_or list i d).round ≡ false = sorted_far (λ (a b : OfRound T). is_before a.round b.round) weak list rises i j d ij there in
+    let far : is_before (get_or list j d).round (get_or list i d).round ≡ false =
+    sorted_far (λ (a b : OfRound T). is_before a.round b.round) weak list rises i j d ij there in
     elim (cases_Bool (is_before (get_or list i d).round round)) [
       | inl is_before_it ↦ is_before_it
       | inr none ↦ absurd (let wrong : true ≡ false = sym less ∙ chain (get_or list j d).round (get_or list i d).round round far none in cc)
@@ -28,10 +31,13 @@ not_true : (b : Bool) → not b ≡ true → b ≡ false
 not_true true e = cc
 not_true false e = refl
 
-pub end_parted : {T : Type 0} (round : Round) (list : List (OfRound T)) → IsByRound list → IsPartitionedBy (λ (one : OfRound T). not (is_before round one.round)) list
+pub end_parted : {T : Type 0} (round : Round) (list : List (OfRound T)) → IsByRound list
+    → IsPartitionedBy (λ (one : OfRound T). not (is_before round one.round)) list
 end_parted {T} round list rises i j d ij there no_less =
-    let far : is_before (get_or list j d).round (get_or list i d).round ≡ false = sorted_far (λ (a b : OfRound T). is_before a.round b.round) weak list rises i j d ij there in
-    let none : is_before round (get_or list i d).round ≡ false = chain round (get_or list j d).round (get_or list i d).round (not_true (is_before round (get_or list j d).round) no_less) far in
+    let far : is_before (get_or list j d).round (get_or list i d).round ≡ false =
+    sorted_far (λ (a b : OfRound T). is_before a.round b.round) weak list rises i j d ij there in
+    let none : is_before round (get_or list i d).round ≡ false =
+    chain round (get_or list j d).round (get_or list i d).round (not_true (is_before round (get_or list j d).round) no_less) far in
     rw none refl
 
 -- which elements pass a test: those from one place on, up to another
@@ -46,16 +52,20 @@ passing p [] (suc begin) zero before these behind = refl
 passing p [] (suc begin) (suc count) before these behind = refl
 passing p (x ∷ xs) zero zero before these behind =
     let none : p x ≡ false = behind 0 x (omega arith) (omega arith) in
-    rw none (passing p xs zero zero (λ k d h l. absurd (omega (arith, h))) (λ k d h l m. absurd (omega (arith, l))) (λ k d h l. behind (suc k) d (omega arith) (omega (arith, l))))
+    rw none (passing p xs zero zero (λ k d h l. absurd (omega (arith, h))) (λ k d h l m. absurd (omega (arith, l)))
+    (λ k d h l. behind (suc k) d (omega arith) (omega (arith, l))))
 passing p (x ∷ xs) zero (suc count) before these behind =
     let one : p x ≡ true = these 0 x (omega arith) (omega arith) (omega arith) in
-    rw one (ap (λ l. x ∷ l) (passing p xs zero count (λ k d h l. absurd (omega (arith, h))) (λ k d h l m. these (suc k) d (omega arith) (omega (arith, l)) (omega (arith, m))) (λ k d h l. behind (suc k) d (omega (arith, h)) (omega (arith, l)))))
+    rw one (ap (λ l. x ∷ l) (passing p xs zero count (λ k d h l. absurd (omega (arith, h))) (λ k d h l m. these (suc k) d (omega arith)
+    (omega (arith, l)) (omega (arith, m))) (λ k d h l. behind (suc k) d (omega (arith, h)) (omega (arith, l)))))
 passing p (x ∷ xs) (suc begin) count before these behind =
     let none : p x ≡ false = before 0 x (omega arith) (omega arith) in
-    rw none (passing p xs begin count (λ k d h l. before (suc k) d (omega (arith, h)) (omega (arith, l))) (λ k d h l m. these (suc k) d (omega (arith, h)) (omega (arith, l)) (omega (arith, m))) (λ k d h l. behind (suc k) d (omega (arith, h)) (omega (arith, l))))
+    rw none (passing p xs begin count (λ k d h l. before (suc k) d (omega (arith, h)) (omega (arith, l))) (λ k d h l m. these (suc k) d
+    (omega (arith, h)) (omega (arith, l)) (omega (arith, m))) (λ k d h l. behind (suc k) d (omega (arith, h)) (omega (arith, l))))
 
 -- none is both of an earlier round and of a later one
-pub begin_first : {T : Type 0} (round : Round) (list : List (OfRound T)) (begin end : ℕ) → IsBegin round list begin → IsEndOfRound round list end → begin ≤ end
+pub begin_first : {T : Type 0} (round : Round) (list : List (OfRound T)) (begin end : ℕ) → IsBegin round list begin
+    → IsEndOfRound round list end → begin ≤ end
 begin_first round [] begin end b e = omega (arith, b.inside)
 begin_first round (x ∷ list) begin end b e =
     elim (cases_Bool (nat_lt end begin)) [
@@ -67,8 +77,8 @@ begin_first round (x ∷ list) begin end b e =
       | inr more ↦ grind (arith, nat_tests)
     ]
 
-pub grouped : {T : Type 0} (round : Round) (list : List (OfRound T)) (begin end : ℕ) → IsBegin round list begin → IsEndOfRound round list end
-    → take (end - begin) (drop begin list) ≡ of_round round list
+pub grouped : {T : Type 0} (round : Round) (list : List (OfRound T)) (begin end : ℕ) → IsBegin round list begin
+    → IsEndOfRound round list end → take (end - begin) (drop begin list) ≡ of_round round list
 grouped {T} round list begin end b e =
     let first = begin_first round list begin end b e in
     passing (λ (one : OfRound T). same_round one.round round) list begin (end - begin)

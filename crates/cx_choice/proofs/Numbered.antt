@@ -17,8 +17,10 @@ next_kept xs n x e =
     next_of xs n x e ∙ ap (λ k. x ∷ drop k xs) more
 
 -- one record more
-pub rounds_next : (kept : List KeptRecord) (so_far new : List (OfRound Shape)) (n : ℕ) (one : KeptRecord) → slice_get kept n ≡ Some one → new ≡ so_far ++ begun_by one.what
+pub rounds_next : (kept : List KeptRecord) (so_far new : List (OfRound Shape)) (n : ℕ) (one : KeptRecord) → slice_get kept n ≡ Some one
+    → new ≡ so_far ++ begun_by one.what
     → so_far ++ rounds_of (drop n kept) ≡ rounds_of kept → new ++ rounds_of (drop (n + 1) kept) ≡ rounds_of kept
 rounds_next kept so_far new n one at more h =
     let rest = drop (n + 1) kept in
-    ap (λ l. l ++ rounds_of rest) more ∙ append_assoc so_far (begun_by one.what) (rounds_of rest) ∙ ap (λ l. so_far ++ rounds_of l) (sym (next_kept kept n one at)) ∙ h
+    ap (λ l. l ++ rounds_of rest) more ∙ append_assoc so_far (begun_by one.what) (rounds_of rest)
+    ∙ ap (λ l. so_far ++ rounds_of l) (sym (next_kept kept n one at)) ∙ h

@@ -23,5 +23,6 @@ pub behind_differs : (a b : Round) → is_before b a ≡ true → same_round a b
 behind_differs a b h = grind (arith, nat_tests)
 
 -- the order of a round's fields
-pub by_fields : (a b : Round) → is_lt (ordering_then (nat_cmp a.r b.r) (ordering_then (nat_cmp a.id b.id) (nat_cmp a.s b.s))) ≡ is_before a b
+pub by_fields : (a b : Round)
+    → is_lt (ordering_then (nat_cmp a.r b.r) (ordering_then (nat_cmp a.id b.id) (nat_cmp a.s b.s))) ≡ is_before a b
 by_fields a b = grind (arith, nat_tests)

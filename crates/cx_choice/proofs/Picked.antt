@@ -1,5 +1,6 @@
 -- Which of a slot's votes is the first for a value that is chosen there, and where its record is.
-use Rattle.std.proofs.Common.{◌≡◌, ◌<◌, ◌≤◌, ◌+◌, ℕ, zero, suc, Bool, true, false, List, [], ◌∷◌, Option, None, Some, length, map, get_or, slice_get, nat_lt, ap, sym, refl, inl, inr, ◌∙◌, arith}
+use Rattle.std.proofs.Common.{◌≡◌, ◌<◌, ◌≤◌, ◌+◌, ℕ, zero, suc, Bool, true, false, List, [], ◌∷◌, Option, None, Some, length, map, get_or}
+use Rattle.std.proofs.Common.{slice_get, nat_lt, ap, sym, refl, inl, inr, ◌∙◌, arith}
 use Rattle.std.proofs.lemmas.Bool.{cases_Bool}
 use Rattle.std.proofs.lemmas.Bool.Decides.{nat_tests}
 use Rattle.std.proofs.lemmas.List.{length-map}
@@ -37,7 +38,8 @@ choosing history s (written.Record (kept.Boot set watermark entries)) later e = 
 choosing history s (written.Record (kept.Turn turn)) later e = cc
 choosing history s (written.Snap first) later e = cc
 
-passing : (history : List KeptRecord) (s : ℕ) (what : Written) (later : Option Value) → chooses history s what ≡ false → chosen_vote history s what later ≡ later
+passing : (history : List KeptRecord) (s : ℕ) (what : Written) (later : Option Value) → chooses history s what ≡ false
+    → chosen_vote history s what later ≡ later
 passing history s (written.Record (kept.Promise i)) later e = refl
 passing history s (written.Record (kept.Vote j t cw v)) later e = rw e refl
 passing history s (written.Record (kept.Water i mark)) later e = refl
@@ -71,7 +73,8 @@ found history s (k ∷ ks) h =
           rw (left, next) (passing history s k.what (first_chosen history s ks) left ∙ rest.0, rest.1)
     ]
 
-none_found : (history : List KeptRecord) (s : ℕ) (ks : List KeptRecord) → length ks ≤ place_in history s ks → first_chosen history s ks ≡ None
+none_found : (history : List KeptRecord) (s : ℕ) (ks : List KeptRecord) → length ks ≤ place_in history s ks
+    → first_chosen history s ks ≡ None
 none_found history s [] h = refl
 none_found history s (k ∷ ks) h =
     elim (cases_Bool (chooses history s k.what)) [
@@ -98,35 +101,40 @@ a_place p ks n e =
       | inr more ↦ let wrong : None ≡ Some n = rw more at e in cc
     ]
 
-same_count : (kept votes : List KeptRecord) (numbers : List ℕ) → map (slice_get kept) numbers ≡ map (λ (vote : KeptRecord). Some vote) votes → length numbers ≡ length votes
-same_count kept votes numbers e =
-    sym (length-map numbers (slice_get kept)) ∙ ap (λ (l : List (Option KeptRecord)). length l) e ∙ length-map votes (λ (vote : KeptRecord). Some vote)
+same_count : (kept votes : List KeptRecord) (numbers : List ℕ) → map (slice_get kept) numbers ≡ map (λ (vote : KeptRecord). Some vote) votes
+    → length numbers ≡ length votes
+same_count kept votes numbers e = sym (length-map numbers (slice_get kept)) ∙ ap (λ (l : List (Option KeptRecord)). length l) e
+    ∙ length-map votes (λ (vote : KeptRecord). Some vote)
 
-at_number : (kept votes : List KeptRecord) (numbers : List ℕ) (n d : ℕ) → map (slice_get kept) numbers ≡ map (λ (vote : KeptRecord). Some vote) votes → n < length numbers
-    → slice_get votes n ≡ slice_get kept (get_or numbers n d)
+at_number : (kept votes : List KeptRecord) (numbers : List ℕ) (n d : ℕ) → map (slice_get kept) numbers
+    ≡ map (λ (vote : KeptRecord). Some vote) votes → n < length numbers → slice_get votes n ≡ slice_get kept (get_or numbers n d)
 at_number kept votes [] n d e h = absurd (omega arith)
 at_number kept [] (m ∷ numbers) n d e h = cc
 at_number kept (v ∷ votes) (m ∷ numbers) zero d e h = let same : slice_get kept m ≡ Some v = cc in sym same
 at_number kept (v ∷ votes) (m ∷ numbers) (suc n) d e h =
-    let rest : map (slice_get kept) numbers ≡ map (λ (vote : KeptRecord). Some vote) votes = cc in at_number kept votes numbers n d rest (omega arith)
+    let rest : map (slice_get kept) numbers ≡ map (λ (vote : KeptRecord). Some vote) votes = cc in at_number kept votes numbers n d rest
+    (omega arith)
 
 -- among a slot's votes those for a value chosen by them are those for a value that is chosen
-same_place : (history votes : List KeptRecord) (rounds : List (OfRound Shape)) (s : ℕ) (place : Option ℕ) → AreRounds history rounds → votes ≡ votes_of s history
-    → place ≡ position (λ (k : KeptRecord). selects rounds votes s k.what) votes → place ≡ position (λ (k : KeptRecord). chooses history s k.what) (votes_of s history)
+same_place : (history votes : List KeptRecord) (rounds : List (OfRound Shape)) (s : ℕ) (place : Option ℕ) → AreRounds history rounds
+    → votes ≡ votes_of s history
+    → place ≡ position (λ (k : KeptRecord). selects rounds votes s k.what) votes
+    → place ≡ position (λ (k : KeptRecord). chooses history s k.what) (votes_of s history)
 same_place history votes rounds s place are have e =
     let here : place ≡ position (λ (k : KeptRecord). selects rounds (votes_of s history) s k.what) (votes_of s history) = rw have at e in
     here ∙ (λ i. position (λ (k : KeptRecord). same_selects history rounds s k.what are i) (votes_of s history))
 
 -- no vote in a slot is for a value chosen there
-pub none_chosen : (history votes : List KeptRecord) (rounds : List (OfRound Shape)) (s : ℕ) → AreRounds history rounds → votes ≡ votes_of s history
-    → None ≡ position (λ (k : KeptRecord). selects rounds votes s k.what) votes → chosen_at history s ≡ None
+pub none_chosen : (history votes : List KeptRecord) (rounds : List (OfRound Shape)) (s : ℕ) → AreRounds history rounds
+    → votes ≡ votes_of s history → None ≡ position (λ (k : KeptRecord). selects rounds votes s k.what) votes → chosen_at history s ≡ None
 none_chosen history votes rounds s are have e =
     let none = same_place history votes rounds s None are have e in
-    sym (chosen_by_votes history s) ∙ none_found history s (votes_of s history) (no_place (λ (k : KeptRecord). chooses history s k.what) (votes_of s history) (sym none))
+    sym (chosen_by_votes history s)
+    ∙ none_found history s (votes_of s history) (no_place (λ (k : KeptRecord). chooses history s k.what) (votes_of s history) (sym none))
 
 -- the record with the first such vote
-pub one_chosen : (history votes : List KeptRecord) (rounds : List (OfRound Shape)) (numbers : List ℕ) (s n number : ℕ) → AreRounds history rounds → votes ≡ votes_of s history
-    → map (slice_get history) numbers ≡ map (λ (vote : KeptRecord). Some vote) votes
+pub one_chosen : (history votes : List KeptRecord) (rounds : List (OfRound Shape)) (numbers : List ℕ) (s n number : ℕ)
+    → AreRounds history rounds → votes ≡ votes_of s history → map (slice_get history) numbers ≡ map (λ (vote : KeptRecord). Some vote) votes
     → Some n ≡ position (λ (k : KeptRecord). selects rounds votes s k.what) votes → number ≡ get_or numbers n number
     → IsChosenVote history s (Some number)
 one_chosen history votes rounds numbers s n number are have stand e is_number =

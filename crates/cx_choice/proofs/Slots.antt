@@ -9,6 +9,7 @@ pub prefix_step : (history : List KeptRecord) (slot count : ℕ) (v : Value) →
 prefix_step history slot count v below chosen =
     let e : count - slot ≡ suc (count - (slot + 1)) = omega arith in rw (e, chosen) refl
 
-pub prefix_end : (history : List KeptRecord) (slot count : ℕ) → slot < count → chosen_at history slot ≡ None → prefix_from history slot (count - slot) ≡ []
+pub prefix_end : (history : List KeptRecord) (slot count : ℕ) → slot < count → chosen_at history slot ≡ None
+    → prefix_from history slot (count - slot) ≡ []
 prefix_end history slot count below chosen =
     let e : count - slot ≡ suc (count - (slot + 1)) = omega arith in rw (e, chosen) refl

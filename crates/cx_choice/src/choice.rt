@@ -38,7 +38,8 @@ fn chosen_in(
 
 // The numbers of the records with these votes, for slot 0, 1 and so on, up to the first slot without a chosen value.
 fn chosen_votes(alloc: Global, kept: &Kept) -> Result<Vec<u32>, NoMemory>
-    ensures values { IfOk result (λ numbers. map (vote_value_at kept.now) numbers.items ≡ chosen_prefix kept.now) }
+    ensures values { IfOk result
+        (λ numbers. map (vote_value_at kept.now) numbers.items ≡ chosen_prefix kept.now) }
     ensures votes { IfOk result (λ numbers. All (IsVoteAt kept.now) numbers.items) }
 {
     let rounds = rounds(alloc, kept)?;

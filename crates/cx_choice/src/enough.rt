@@ -67,7 +67,8 @@ fn has_column(
     wanted: &Value,
 ) -> bool
     requires { col < grid.now.cols }
-    ensures { result ≡ list_all (λ a. has_vote (casts_in votes.now) a of at wanted.now) (column_of grid.now col) }
+    ensures { result ≡ list_all (λ a. has_vote (casts_in votes.now) a of at wanted.now)
+        (column_of grid.now col) }
 {
     for row in 0..grid.rows() {
         if !has_vote(votes, meet(grid, row, col), of, at, wanted) {
@@ -87,8 +88,8 @@ fn has_some_column(
     wanted: &Value,
 ) -> bool
     ensures { result ≡ list_any
-        (λ b. list_all (λ a. has_vote (casts_in votes.now) a of at wanted.now) (column_of grid.now b))
-        (below grid.now.cols) }
+        (λ b. list_all (λ a. has_vote (casts_in votes.now) a of at wanted.now)
+        (column_of grid.now b)) (below grid.now.cols) }
 {
     for col in 0..grid.cols() {
         if has_column(votes, grid, col, of, at, wanted) {
@@ -104,7 +105,8 @@ fn is_chosen_in(
     at: u64,
     wanted: &Value,
 ) -> bool
-    ensures { result ≡ is_chosen_in (casts_in votes.now) begun.now.round begun.now.item at wanted.now }
+    ensures { result
+        ≡ is_chosen_in (casts_in votes.now) begun.now.round begun.now.item at wanted.now }
 {
     begun.item.rows() > 0 && has_some_column(votes, &begun.item, begun.round, at, wanted)
 }

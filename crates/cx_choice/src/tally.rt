@@ -34,8 +34,8 @@ fn add_value<'a>(
     requires votes { IsByRound votes.now }
     requires cast { All IsCast votes.now }
     ensures { OnOk result ((v : Value) → is_value_among chosen.new.items v
-        ≡ (is_value_among chosen.old.items v || is_whole_vote_in rounds.now (casts_in votes.now) at v round slot
-        value.now)) }
+        ≡ (is_value_among chosen.old.items v
+        || is_whole_vote_in rounds.now (casts_in votes.now) at v round slot value.now)) }
 {
     if slot != at {
         return Ok(());
@@ -128,7 +128,8 @@ pub fn chosen_among(
     votes: &[KeptRecord],
 ) -> Result<Option<usize>, NoMemory>
     requires { IsByRound rounds.now }
-    ensures { IfOk result (λ place. place ≡ position (λ vote. selects rounds.now votes.now at vote.what) votes.now) }
+    ensures { IfOk result
+        (λ place. place ≡ position (λ vote. selects rounds.now votes.now at vote.what) votes.now) }
 {
     let by_round = by_round(alloc, votes)?;
     let chosen = chosen_values(alloc, rounds, &by_round, at, votes)?;

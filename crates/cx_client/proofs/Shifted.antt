@@ -1,5 +1,6 @@
 -- A request that goes to others is the same request.
-use Rattle.std.proofs.Common.{◌≡◌, ◌<◌, ◌+◌, ◌%◌, ◌&&◌, ℕ, zero, true, List, [], ◌∷◌, map, Option, None, Some, nat_lt, refl, ap, ◌∙◌, sym, arith}
+use Rattle.std.proofs.Common.{◌≡◌, ◌<◌, ◌+◌, ◌%◌, ◌&&◌, ℕ, zero, true, List, [], ◌∷◌, map, Option, None, Some, nat_lt, refl, ap, ◌∙◌, sym}
+use Rattle.std.proofs.Common.{arith}
 use Rattle.std.proofs.lemmas.Bool.{and_from, and_parts}
 use Rattle.std.proofs.lemmas.Bool.Decides.{nat_tests}
 use Rattle.std.proofs.Math.Nat.{mod-add-mod, mod-eq_of_lt, mod-lt}
@@ -54,12 +55,14 @@ asks_shifted c o client e = ap (is_of_client client) (same_asker c o e)
 pub named_shifted : (c : Cluster) (o : Option ℕ) (e : Event) → names_event c e ≡ true → names_event c (shifted c o e) ≡ true
 named_shifted c o (event.Write command batcher) is =
     let p = and_parts (nat_lt command.client c.clients) (nat_lt batcher c.batchers) is in
-    and_from (nat_lt command.client c.clients) (nat_lt (further o batcher c.batchers) c.batchers) p.0 (further_within o batcher c.batchers p.1)
+    and_from (nat_lt command.client c.clients) (nat_lt (further o batcher c.batchers) c.batchers) p.0
+    (further_within o batcher c.batchers p.1)
 named_shifted c o (event.Read client seq floor reader replica key) is =
     let p = and_parts (nat_lt client c.clients && nat_lt reader c.readers) (nat_lt replica c.replicas) is in
     let q = and_parts (nat_lt client c.clients) (nat_lt reader c.readers) p.0 in
     and_from (nat_lt client c.clients && nat_lt (further o reader c.readers) c.readers) (nat_lt (further o replica c.replicas) c.replicas)
-    (and_from (nat_lt client c.clients) (nat_lt (further o reader c.readers) c.readers) q.0 (further_within o reader c.readers q.1)) (further_within o replica c.replicas p.1)
+    (and_from (nat_lt client c.clients) (nat_lt (further o reader c.readers) c.readers) q.0 (further_within o reader c.readers q.1))
+    (further_within o replica c.replicas p.1)
 named_shifted c o (event.Session client seq floor replica key) is =
     let p = and_parts (nat_lt client c.clients) (nat_lt replica c.replicas) is in
     and_from (nat_lt client c.clients) (nat_lt (further o replica c.replicas) c.replicas) p.0 (further_within o replica c.replicas p.1)
@@ -86,5 +89,6 @@ shifted_next c n (event.Write command batcher) = ap (λ (b : ℕ). event.Write c
 shifted_next c n (event.Read client seq floor reader replica key) =
     ap (λ (r : ℕ). event.Read client seq floor r ((replica + (n + 1)) % c.replicas) key) (further_next reader n c.readers)
     ∙ ap (λ (p : ℕ). event.Read client seq floor (((reader + n) % c.readers + 1) % c.readers) p key) (further_next replica n c.replicas)
-shifted_next c n (event.Session client seq floor replica key) = ap (λ (p : ℕ). event.Session client seq floor p key) (further_next replica n c.replicas)
+shifted_next c n (event.Session client seq floor replica key) =
+    ap (λ (p : ℕ). event.Session client seq floor p key) (further_next replica n c.replicas)
 shifted_next c n other = refl

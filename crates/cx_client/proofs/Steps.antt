@@ -1,5 +1,7 @@
 -- What each step of a client sends and completes.
-use Rattle.std.proofs.Common.{◌≡◌, ◌⊎◌, ◌≤◌, ◌<◌, ◌+◌, ◌-◌, ◌&&◌, get_or, inl, inr, ℕ, suc, Bool, true, false, not, nat_lt, List, [], ◌∷◌, ◌++◌, append_assoc, drop, filter, length, map, max, min, take, Option, None, Some, refl, sym, subst, ap, ◌∙◌, eqb-true, arith}
+use Rattle.std.proofs.Common.{◌≡◌, ◌⊎◌, ◌≤◌, ◌<◌, ◌+◌, ◌-◌, ◌&&◌, get_or, inl, inr, ℕ, suc, Bool, true, false, not, nat_lt, List, [], ◌∷◌}
+use Rattle.std.proofs.Common.{◌++◌, append_assoc, drop, filter, length, map, max, min, take, Option, None, Some, refl, sym, subst, ap, ◌∙◌}
+use Rattle.std.proofs.Common.{eqb-true, arith}
 use Rattle.std.specs.List.{list_all, position}
 use Rattle.std.proofs.lemmas.Bool.{and_from, and_parts, cases_Bool}
 use Rattle.std.proofs.lemmas.Bool.Decides.{nat_tests}
@@ -11,7 +13,8 @@ use Rattle.cx_base.specs.declared.event.Event.TheVariants as event
 use Rattle.cx_base.specs.declared.role.Kind.TheVariants.{Client}
 use Rattle.cx_base.specs.declared.why.Why.{Why}
 use Rattle.cx_base.specs.Role.{role, same_role}
-use Rattle.cx_inv_run.proofs.Members.{Member-all, Member-any, Member-filter, Member-first, Member-map, Member-second, all-Member, any-Member, filter-Member}
+use Rattle.cx_inv_run.proofs.Members.{Member-all, Member-any, Member-filter, Member-first, Member-map, Member-second, all-Member}
+use Rattle.cx_inv_run.proofs.Members.{any-Member, filter-Member}
 use Rattle.cx_wire.specs.Format.{u64}
 use Rattle.cx_field.specs.Fields.{at, mark}
 use Rattle.cx_model.specs.Heard.{mark_told}
@@ -27,11 +30,16 @@ use Rattle.cx_script.specs.Names.{names_event}
 use Rattle.cx_script.specs.Requests.{IsScript, asks, number_of, rise_above}
 use Rattle.cx_client.specs.Asking.{one_further, set_back, shifted}
 use Rattle.cx_client.specs.declared.asking.ClientOptions.{ClientOptions}
-use Rattle.cx_client.specs.Client.{ClientMoved, ClientState, IsClient, Moves, again, again_letters, answer_number, client_completes, client_hears, client_opened, client_start, client_takes, client_ticks, client_told, client_waits, after_completion, hearing, is_finished, left, client_stays}
-use Rattle.cx_client.specs.Completes.{IsAnswerToRequest, CompletesRequest, AreFromClient, IsSent, TellsFloor, TellsHeard, heard_after, msg_has_floor, tells_heard}
-use Rattle.cx_client.specs.Window.{floor_for, has_number, is_outstanding, newly, outstanding, request_letters, event_with_floor, without_request}
+use Rattle.cx_client.specs.Client.{ClientMoved, ClientState, IsClient, Moves, again, again_letters, answer_number, client_completes}
+use Rattle.cx_client.specs.Client.{client_hears, client_opened, client_start, client_takes, client_ticks, client_told, client_waits}
+use Rattle.cx_client.specs.Client.{after_completion, hearing, is_finished, left, client_stays}
+use Rattle.cx_client.specs.Completes.{IsAnswerToRequest, CompletesRequest, AreFromClient, IsSent, TellsFloor, TellsHeard, heard_after}
+use Rattle.cx_client.specs.Completes.{msg_has_floor, tells_heard}
+use Rattle.cx_client.specs.Window.{floor_for, has_number, is_outstanding, newly, outstanding, request_letters, event_with_floor}
+use Rattle.cx_client.specs.Window.{without_request}
 use Rattle.cx_client.proofs.Shifted.{all_itself, asks_shifted, named_shifted}
-use Rattle.cx_client.proofs.Windows.{all_above, all_below, at_place, filter_rises, first_is, is_left, last_or, newly_is, none_found, one_number, only_one, some_of, without_at}
+use Rattle.cx_client.proofs.Windows.{all_above, all_below, at_place, filter_rises, first_is, is_left, last_or, newly_is, none_found}
+use Rattle.cx_client.proofs.Windows.{one_number, only_one, some_of, without_at}
 use Rattle.cx_base.specs.declared.why.Why.TheVariants.{Heard, Idle, Resent, Stranger}
 
 -- ---- what is sent
@@ -40,20 +48,25 @@ abbrev Pass : (Letter → Bool) → List Letter → Type 0
 Pass p ds = list_all p ds ≡ true
 
 -- what requests send passes a test where the datagram of each does
-each_pass : (p : Letter → Bool) (heard floor : ℕ) (es : List Event) → ((e : Event) → Member e es → Pass p (request heard (event_with_floor floor e))) → Pass p (request_letters heard floor es)
+each_pass : (p : Letter → Bool) (heard floor : ℕ) (es : List Event)
+    → ((e : Event) → Member e es → Pass p (request heard (event_with_floor floor e))) → Pass p (request_letters heard floor es)
 each_pass p heard floor [] each = refl
 each_pass p heard floor (e ∷ es) each =
     list_all-append p (request heard (event_with_floor floor e)) (request_letters heard floor es)
-    ∙ and_from (list_all p (request heard (event_with_floor floor e))) (list_all p (request_letters heard floor es)) (each e (inl refl)) (each_pass p heard floor es (λ x m. each x (inr m)))
+    ∙ and_from (list_all p (request heard (event_with_floor floor e))) (list_all p (request_letters heard floor es)) (each e (inl refl))
+    (each_pass p heard floor es (λ x m. each x (inr m)))
 
-request_own : (index heard floor : ℕ) (e : Event) → asks index e ≡ true → Pass (λ (d : Letter). same_role d.from (role Client index)) (request heard (event_with_floor floor e))
+request_own : (index heard floor : ℕ) (e : Event) → asks index e ≡ true
+    → Pass (λ (d : Letter). same_role d.from (role Client index)) (request heard (event_with_floor floor e))
 request_own index heard floor (event.Write command batcher) is = rw is refl
 request_own index heard floor (event.Read client seq before reader replica key) is = rw is refl
 request_own index heard floor (event.Session client seq before replica key) is = rw is refl
 request_own index heard floor other is = refl
 
-request_named : (c : Cluster) (heard floor : ℕ) (e : Event) → names_event c e ≡ true → Pass (names c) (request heard (event_with_floor floor e))
-request_named c heard floor (event.Write command batcher) is = (let parts = and_parts (nat_lt command.client c.clients) (nat_lt batcher c.batchers) is in rw (parts.0, parts.1) refl)
+request_named : (c : Cluster) (heard floor : ℕ) (e : Event) → names_event c e ≡ true
+    → Pass (names c) (request heard (event_with_floor floor e))
+request_named c heard floor (event.Write command batcher) is =
+    (let parts = and_parts (nat_lt command.client c.clients) (nat_lt batcher c.batchers) is in rw (parts.0, parts.1) refl)
 request_named c heard floor (event.Read client seq before reader replica key) is = rw is refl
 request_named c heard floor (event.Session client seq before replica key) is = rw is refl
 request_named c heard floor other is = refl
@@ -78,29 +91,36 @@ record IsOwn (s : ClientState) (e : Event) : Type 0 where
   named : names_event s.cluster e ≡ true
 
 left_own : (s : ClientState) → IsClient s → (e : Event) → Member e (left s) → IsOwn s e
-left_own s is e m = record { own = all-Member (asks s.me.index) (left s) is.script.own e m; named = all-Member (names_event s.cluster) (left s) is.script.named e m }
+left_own s is e m = record {
+  own = all-Member (asks s.me.index) (left s) is.script.own e m;
+  named = all-Member (names_event s.cluster) (left s) is.script.named e m;
+}
 
 -- also where it goes to others
-shifted_own : (s : ClientState) → IsClient s → (o : Option ℕ) (es : List Event) → ((e : Event) → Member e es → Member e (left s)) → (e : Event) → Member e (map (shifted s.cluster o) es) → IsOwn s e
+shifted_own : (s : ClientState) → IsClient s → (o : Option ℕ) (es : List Event) → ((e : Event) → Member e es → Member e (left s))
+    → (e : Event) → Member e (map (shifted s.cluster o) es) → IsOwn s e
 shifted_own s is o es here e m =
     let l = Member-map (shifted s.cluster o) e es m in
     let own = left_own s is l.0 (here l.0 l.1) in
-    subst (IsOwn s) (sym l.2) (record { own = asks_shifted s.cluster o s.me.index l.0 ∙ own.own; named = named_shifted s.cluster o l.0 own.named })
+    subst (IsOwn s) (sym l.2)
+    (record { own = asks_shifted s.cluster o s.me.index l.0 ∙ own.own; named = named_shifted s.cluster o l.0 own.named })
 
-all_own : (s : ClientState) → IsClient s → (heard floor : ℕ) (es : List Event) → ((e : Event) → Member e es → IsOwn s e) → AreFromClient s (request_letters heard floor es)
+all_own : (s : ClientState) → IsClient s → (heard floor : ℕ) (es : List Event) → ((e : Event) → Member e es → IsOwn s e)
+    → AreFromClient s (request_letters heard floor es)
 all_own s is heard floor es here = record {
-  own = rw is.me
-      (each_pass (λ (d : Letter). same_role d.from (role Client s.me.index)) heard floor es (λ e m. request_own s.me.index heard floor e (here e m).own));
+  own = rw is.me (each_pass (λ (d : Letter). same_role d.from (role Client s.me.index)) heard floor es
+      (λ e m. request_own s.me.index heard floor e (here e m).own));
   named = each_pass (names s.cluster) heard floor es (λ e m. request_named s.cluster heard floor e (here e m).named);
 }
 
 nothing_own : (s : ClientState) → AreFromClient s []
 nothing_own s = record { own = refl; named = refl }
 
-all_sent : (heard floor : ℕ) (es : List Event) (e : Event) → Member e es → (d : Letter) → Member d (request heard (event_with_floor floor e)) → Member d (request_letters heard floor es)
+all_sent : (heard floor : ℕ) (es : List Event) (e : Event) → Member e es → (d : Letter)
+    → Member d (request heard (event_with_floor floor e)) → Member d (request_letters heard floor es)
 all_sent heard floor [] e m d sent = absurd m
-all_sent heard floor (x ∷ es) e (inl same) d sent =
-    Member-first d (request heard (event_with_floor floor x)) (request_letters heard floor es) (subst (λ (y : Event). Member d (request heard (event_with_floor floor y))) same sent)
+all_sent heard floor (x ∷ es) e (inl same) d sent = Member-first d (request heard (event_with_floor floor x))
+    (request_letters heard floor es) (subst (λ (y : Event). Member d (request heard (event_with_floor floor y))) same sent)
 all_sent heard floor (x ∷ es) e (inr m) d sent =
     Member-second d (request heard (event_with_floor floor x)) (request_letters heard floor es) (all_sent heard floor es e m d sent)
 
@@ -150,29 +170,29 @@ no_mark (msg.SessRead seq n key) none = refl
 -- What holds of a stranger's datagram, of an answer that completes nothing, and of one that completes an outstanding request, holds of a
 -- datagram's step.
 takes_by : (P : ClientMoved → Type 0) (s : ClientState) (d : Letter) → (heard_after s d ≡ s.heard → P (client_stays Stranger s))
-    → (heard_after s d ≡ max s.heard (mark_told d.msg) → P (client_stays Heard (hearing (mark_told d.msg) s)))
-    → ((n : ℕ) → same_role d.to s.me ≡ true → names s.cluster d ≡ true → answer_number d.msg ≡ Some n → is_outstanding s.window (left s) n ≡ true
+    → (heard_after s d ≡ max s.heard (mark_told d.msg) → P (client_stays Heard (hearing (mark_told d.msg) s))) → ((n : ℕ)
+    → same_role d.to s.me ≡ true → names s.cluster d ≡ true → answer_number d.msg ≡ Some n → is_outstanding s.window (left s) n ≡ true
     → P (client_completes n (hearing (mark_told d.msg) s)))
     → P (client_takes s d)
 takes_by P s d stay hear complete =
     by_test P (same_role d.to s.me && names s.cluster d) (client_told s (mark_told d.msg) (answer_number d.msg)) (client_stays Stranger s)
-    (λ mine. (let parts = and_parts (same_role d.to s.me) (names s.cluster d) mine in told (answer_number d.msg) refl (rw mine refl) (complete_of parts.0 parts.1)))
-    (λ other. stay (rw other refl))
+    (λ mine. (let parts = and_parts (same_role d.to s.me) (names s.cluster d) mine in told (answer_number d.msg) refl (rw mine refl)
+    (complete_of parts.0 parts.1))) (λ other. stay (rw other refl))
   where
-    complete_of : same_role d.to s.me ≡ true → names s.cluster d ≡ true → (n : ℕ) → answer_number d.msg ≡ Some n → is_outstanding s.window (left s) n ≡ true
-        → P (client_completes n (hearing (mark_told d.msg) s))
+    complete_of : same_role d.to s.me ≡ true → names s.cluster d ≡ true → (n : ℕ) → answer_number d.msg ≡ Some n
+        → is_outstanding s.window (left s) n ≡ true → P (client_completes n (hearing (mark_told d.msg) s))
     complete_of mine known n is out = complete n mine known is out
 
-    told : (o : Option ℕ) → answer_number d.msg ≡ o → heard_after s d ≡ max s.heard (mark_told d.msg)
-        → ((n : ℕ) → answer_number d.msg ≡ Some n → is_outstanding s.window (left s) n ≡ true → P (client_completes n (hearing (mark_told d.msg) s)))
+    told : (o : Option ℕ) → answer_number d.msg ≡ o → heard_after s d ≡ max s.heard (mark_told d.msg) → ((n : ℕ)
+        → answer_number d.msg ≡ Some n → is_outstanding s.window (left s) n ≡ true → P (client_completes n (hearing (mark_told d.msg) s)))
         → P (client_told s (mark_told d.msg) o)
     told None is heard each = stay (heard ∙ (let none = no_mark d.msg is in omega (arith, none)))
-    told (Some n) is heard each =
-        by_test P (is_outstanding s.window (left s) n) (client_completes n (hearing (mark_told d.msg) s)) (client_stays Heard (hearing (mark_told d.msg) s))
-        (λ out. each n is out) (λ out. hear heard)
+    told (Some n) is heard each = by_test P (is_outstanding s.window (left s) n) (client_completes n (hearing (mark_told d.msg) s))
+        (client_stays Heard (hearing (mark_told d.msg) s)) (λ out. each n is out) (λ out. hear heard)
 
 -- what holds of a client that waits for nothing, and of one that sends what is outstanding, holds of a tick
-ticks_by : (P : ClientMoved → Type 0) (s : ClientState) → ((w : Why) → P (client_stays w s)) → ((w : Why) (es : List Event) → es ≡ outstanding s.window (left s) → P (record { why = w; state = again s; sends = again_letters (again s) es; completes = false }))
+ticks_by : (P : ClientMoved → Type 0) (s : ClientState) → ((w : Why) → P (client_stays w s)) → ((w : Why) (es : List Event)
+    → es ≡ outstanding s.window (left s) → P (record { why = w; state = again s; sends = again_letters (again s) es; completes = false }))
     → P (client_ticks s)
 ticks_by P s stay send = go (outstanding s.window (left s)) refl
   where
@@ -188,18 +208,25 @@ pub record IsCompleted (n : ℕ) (e : Event) (s : ClientState) : Type 0 where
 
 is_completed : (s : ClientState) (n : ℕ) (e : Event) → IsClient s → Member e (left s) → number_of e ≡ n → IsCompleted n e s
 is_completed s n e is here number =
-    let one : filter (has_number n) (left s) ≡ e ∷ [] = subst (λ (k : ℕ). filter (has_number k) (left s) ≡ e ∷ []) number (only_one 0 (left s) is.script.rising e here) in
-    let all : (after_completion n s).script ≡ take s.done s.script ++ e ∷ without_request n (left s) = ap (λ (es : List Event). take s.done s.script ++ (es ++ without_request n (left s))) one in
-    let parted : (after_completion n s).script ≡ (take s.done s.script ++ e ∷ []) ++ without_request n (left s) = all ∙ sym (append_assoc (take s.done s.script) (e ∷ []) (without_request n (left s))) in
-    let long : length (take s.done s.script ++ e ∷ []) ≡ s.done + 1 = length_push (take s.done s.script) e ∙ ap (λ (k : ℕ). k + 1) (length-take-le s.done s.script is.done) in
+    let one : filter (has_number n) (left s) ≡ e ∷ [] =
+    subst (λ (k : ℕ). filter (has_number k) (left s) ≡ e ∷ []) number (only_one 0 (left s) is.script.rising e here) in
+    let all : (after_completion n s).script ≡ take s.done s.script ++ e ∷ without_request n (left s) =
+    ap (λ (es : List Event). take s.done s.script ++ (es ++ without_request n (left s))) one in
+    let parted : (after_completion n s).script ≡ (take s.done s.script ++ e ∷ []) ++ without_request n (left s) =
+    all ∙ sym (append_assoc (take s.done s.script) (e ∷ []) (without_request n (left s))) in
+    let long : length (take s.done s.script ++ e ∷ []) ≡ s.done + 1 =
+    length_push (take s.done s.script) e ∙ ap (λ (k : ℕ). k + 1) (length-take-le s.done s.script is.done) in
     record {
       script = all;
-      front = ap (λ (es : List Event). take (s.done + 1) es) parted ∙ take_at (take s.done s.script ++ e ∷ []) (without_request n (left s)) (s.done + 1) long;
-      left = ap (λ (es : List Event). drop (s.done + 1) es) parted ∙ drop_at (take s.done s.script ++ e ∷ []) (without_request n (left s)) (s.done + 1) long;
+      front = ap (λ (es : List Event). take (s.done + 1) es) parted
+          ∙ take_at (take s.done s.script ++ e ∷ []) (without_request n (left s)) (s.done + 1) long;
+      left = ap (λ (es : List Event). drop (s.done + 1) es) parted
+          ∙ drop_at (take s.done s.script ++ e ∷ []) (without_request n (left s)) (s.done + 1) long;
     }
 
 -- an outstanding request of a number, and what is left once it is completed
-found : (s : ClientState) (n : ℕ) → IsClient s → is_outstanding s.window (left s) n ≡ true → (e : Event) × Member e (outstanding s.window (left s)) × (number_of e ≡ n) × IsCompleted n e s
+found : (s : ClientState) (n : ℕ) → IsClient s → is_outstanding s.window (left s) n ≡ true
+    → (e : Event) × Member e (outstanding s.window (left s)) × (number_of e ≡ n) × IsCompleted n e s
 found s n is out =
     let here = any-Member (has_number n) (outstanding s.window (left s)) out in
     let number : number_of here.0 ≡ n = eqb-true (number_of here.0) n here.2 in
@@ -243,15 +270,18 @@ further_is_client s o is = record {
   heard = is.heard;
 }
 
-pub opened_is_client : (c : Cluster) (index : ℕ) (script : List Event) (options : ClientOptions) → IsScript c index script → 1 ≤ options.window → options.window ≤ 64
-    → IsClient (client_opened c (role Client index) script options)
-opened_is_client c index script options is some fits = record { me = refl; completed = refl; script = is; done = omega arith; some_window = some; window_fits = fits; heard = zero_fits }
+pub opened_is_client : (c : Cluster) (index : ℕ) (script : List Event) (options : ClientOptions) → IsScript c index script
+    → 1 ≤ options.window → options.window ≤ 64 → IsClient (client_opened c (role Client index) script options)
+opened_is_client c index script options is some fits =
+    record { me = refl; completed = refl; script = is; done = omega arith; some_window = some; window_fits = fits; heard = zero_fits }
 
-pub completed_is_client : (s : ClientState) (n : ℕ) (e : Event) → IsClient s → Member e (left s) → number_of e ≡ n → IsClient (after_completion n s)
+pub completed_is_client : (s : ClientState) (n : ℕ) (e : Event) → IsClient s → Member e (left s) → number_of e ≡ n
+    → IsClient (after_completion n s)
 completed_is_client s n e is here number = go (is_completed s n e is here number)
   where
     all_without : (p : Event → Bool) → list_all p (left s) ≡ true → list_all p (without_request n (left s)) ≡ true
-    all_without p all = Member-all p (without_request n (left s)) (λ x m. all-Member p (left s) all x (Member-filter (λ (y : Event). not (has_number n y)) x (left s) m).0)
+    all_without p all = Member-all p (without_request n (left s))
+        (λ x m. all-Member p (left s) all x (Member-filter (λ (y : Event). not (has_number n y)) x (left s) m).0)
 
     script_without : IsScript s.cluster s.me.index (left s) → IsScript s.cluster s.me.index (without_request n (left s))
     script_without is = record {
@@ -294,7 +324,8 @@ ticks_stays s is = ticks_by (λ (m : ClientMoved). IsClient m.state) s (λ w. is
 -- ---- a client sends requests of its own, with their names in the cluster
 
 pub starts_own : (s : ClientState) → IsClient s → AreFromClient s (client_start s)
-starts_own s is = all_own s is s.heard (floor_for (left s)) (outstanding s.window (left s)) (λ e m. left_own s is e (is_left s.window (left s) e m))
+starts_own s is =
+    all_own s is s.heard (floor_for (left s)) (outstanding s.window (left s)) (λ e m. left_own s is e (is_left s.window (left s) e m))
 
 pub ticks_own : (s : ClientState) → IsClient s → AreFromClient s (client_ticks s).sends
 ticks_own s is =
@@ -305,40 +336,53 @@ ticks_own s is =
 pub takes_own : (s : ClientState) (d : Letter) → IsClient s → AreFromClient s (client_takes s d).sends
 takes_own s d is =
     takes_by (λ (m : ClientMoved). AreFromClient s m.sends) s d (λ h. nothing_own s) (λ h. nothing_own s)
-    (λ n mine known number out. all_own s is (max s.heard (mark_told d.msg)) (floor_for (without_request n (left s))) (newly s.window n (left s)) (λ e m. left_own s is e (newly_left n e m)))
+    (λ n mine known number out. all_own s is (max s.heard (mark_told d.msg)) (floor_for (without_request n (left s)))
+    (newly s.window n (left s)) (λ e m. left_own s is e (newly_left n e m)))
   where
     newly_left : (n : ℕ) (e : Event) → Member e (newly s.window n (left s)) → Member e (left s)
     newly_left n e m =
-        let after = Member-filter (λ (x : Event). not (is_outstanding s.window (left s) (number_of x))) e (outstanding s.window (without_request n (left s))) m in
+        let after = Member-filter (λ (x : Event). not (is_outstanding s.window (left s) (number_of x))) e
+        (outstanding s.window (without_request n (left s))) m in
         (Member-filter (λ (x : Event). not (has_number n x)) e (left s) (is_left s.window (without_request n (left s)) e after.0)).0
 
 -- ---- a datagram completes the request that it answers
 
-pub takes_one : (s : ClientState) (d : Letter) → IsClient s → (client_takes s d).completes ≡ true → CompletesRequest s d (client_takes s d).state
+pub takes_one : (s : ClientState) (d : Letter) → IsClient s → (client_takes s d).completes ≡ true
+    → CompletesRequest s d (client_takes s d).state
 takes_one s d is =
     takes_by (λ (m : ClientMoved). m.completes ≡ true → CompletesRequest s d m.state) s d (λ heard h. cc) (λ heard h. cc)
     (λ n mine known number out h. go n mine known number (found s n is out))
   where
     go : (n : ℕ) → same_role d.to s.me ≡ true → names s.cluster d ≡ true → answer_number d.msg ≡ Some n
-        → (e : Event) × Member e (outstanding s.window (left s)) × (number_of e ≡ n) × IsCompleted n e s → CompletesRequest s d (after_completion n (hearing (mark_told d.msg) s))
+        → (e : Event) × Member e (outstanding s.window (left s)) × (number_of e ≡ n) × IsCompleted n e s
+        → CompletesRequest s d (after_completion n (hearing (mark_told d.msg) s))
     go n mine known number (e, here, of_number, i) =
         let heard : max s.heard (mark_told d.msg) ≡ heard_after s d = rw (mine, known) refl in
         let script : (after_completion n s).script ≡ take s.done s.script ++ e ∷ without_request (number_of e) (left s) =
-        subst (λ (k : ℕ). (after_completion n s).script ≡ take s.done s.script ++ e ∷ without_request k (left s)) (sym of_number) i.script in
+        subst (λ (k : ℕ). (after_completion n s).script ≡ take s.done s.script ++ e ∷ without_request k (left s))
+        (sym of_number) i.script in
         record {
-          answers = record { request = e; outstanding = here; number = number ∙ ap (λ (k : ℕ). Some k) (sym of_number); received = mine; named = known };
+          answers = record {
+            request = e;
+            outstanding = here;
+            number = number ∙ ap (λ (k : ℕ). Some k) (sym of_number);
+            received = mine;
+            named = known;
+          };
           state = λ j. record s { script = script j; done = s.done + 1; heard = heard j; shift = set_back s.shift };
         }
 
-pub takes_none : (s : ClientState) (d : Letter) → (client_takes s d).completes ≡ false → (client_takes s d).state ≡ record s { heard = heard_after s d }
+pub takes_none : (s : ClientState) (d : Letter) → (client_takes s d).completes ≡ false
+    → (client_takes s d).state ≡ record s { heard = heard_after s d }
 takes_none s d =
     takes_by (λ (m : ClientMoved). m.completes ≡ false → m.state ≡ record s { heard = heard_after s d }) s d
-    (λ heard h. ap (λ (n : ℕ). record s { heard = n }) (sym heard)) (λ heard h. ap (λ (n : ℕ). record s { heard = n }) (sym heard)) (λ n mine known number out h. cc)
+    (λ heard h. ap (λ (n : ℕ). record s { heard = n }) (sym heard)) (λ heard h. ap (λ (n : ℕ). record s { heard = n }) (sym heard))
+    (λ n mine known number out h. cc)
 
 pub answer_completes : (s : ClientState) (d : Letter) → IsAnswerToRequest s d → (client_takes s d).completes ≡ true
 answer_completes s d a =
-    let out : is_outstanding s.window (left s) (number_of a.request) ≡ true =
-    Member-any (has_number (number_of a.request)) a.request (outstanding s.window (left s)) a.outstanding (number_itself (number_of a.request)) in
+    let out : is_outstanding s.window (left s) (number_of a.request) ≡ true = Member-any (has_number (number_of a.request)) a.request
+    (outstanding s.window (left s)) a.outstanding (number_itself (number_of a.request)) in
     rw (a.received, a.named, a.number, out) refl
 
 pub ticks_none : (s : ClientState) → (client_ticks s).completes ≡ false
@@ -356,8 +400,8 @@ ticks_alone s alone = go (outstanding s.window (left s)) refl
     further : one_further s.shift ≡ s.shift
     further = ap one_further alone ∙ sym alone
 
-    go : (es : List Event) → es ≡ outstanding s.window (left s)
-        → ((client_waits s es).state ≡ s) × ((client_waits s es).sends ≡ request_letters s.heard (floor_for (left s)) (outstanding s.window (left s)))
+    go : (es : List Event) → es ≡ outstanding s.window (left s) → ((client_waits s es).state ≡ s)
+        × ((client_waits s es).sends ≡ request_letters s.heard (floor_for (left s)) (outstanding s.window (left s)))
     go [] is = (refl, ap (request_letters s.heard (floor_for (left s))) is)
     go (e ∷ es) is = (
       ap (λ (o : Option ℕ). record s { shift = o }) further,
@@ -366,20 +410,23 @@ ticks_alone s alone = go (outstanding s.window (left s)) refl
     )
 
 -- a client that asks others asks those one place further than the last time
-pub ticks_further : (s : ClientState) (n : ℕ) → s.shift ≡ Some n
-    → (client_ticks s).sends ≡ request_letters s.heard (floor_for (left s)) (map (shifted s.cluster (Some (min (n + 1) 4294967295))) (outstanding s.window (left s)))
+pub ticks_further : (s : ClientState) (n : ℕ) → s.shift ≡ Some n → (client_ticks s).sends
+    ≡ request_letters s.heard (floor_for (left s)) (map (shifted s.cluster (Some (min (n + 1) 4294967295))) (outstanding s.window (left s)))
 ticks_further s n is = go (outstanding s.window (left s)) refl
   where
-    go : (es : List Event) → es ≡ outstanding s.window (left s)
-        → (client_waits s es).sends ≡ request_letters s.heard (floor_for (left s)) (map (shifted s.cluster (Some (min (n + 1) 4294967295))) (outstanding s.window (left s)))
-    go [] same = ap (λ (xs : List Event). request_letters s.heard (floor_for (left s)) (map (shifted s.cluster (Some (min (n + 1) 4294967295))) xs)) same
+    go : (es : List Event) → es ≡ outstanding s.window (left s) → (client_waits s es).sends ≡ request_letters s.heard (floor_for (left s))
+        (map (shifted s.cluster (Some (min (n + 1) 4294967295))) (outstanding s.window (left s)))
+    go [] same = ap (λ (xs : List Event).
+        request_letters s.heard (floor_for (left s)) (map (shifted s.cluster (Some (min (n + 1) 4294967295))) xs)) same
     go (e ∷ es) same =
         ap (λ (o : Option ℕ). request_letters s.heard (floor_for (left s)) (map (shifted s.cluster (one_further o)) (e ∷ es))) is
-        ∙ ap (λ (xs : List Event). request_letters s.heard (floor_for (left s)) (map (shifted s.cluster (Some (min (n + 1) 4294967295))) xs)) same
+        ∙ ap (λ (xs : List Event).
+        request_letters s.heard (floor_for (left s)) (map (shifted s.cluster (Some (min (n + 1) 4294967295))) xs)) same
 
 -- ---- the floors that are sent
 
-tells_of : (s : ClientState) → rise_above 0 (left s) ≡ true → (heard : ℕ) (es : List Event) → TellsFloor s (request_letters heard (floor_for (left s)) es)
+tells_of : (s : ClientState) → rise_above 0 (left s) ≡ true → (heard : ℕ) (es : List Event)
+    → TellsFloor s (request_letters heard (floor_for (left s)) es)
 tells_of s rising heard es = record { told = all_told heard (floor_for (left s)) es; below = all_below (left s) rising }
 
 nothing_tells : (s : ClientState) → rise_above 0 (left s) ≡ true → TellsFloor s []
@@ -389,32 +436,34 @@ pub starts_tell : (s : ClientState) → IsClient s → TellsFloor s (client_star
 starts_tell s is = tells_of s is.script.rising s.heard (outstanding s.window (left s))
 
 pub ticks_tell : (s : ClientState) → IsClient s → TellsFloor s (client_ticks s).sends
-ticks_tell s is =
-    ticks_by (λ (m : ClientMoved). TellsFloor s m.sends) s (λ w. nothing_tells s is.script.rising) (λ w es same. tells_of s is.script.rising s.heard (map (shifted s.cluster (one_further s.shift)) es))
+ticks_tell s is = ticks_by (λ (m : ClientMoved). TellsFloor s m.sends) s (λ w. nothing_tells s is.script.rising)
+    (λ w es same. tells_of s is.script.rising s.heard (map (shifted s.cluster (one_further s.shift)) es))
 
 pub takes_tell : (s : ClientState) (d : Letter) → IsClient s → TellsFloor (client_takes s d).state (client_takes s d).sends
 takes_tell s d is =
     takes_by (λ (m : ClientMoved). TellsFloor m.state m.sends) s d (λ h. nothing_tells s is.script.rising)
-    (λ h. nothing_tells (hearing (mark_told d.msg) s) is.script.rising) (λ n mine known number out. go n (found s n is out).3.left (heard_is_client s n is out).script.rising)
+    (λ h. nothing_tells (hearing (mark_told d.msg) s) is.script.rising)
+    (λ n mine known number out. go n (found s n is out).3.left (heard_is_client s n is out).script.rising)
   where
     go : (n : ℕ) → left (after_completion n s) ≡ without_request n (left s) → rise_above 0 (left (after_completion n s)) ≡ true
         → TellsFloor (after_completion n (hearing (mark_told d.msg) s)) (client_completes n (hearing (mark_told d.msg) s)).sends
     go n gone rising =
         let t = hearing (mark_told d.msg) s in
-        subst (λ (es : List Event). TellsFloor (after_completion n t) (request_letters t.heard (floor_for es) (newly s.window n (left s)))) gone
-        (tells_of (after_completion n t) rising t.heard (newly s.window n (left s)))
+        subst (λ (es : List Event). TellsFloor (after_completion n t) (request_letters t.heard (floor_for es) (newly s.window n (left s))))
+        gone (tells_of (after_completion n t) rising t.heard (newly s.window n (left s)))
 
 -- ---- what sessions tell
 
 pub takes_heard : (s : ClientState) (d : Letter) → (client_takes s d).state.heard ≡ heard_after s d
-takes_heard s d =
-    takes_by (λ (m : ClientMoved). m.state.heard ≡ heard_after s d) s d (λ heard. sym heard) (λ heard. sym heard) (λ n mine known number out. rw (mine, known) refl)
+takes_heard s d = takes_by (λ (m : ClientMoved). m.state.heard ≡ heard_after s d) s d (λ heard. sym heard) (λ heard. sym heard)
+    (λ n mine known number out. rw (mine, known) refl)
 
 pub starts_marked : (s : ClientState) → TellsHeard s (client_start s)
 starts_marked s = all_marked s (floor_for (left s)) (outstanding s.window (left s))
 
 pub ticks_marked : (s : ClientState) → TellsHeard s (client_ticks s).sends
-ticks_marked s = ticks_by (λ (m : ClientMoved). TellsHeard s m.sends) s (λ w. refl) (λ w es same. all_marked s (floor_for (left s)) (map (shifted s.cluster (one_further s.shift)) es))
+ticks_marked s = ticks_by (λ (m : ClientMoved). TellsHeard s m.sends) s (λ w. refl)
+    (λ w es same. all_marked s (floor_for (left s)) (map (shifted s.cluster (one_further s.shift)) es))
 
 pub takes_marked : (s : ClientState) (d : Letter) → TellsHeard (client_takes s d).state (client_takes s d).sends
 takes_marked s d =
@@ -426,30 +475,35 @@ takes_marked s d =
 
 pub takes_sent : (s : ClientState) (d : Letter) (e : Event) → IsClient s → Member e (outstanding s.window (left (client_takes s d).state))
     → Member e (outstanding s.window (left s)) ⊎ IsSent (client_takes s d).state (client_takes s d).sends e
-takes_sent s d e is =
-    takes_by (λ (m : ClientMoved). Member e (outstanding s.window (left m.state)) → Member e (outstanding s.window (left s)) ⊎ IsSent m.state m.sends e) s d (λ h m. inl m)
+takes_sent s d e is = takes_by (λ (m : ClientMoved).
+    Member e (outstanding s.window (left m.state)) → Member e (outstanding s.window (left s)) ⊎ IsSent m.state m.sends e) s d (λ h m. inl m)
     (λ h m. inl m) (λ n mine known number out m. go (mark_told d.msg) n out (found s n is out) m)
   where
-    was_out : (n : ℕ) → Member e (outstanding s.window (without_request n (left s))) → (o : Event) × Member o (outstanding s.window (left s)) × (has_number (number_of e) o ≡ true)
-        → Member e (outstanding s.window (left s))
+    was_out : (n : ℕ) → Member e (outstanding s.window (without_request n (left s))) → (o : Event)
+        × Member o (outstanding s.window (left s)) × (has_number (number_of e) o ≡ true) → Member e (outstanding s.window (left s))
     was_out n after (o, here, same) =
-        let e_left : Member e (left s) = (Member-filter (λ (x : Event). not (has_number n x)) e (left s) (is_left s.window (without_request n (left s)) e after)).0 in
+        let e_left : Member e (left s) =
+        (Member-filter (λ (x : Event). not (has_number n x)) e (left s) (is_left s.window (without_request n (left s)) e after)).0 in
         let number : number_of o ≡ number_of e = eqb-true (number_of o) (number_of e) same in
-        subst (λ (x : Event). Member x (outstanding s.window (left s))) (one_number 0 (left s) is.script.rising o e (is_left s.window (left s) o here) e_left number) here
+        subst (λ (x : Event). Member x (outstanding s.window (left s)))
+        (one_number 0 (left s) is.script.rising o e (is_left s.window (left s) o here) e_left number) here
 
-    go : (at n : ℕ) → is_outstanding s.window (left s) n ≡ true → (o : Event) × Member o (outstanding s.window (left s)) × (number_of o ≡ n) × IsCompleted n o s
-        → Member e (outstanding s.window (left (after_completion n (hearing at s))))
+    go : (at n : ℕ) → is_outstanding s.window (left s) n ≡ true → (o : Event) × Member o (outstanding s.window (left s)) × (number_of o ≡ n)
+        × IsCompleted n o s → Member e (outstanding s.window (left (after_completion n (hearing at s))))
         → Member e (outstanding s.window (left s)) ⊎ IsSent (after_completion n (hearing at s)) (client_completes n (hearing at s)).sends e
     go at n out (o, here, of_number, i) m =
         let t = hearing at s in
-        let after : Member e (outstanding s.window (without_request n (left s))) = subst (λ (es : List Event). Member e (outstanding s.window es)) i.left m in
+        let after : Member e (outstanding s.window (without_request n (left s))) =
+        subst (λ (es : List Event). Member e (outstanding s.window es)) i.left m in
         elim (cases_Bool (is_outstanding s.window (left s) (number_of e))) [
           | inl was ↦ inl (was_out n after (any-Member (has_number (number_of e)) (outstanding s.window (left s)) was))
           | inr new ↦
               let test : not (is_outstanding s.window (left s) (number_of e)) ≡ true = rw new refl in
               let here : Member e (newly s.window n (left s)) =
-              filter-Member (λ (x : Event). not (is_outstanding s.window (left s) (number_of x))) e (outstanding s.window (without_request n (left s))) after test in
-              inr (subst (λ (es : List Event). (x : Letter) → Member x (request t.heard (event_with_floor (floor_for es) e)) → Member x (client_completes n t).sends) (sym i.left)
+              filter-Member (λ (x : Event). not (is_outstanding s.window (left s) (number_of x))) e
+              (outstanding s.window (without_request n (left s))) after test in
+              inr (subst (λ (es : List Event). (x : Letter) → Member x (request t.heard (event_with_floor (floor_for es) e))
+              → Member x (client_completes n t).sends) (sym i.left)
               (all_sent t.heard (floor_for (without_request n (left s))) (newly s.window n (left s)) e here))
         ]
 
@@ -457,28 +511,30 @@ takes_sent s d e is =
 
 -- all outstanding requests went out
 pub sent_all : (s : ClientState) (o : Option ℕ) (before sent : List Letter) → IsClient s → before ≡ []
-    → sent ≡ before ++ request_letters s.heard (floor_for (left s)) (map (shifted s.cluster o) (filter (λ (e : Event). nat_lt 0 (number_of e)) (outstanding s.window (left s))))
+    → sent ≡ before ++ request_letters s.heard (floor_for (left s))
+    (map (shifted s.cluster o) (filter (λ (e : Event). nat_lt 0 (number_of e)) (outstanding s.window (left s))))
     → sent ≡ request_letters s.heard (floor_for (left s)) (map (shifted s.cluster o) (outstanding s.window (left s)))
 sent_all s o before sent is none sends =
-    sends
-    ∙ ap (λ (ds : List Letter). ds ++ request_letters s.heard (floor_for (left s)) (map (shifted s.cluster o) (filter (λ (e : Event). nat_lt 0 (number_of e)) (outstanding s.window (left s))))) none
-    ∙ ap (λ (es : List Event). request_letters s.heard (floor_for (left s)) (map (shifted s.cluster o) es)) (all_above s.window (left s) is.script.rising)
+    sends ∙ ap (λ (ds : List Letter). ds ++ request_letters s.heard (floor_for (left s))
+    (map (shifted s.cluster o) (filter (λ (e : Event). nat_lt 0 (number_of e)) (outstanding s.window (left s))))) none
+    ∙ ap (λ (es : List Event). request_letters s.heard (floor_for (left s)) (map (shifted s.cluster o) es))
+    (all_above s.window (left s) is.script.rising)
 
 -- a client begins with those of its lines
-pub sent_first : (s : ClientState) (before sent : List Letter) → IsClient s → before ≡ []
-    → sent ≡ before ++ request_letters s.heard (floor_for (left s)) (map (shifted s.cluster None) (filter (λ (e : Event). nat_lt 0 (number_of e)) (outstanding s.window (left s))))
+pub sent_first : (s : ClientState) (before sent : List Letter) → IsClient s → before ≡ [] → sent ≡ before ++ request_letters s.heard
+    (floor_for (left s)) (map (shifted s.cluster None) (filter (λ (e : Event). nat_lt 0 (number_of e)) (outstanding s.window (left s))))
     → sent ≡ client_start s
-sent_first s before sent is none sends =
-    sent_all s None before sent is none sends ∙ ap (request_letters s.heard (floor_for (left s))) (all_itself s.cluster (outstanding s.window (left s)))
+sent_first s before sent is none sends = sent_all s None before sent is none sends
+    ∙ ap (request_letters s.heard (floor_for (left s))) (all_itself s.cluster (outstanding s.window (left s)))
 
-waits_again : (s : ClientState) (es : List Event) (e : Event) (after : ClientState) (sent : List Letter) → Member e es → after ≡ again s → sent ≡ again_letters (again s) es
-    → Moves (client_waits s es) Resent false after sent
+waits_again : (s : ClientState) (es : List Event) (e : Event) (after : ClientState) (sent : List Letter) → Member e es → after ≡ again s
+    → sent ≡ again_letters (again s) es → Moves (client_waits s es) Resent false after sent
 waits_again s [] e after sent m state is = absurd m
 waits_again s (x ∷ es) e after sent m state is = record { why = refl; completes = refl; state = state; sends = is }
 
 -- a tick of a client that hasn't finished sends what is outstanding
-pub ticks_again : (s after : ClientState) (sent : List Letter) → IsClient s → is_finished s ≡ false → after ≡ again s → sent ≡ again_letters after (outstanding after.window (left after))
-    → Moves (client_ticks s) Resent false after sent
+pub ticks_again : (s after : ClientState) (sent : List Letter) → IsClient s → is_finished s ≡ false → after ≡ again s
+    → sent ≡ again_letters after (outstanding after.window (left after)) → Moves (client_ticks s) Resent false after sent
 ticks_again s after sent is unfinished state sends = go (left s) refl
   where
     go : (es : List Event) → left s ≡ es → Moves (client_ticks s) Resent false after sent
@@ -494,26 +550,31 @@ ticks_again s after sent is unfinished state sends = go (left s) refl
         (sends ∙ ap (λ (t : ClientState). again_letters t (outstanding t.window (left t))) state)
 
 -- no outstanding request has the number that was heard
-pub hears_none : (s : ClientState) (n : ℕ) (after : ClientState) (sent : List Letter) → after ≡ s → position (has_number n) (outstanding s.window (left s)) ≡ None → sent ≡ []
-    → Moves (client_hears s n) Heard false after sent
+pub hears_none : (s : ClientState) (n : ℕ) (after : ClientState) (sent : List Letter) → after ≡ s
+    → position (has_number n) (outstanding s.window (left s)) ≡ None → sent ≡ [] → Moves (client_hears s n) Heard false after sent
 hears_none s n after sent state is none =
     let out : is_outstanding s.window (left s) n ≡ false = none_found (has_number n) (outstanding s.window (left s)) is in
     rw out (record { why = refl; completes = refl; state = state; sends = none })
 
 -- one has it
-pub hears_one : (s : ClientState) (n last : ℕ) (after : ClientState) (before sent : List Letter) → IsClient s → is_outstanding s.window (left s) n ≡ true → after ≡ after_completion n s
-    → last ≡ last_or 0 (outstanding s.window (left s)) → before ≡ []
-    → sent ≡ before ++ request_letters after.heard (floor_for (left after)) (map (shifted after.cluster None) (filter (λ (e : Event). nat_lt last (number_of e)) (outstanding after.window (left after))))
+pub hears_one : (s : ClientState) (n last : ℕ) (after : ClientState) (before sent : List Letter) → IsClient s
+    → is_outstanding s.window (left s) n ≡ true → after ≡ after_completion n s
+    → last ≡ last_or 0 (outstanding s.window (left s)) → before ≡ [] → sent ≡ before ++ request_letters after.heard (floor_for (left after))
+    (map (shifted after.cluster None) (filter (λ (e : Event). nat_lt last (number_of e)) (outstanding after.window (left after))))
     → Moves (client_hears s n) Heard true after sent
 hears_one s n last after before sent is out state end none sends =
     let gone : left (after_completion n s) ≡ without_request n (left s) = (found s n is out).3.left in
-    let news : filter (λ (e : Event). nat_lt last (number_of e)) (outstanding s.window (without_request n (left s))) ≡ newly s.window n (left s) = newly_is s.window n (left s) last is.script.rising end in
+    let news : filter (λ (e : Event). nat_lt last (number_of e)) (outstanding s.window (without_request n (left s)))
+    ≡ newly s.window n (left s) = newly_is s.window n (left s) last is.script.rising end in
     let all : sent ≡ (client_completes n s).sends =
-    sends
-    ∙ ap (λ (es : List Event). before ++ request_letters after.heard (floor_for (left after)) es) (all_itself after.cluster (filter (λ (e : Event). nat_lt last (number_of e)) (outstanding after.window (left after))))
-    ∙ ap (λ (ds : List Letter). ds ++ request_letters after.heard (floor_for (left after)) (filter (λ (e : Event). nat_lt last (number_of e)) (outstanding after.window (left after)))) none
-    ∙ ap (λ (t : ClientState). request_letters t.heard (floor_for (left t)) (filter (λ (e : Event). nat_lt last (number_of e)) (outstanding t.window (left t)))) state
-    ∙ ap (λ (es : List Event). request_letters s.heard (floor_for es) (filter (λ (e : Event). nat_lt last (number_of e)) (outstanding s.window es))) gone
+    sends ∙ ap (λ (es : List Event). before ++ request_letters after.heard (floor_for (left after)) es)
+    (all_itself after.cluster (filter (λ (e : Event). nat_lt last (number_of e)) (outstanding after.window (left after))))
+    ∙ ap (λ (ds : List Letter). ds ++ request_letters after.heard (floor_for (left after))
+    (filter (λ (e : Event). nat_lt last (number_of e)) (outstanding after.window (left after)))) none
+    ∙ ap (λ (t : ClientState).
+    request_letters t.heard (floor_for (left t)) (filter (λ (e : Event). nat_lt last (number_of e)) (outstanding t.window (left t)))) state
+    ∙ ap (λ (es : List Event).
+    request_letters s.heard (floor_for es) (filter (λ (e : Event). nat_lt last (number_of e)) (outstanding s.window es))) gone
     ∙ ap (request_letters s.heard (floor_for (without_request n (left s)))) news in
     rw out (record { why = refl; completes = refl; state = state; sends = all })
 
@@ -524,22 +585,29 @@ pub brought_is : (s : ClientState) (place : ℕ) (d : Event) (script : List Even
 brought_is s place d script is inside brought =
     let e = get_or (left s) place d in
     let here : get_or s.script (s.done + place) d ≡ e = sym (get_or-drop s.done s.script place d) in
-    let rest : drop (s.done + place + 1) s.script ≡ drop (suc place) (left s) = (let n : s.done + place + 1 ≡ s.done + suc place = omega arith in rw n (sym (drop-drop (suc place) s.done s.script))) in
-    let one : filter (has_number (number_of e)) (left s) ≡ e ∷ [] = only_one 0 (left s) is.script.rising e (at_place place (left s) d inside) in
-    let others : without_request (number_of e) (left s) ≡ take place (left s) ++ drop (suc place) (left s) = without_at 0 (left s) is.script.rising place d inside in
+    let rest : drop (s.done + place + 1) s.script ≡ drop (suc place) (left s) =
+    (let n : s.done + place + 1 ≡ s.done + suc place = omega arith in rw n (sym (drop-drop (suc place) s.done s.script))) in
+    let one : filter (has_number (number_of e)) (left s) ≡ e ∷ [] =
+    only_one 0 (left s) is.script.rising e (at_place place (left s) d inside) in
+    let others : without_request (number_of e) (left s) ≡ take place (left s) ++ drop (suc place) (left s) =
+    without_at 0 (left s) is.script.rising place d inside in
     rw brought (rw (here, rest, one, others) refl)
 
-pub completed_state : (s : ClientState) (place : ℕ) (d : Event) (script : List Event) (shift : Option ℕ) → IsClient s → place < length (left s) → shift ≡ set_back s.shift
+pub completed_state : (s : ClientState) (place : ℕ) (d : Event) (script : List Event) (shift : Option ℕ) → IsClient s
+    → place < length (left s) → shift ≡ set_back s.shift
     → script ≡ take s.done s.script ++ get_or s.script (s.done + place) d ∷ (take place (left s) ++ drop (s.done + place + 1) s.script)
     → record s { script = script; done = s.done + 1; shift = shift } ≡ after_completion (number_of (get_or (left s) place d)) s
 completed_state s place d script shift is inside back brought =
     let all = brought_is s place d script is inside brought in
     λ j. record s { script = all j; done = s.done + 1; shift = back j }
 
-pub completed_client : (s : ClientState) (place : ℕ) (script : List Event) (shift : Option ℕ) → IsClient s → place < length (left s) → shift ≡ set_back s.shift
-    → ((d : Event) → script ≡ take s.done s.script ++ get_or s.script (s.done + place) d ∷ (take place (left s) ++ drop (s.done + place + 1) s.script))
+pub completed_client : (s : ClientState) (place : ℕ) (script : List Event) (shift : Option ℕ) → IsClient s → place < length (left s)
+    → shift ≡ set_back s.shift
+    → ((d : Event)
+    → script ≡ take s.done s.script ++ get_or s.script (s.done + place) d ∷ (take place (left s) ++ drop (s.done + place + 1) s.script))
     → IsClient (record s { script = script; done = s.done + 1; shift = shift })
 completed_client s place script shift is inside back brought =
     let d = some_of (left s) place inside in
     let e = get_or (left s) place d in
-    subst IsClient (sym (completed_state s place d script shift is inside back (brought d))) (completed_is_client s (number_of e) e is (at_place place (left s) d inside) refl)
+    subst IsClient (sym (completed_state s place d script shift is inside back (brought d)))
+    (completed_is_client s (number_of e) e is (at_place place (left s) d inside) refl)

@@ -1,5 +1,6 @@
 -- A client with its script: up to a window of requests outstanding at a time.
-use Rattle.std.specs.Prelude.{◌≡◌, ◌≤◌, ℕ, ◌+◌, Bool, true, false, ◌==◌, ◌&&◌, max, List, [], ◌∷◌, ◌++◌, drop, filter, length, map, take, Option, None, Some, IsTrue, if◌then◌else◌}
+use Rattle.std.specs.Prelude.{◌≡◌, ◌≤◌, ℕ, ◌+◌, Bool, true, false, ◌==◌, ◌&&◌, max, List, [], ◌∷◌, ◌++◌, drop, filter, length, map, take}
+use Rattle.std.specs.Prelude.{Option, None, Some, IsTrue, if◌then◌else◌}
 use Rattle.std.specs.List.{list_all}
 use Rattle.cx_base.specs.declared.cluster.Cluster.{Cluster}
 use Rattle.cx_base.specs.declared.event.Event.{Event}
@@ -48,8 +49,15 @@ pub record IsClient (s : ClientState) : Type 0 where
 
 -- a client at its beginning
 abbrev pub client_opened : Cluster → RoleId → List Event → ClientOptions → ClientState
-client_opened c me script options =
-    record { cluster = c; me = me; script = script; done = 0; window = options.window; heard = 0; shift = if options.others then Some 0 else None }
+client_opened c me script options = record {
+  cluster = c;
+  me = me;
+  script = script;
+  done = 0;
+  window = options.window;
+  heard = 0;
+  shift = if options.others then Some 0 else None;
+}
 
 abbrev pub is_finished : ClientState → Bool
 is_finished s = s.done == length s.script
@@ -109,7 +117,8 @@ client_told s at (Some n) = client_hears (hearing at s) n
 
 -- a datagram; it is a stranger's where it isn't to this client, is no answer, or names what lies outside the cluster
 abbrev pub client_takes : ClientState → Letter → ClientMoved
-client_takes s d = if same_role d.to s.me && names s.cluster d then client_told s (mark_told d.msg) (answer_number d.msg) else client_stays Stranger s
+client_takes s d =
+    if same_role d.to s.me && names s.cluster d then client_told s (mark_told d.msg) (answer_number d.msg) else client_stays Stranger s
 
 -- the client once it asks again
 abbrev pub again : ClientState → ClientState

@@ -37,7 +37,12 @@ heard_after s d = if same_role d.to s.me && names s.cluster d then max s.heard (
 -- asks those of its lines again
 pub record CompletesRequest (s : ClientState) (d : Letter) (after : ClientState) : Type 0 where
   pub answers : IsAnswerToRequest s d
-  pub state : after ≡ record s { script = take s.done s.script ++ answers.request ∷ without_request (number_of answers.request) (left s); done = s.done + 1; heard = heard_after s d; shift = set_back s.shift }
+  pub state : after ≡ record s {
+    script = take s.done s.script ++ answers.request ∷ without_request (number_of answers.request) (left s);
+    done = s.done + 1;
+    heard = heard_after s d;
+    shift = set_back s.shift;
+  }
 
 -- whether a command, if it is one, tells this floor
 abbrev pub msg_has_floor : ℕ → Msg → Bool

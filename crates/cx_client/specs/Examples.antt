@@ -1,5 +1,6 @@
 -- Worked steps of a client with the requests 1, 3, 64, 65 and 66 and a window of 4, of one whose sessions are 1 and 3, one outstanding at a
--- time, and of clients that ask others or don't, in a cluster with 2 batchers, 2 readers and 3 replicas. What is expected was worked out by hand.
+-- time, and of clients that ask others or don't, in a cluster with 2 batchers, 2 readers and 3 replicas. What is expected was worked out by
+-- hand.
 use Rattle.std.specs.Prelude.{◌≡◌, ℕ, ◌-◌, false, true, List, [], ◌∷◌, map, None}
 use Rattle.std.proofs.Common.{lit≤}
 use Rattle.std.specs.List.{flat_map}
@@ -76,8 +77,8 @@ spread =
 
 -- a command to batcher 1, a read of reader 1 and replica 2, and a session with replica 2
 abbrev asking : ClientOptions → ClientState
-asking how = client_opened spread (role Client 0)
-    (event.Write (record { client = 0; seq = 1; floor = 0; op = Del (97 ∷ []) }) 1 ∷ event.Read 0 2 1 1 2 (97 ∷ []) ∷ event.Session 0 3 2 2 (97 ∷ []) ∷ []) how
+asking how = client_opened spread (role Client 0) (event.Write (record { client = 0; seq = 1; floor = 0; op = Del (97 ∷ []) }) 1
+    ∷ event.Read 0 2 1 1 2 (97 ∷ []) ∷ event.Session 0 3 2 2 (97 ∷ []) ∷ []) how
 
 -- all three outstanding at a time, and one of them
 abbrev all_asked : ClientState
@@ -115,19 +116,23 @@ pub record Worked : Type 0 where
   -- what completes nothing is heard
   pub session_again : marked (client_ticks reader_told).sends ≡ (1, 5) ∷ []
   -- 2 isn't the greatest
-  pub session_next : marked (client_takes reader_told (letter (role Replica 0) (role Client 0) (msg.ReadAnswer 1 2 None))).sends ≡ (3, 5) ∷ []
+  pub session_next : marked (client_takes reader_told (letter (role Replica 0) (role Client 0) (msg.ReadAnswer 1 2 None))).sends
+      ≡ (3, 5) ∷ []
   -- a stranger's
   pub stranger : (client_takes reader (answer 1)).state.heard ≡ 0
   -- first those of the lines
   pub own : whom (client_start all_asked) ≡ (role Batcher 1, []) ∷ (role Reader 1, 2 ∷ []) ∷ (role Replica 2, []) ∷ []
   -- behind the last one comes the first
   pub others : whom (client_ticks all_asked).sends ≡ (role Batcher 0, []) ∷ (role Reader 0, 0 ∷ []) ∷ (role Replica 0, []) ∷ []
-  pub others_again : whom (client_ticks (ticked all_asked)).sends ≡ (role Batcher 1, []) ∷ (role Reader 1, 1 ∷ []) ∷ (role Replica 1, []) ∷ []
+  pub others_again : whom (client_ticks (ticked all_asked)).sends
+      ≡ (role Batcher 1, []) ∷ (role Reader 1, 1 ∷ []) ∷ (role Replica 1, []) ∷ []
   -- an answer to what isn't outstanding sets nothing back
-  pub unanswered : whom (client_ticks (client_hears (ticked all_asked) 9).state).sends ≡ (role Batcher 1, []) ∷ (role Reader 1, 1 ∷ []) ∷ (role Replica 1, []) ∷ []
+  pub unanswered : whom (client_ticks (client_hears (ticked all_asked) 9).state).sends
+      ≡ (role Batcher 1, []) ∷ (role Reader 1, 1 ∷ []) ∷ (role Replica 1, []) ∷ []
   -- what becomes outstanding goes to those of its line, and a tick then asks the next ones
   pub next_request : whom (client_hears (ticked (ticked one_asked)) 1).sends ≡ (role Reader 1, 2 ∷ []) ∷ []
   pub next_others : whom (client_ticks (client_hears (ticked (ticked one_asked)) 1).state).sends ≡ (role Reader 0, 0 ∷ []) ∷ []
   -- so do those that stay outstanding
-  pub set_back : whom (client_ticks (client_hears (ticked (ticked all_asked)) 1).state).sends ≡ (role Reader 0, 0 ∷ []) ∷ (role Replica 0, []) ∷ []
+  pub set_back : whom (client_ticks (client_hears (ticked (ticked all_asked)) 1).state).sends
+      ≡ (role Reader 0, 0 ∷ []) ∷ (role Replica 0, []) ∷ []
   pub no_others : whom (client_ticks (ticked alone)).sends ≡ (role Batcher 1, []) ∷ (role Reader 1, 2 ∷ []) ∷ (role Replica 2, []) ∷ []

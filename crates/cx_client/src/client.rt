@@ -88,7 +88,8 @@ fn bring_forward(script: &mut Vec<Event>, done: usize, place: usize)
 
 // The last number of requests, 0 where there are none.
 fn last_number(requests: &[Event]) -> u64
-    ensures last { IfSome (slice_get requests.now (length requests.now - 1)) (λ event. result ≡ number_of event) }
+    ensures last { IfSome (slice_get requests.now (length requests.now - 1))
+        (λ event. result ≡ number_of event) }
     ensures none { requests.now ≡ [] → result ≡ 0 }
 {
     match requests.last() {
@@ -129,9 +130,10 @@ impl Client {
     // The outstanding requests whose numbers are above `sent` go out, so many places further.
     fn send_above(&self, sent: u64, shift: Option<u32>, out: &mut Outbox)
         requires room { self.now.window ≤ out.old.spare }
-        ensures { out.new.list ≡ out.old.list ++ request_letters self.now.heard (floor_for (left self.now))
-            (map (shifted self.now.cluster shift) (filter (λ (e : Happening). nat_lt sent (number_of e))
-            (outstanding self.now.window (left self.now)))) }
+        ensures { out.new.list
+            ≡ out.old.list ++ request_letters self.now.heard (floor_for (left self.now))
+            (map (shifted self.now.cluster shift) (filter (λ (e : Happening).
+            nat_lt sent (number_of e)) (outstanding self.now.window (left self.now)))) }
     {
         send_outstanding(
             &self.script[self.done..],
@@ -158,7 +160,8 @@ impl Client {
     // The request at this place of those that are left is completed, and the client asks those of its lines again.
     fn complete(&mut self, place: usize)
         requires { place < length (left self.old) }
-        ensures { (d : Happening) → self.new ≡ after_completion (number_of (get_or (left self.old) place d)) self.old }
+        ensures { (d : Happening)
+            → self.new ≡ after_completion (number_of (get_or (left self.old) place d)) self.old }
     {
         bring_forward(&mut self.script, self.done, place);
         self.done += 1;
@@ -185,8 +188,8 @@ impl Client {
         requires at { IsTrue (field.mark.fits at) }
         requires empty { out.old.list ≡ [] }
         ensures ok { IfOk result
-            (λ taken. Moves (client_hears (hearing at self.old) number) taken.why taken.completes self.new
-            out.new.list) }
+            (λ taken. Moves (client_hears (hearing at self.old) number) taken.why taken.completes
+            self.new out.new.list) }
         ensures no_memory { OnErr result (self.new ≡ self.old) }
         ensures nothing { OnErr result (out.new.list ≡ []) }
     {
@@ -240,7 +243,8 @@ impl Client {
     /// nothing to do where all are completed. Out of memory, nothing changes.
     pub fn tick(&mut self, out: &mut Outbox) -> Result<Why, NoMemory>
         requires empty { out.old.list ≡ [] }
-        ensures ok { IfOk result (λ why. Moves (client_ticks self.old) why false self.new out.new.list) }
+        ensures ok { IfOk result
+            (λ why. Moves (client_ticks self.old) why false self.new out.new.list) }
         ensures no_memory { OnErr result (self.new ≡ self.old) }
         ensures nothing { OnErr result (out.new.list ≡ []) }
     {

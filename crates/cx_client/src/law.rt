@@ -23,7 +23,8 @@ pub fn clients_stay()
     ensures opened { (c : Cluster) (index : ℕ) (script : List Event) (options : ClientOptions)
         → IsScript c index script → 1 ≤ options.window → options.window ≤ 64
         → IsClient (client_opened c (role kind.Client index) script options) }
-    ensures takes { (s : ClientState) (letter : Letter) → IsTrue (field.mark.fits (mark_told letter.msg)) → IsClient s
+    ensures takes { (s : ClientState) (letter : Letter)
+        → IsTrue (field.mark.fits (mark_told letter.msg)) → IsClient s
         → IsClient (client_takes s letter).state }
     ensures ticks { (s : ClientState) → IsClient s → IsClient (client_ticks s).state }
 {}
@@ -31,7 +32,8 @@ pub fn clients_stay()
 /// A law: whatever a client sends is from itself, and each name in it lies in the cluster.
 pub fn sends_are_own()
     ensures starts { (s : ClientState) → IsClient s → AreFromClient s (client_start s) }
-    ensures takes { (s : ClientState) (letter : Letter) → IsClient s → AreFromClient s (client_takes s letter).sends }
+    ensures takes { (s : ClientState) (letter : Letter) → IsClient s
+        → AreFromClient s (client_takes s letter).sends }
     ensures ticks { (s : ClientState) → IsClient s → AreFromClient s (client_ticks s).sends }
 {}
 
@@ -39,13 +41,15 @@ pub fn sends_are_own()
 /// at most what the client has heard. A tick completes none, and changes at most how many places further the client asks.
 pub fn completes_once()
     ensures one { (s : ClientState) (letter : Letter) → IsClient s
-        → (client_takes s letter).completes ≡ true → CompletesRequest s letter (client_takes s letter).state }
+        → (client_takes s letter).completes ≡ true
+        → CompletesRequest s letter (client_takes s letter).state }
     ensures none { (s : ClientState) (letter : Letter) → (client_takes s letter).completes ≡ false
         → (client_takes s letter).state ≡ record s { heard = heard_after s letter } }
     ensures answered { (s : ClientState) (letter : Letter) → IsAnswerToRequest s letter
         → (client_takes s letter).completes ≡ true }
     ensures ticks { (s : ClientState) → (client_ticks s).completes ≡ false }
-    ensures same { (s : ClientState) → (client_ticks s).state ≡ record s { shift = (client_ticks s).state.shift } }
+    ensures same { (s : ClientState)
+        → (client_ticks s).state ≡ record s { shift = (client_ticks s).state.shift } }
 {}
 
 /// A law: a tick of a client that asks no others changes nothing, and sends what the client began with. Any other one sends the same
@@ -55,8 +59,8 @@ pub fn ticks_ask_others()
     ensures alone { (s : ClientState) → s.shift ≡ None
         → ((client_ticks s).state ≡ s) × ((client_ticks s).sends ≡ client_start s) }
     ensures further { (s : ClientState) (n : ℕ) → s.shift ≡ Some n
-        → (client_ticks s).sends ≡ request_letters s.heard (floor_for (left s)) (map (shifted s.cluster (Some (min (n + 1) 4294967295)))
-        (outstanding s.window (left s))) }
+        → (client_ticks s).sends ≡ request_letters s.heard (floor_for (left s))
+        (map (shifted s.cluster (Some (min (n + 1) 4294967295))) (outstanding s.window (left s))) }
     ensures own { (c : Cluster) (e : Event) → names_event c e ≡ true → shifted c (Some 0) e ≡ e }
     ensures next { (c : Cluster) (n : ℕ) (e : Event)
         → shifted c (Some (n + 1)) e ≡ shifted c (Some 1) (shifted c (Some n) e) }
@@ -76,7 +80,8 @@ pub fn floors_are_below()
 /// A law: what a client has heard is the greatest number that an answer told it, and each session that it sends tells that number, as of the
 /// end of the step.
 pub fn sessions_tell_what_was_heard()
-    ensures heard { (s : ClientState) (letter : Letter) → (client_takes s letter).state.heard ≡ heard_after s letter }
+    ensures heard { (s : ClientState) (letter : Letter)
+        → (client_takes s letter).state.heard ≡ heard_after s letter }
     ensures starts { (s : ClientState) → TellsHeard s (client_start s) }
     ensures takes { (s : ClientState) (letter : Letter)
         → TellsHeard (client_takes s letter).state (client_takes s letter).sends }
@@ -88,9 +93,10 @@ pub fn sessions_tell_what_was_heard()
 pub fn windows_move()
     ensures first { (s : ClientState) (e : Event) (es : List Event) → IsClient s → left s ≡ e ∷ es
         → Member e (outstanding s.window (left s)) }
-    ensures fits { (s : ClientState) (e : Event) → IsClient s → Member e (outstanding s.window (left s))
-        → floor_fits (number_of e) (floor_for (left s)) ≡ true }
+    ensures fits { (s : ClientState) (e : Event) → IsClient s → Member e
+        (outstanding s.window (left s)) → floor_fits (number_of e) (floor_for (left s)) ≡ true }
     ensures sent { (s : ClientState) (letter : Letter) (e : Event) → IsClient s
         → Member e (outstanding s.window (left (client_takes s letter).state))
-        → Member e (outstanding s.window (left s)) ⊎ IsSent (client_takes s letter).state (client_takes s letter).sends e }
+        → Member e (outstanding s.window (left s))
+        ⊎ IsSent (client_takes s letter).state (client_takes s letter).sends e }
 {}

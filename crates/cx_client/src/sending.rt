@@ -53,7 +53,8 @@ fn send(
     requires heard { IsTrue (field.mark.fits heard) }
     requires room { 0 < out.old.spare }
     requires taken { IsTrue (is_valid_event (event_with_floor floor event.now)) }
-    ensures list { out.new.list ≡ out.old.list ++ request heard (event_with_floor floor (shifted cluster.now shift event.now)) }
+    ensures list { out.new.list ≡ out.old.list
+        ++ request heard (event_with_floor floor (shifted cluster.now shift event.now)) }
     ensures spare { out.old.spare ≤ out.new.spare + 1 }
 {
     match event {
@@ -107,9 +108,11 @@ fn send_above(
 )
     requires heard { IsTrue (field.mark.fits heard) }
     requires room { length requests.now ≤ out.old.spare }
-    requires taken { IsTrue (list_all (λ (e : Happening). is_valid_event (event_with_floor floor e)) requests.now) }
+    requires taken { IsTrue (list_all (λ (e : Happening). is_valid_event (event_with_floor floor e))
+        requests.now) }
     ensures { out.new.list ≡ out.old.list ++ request_letters heard floor
-        (map (shifted cluster.now shift) (filter (λ (e : Happening). nat_lt sent (number_of e)) requests.now)) }
+        (map (shifted cluster.now shift)
+        (filter (λ (e : Happening). nat_lt sent (number_of e)) requests.now)) }
 {
     for event in requests {
         if sent < number_of(event) {
@@ -133,7 +136,8 @@ pub fn send_outstanding(
     requires rising { IsTrue (rise_above 0 left.now) }
     requires room { window ≤ out.old.spare }
     ensures { out.new.list ≡ out.old.list ++ request_letters heard (floor_for left.now)
-        (map (shifted cluster.now shift) (filter (λ (e : Happening). nat_lt sent (number_of e)) (outstanding window left.now))) }
+        (map (shifted cluster.now shift)
+        (filter (λ (e : Happening). nat_lt sent (number_of e)) (outstanding window left.now))) }
 {
     let floor = first_of(left).saturating_sub(1);
     send_above(

@@ -18,7 +18,8 @@ no_document bytes none =
       | inr not ↦ rw not refl
     ]
 
-pub of_document : (bytes : List ℕ) (ms : Members) → IsUtf8 bytes → parse_document bytes ≡ Some ms → header_cluster bytes ≡ known_cluster ms (least_unknown ms)
+pub of_document : (bytes : List ℕ) (ms : Members) → IsUtf8 bytes → parse_document bytes ≡ Some ms
+    → header_cluster bytes ≡ known_cluster ms (least_unknown ms)
 unfolding header_cluster
 of_document bytes ms is some = rw (is_utf8-from_IsUtf8 bytes is, some) refl
 
@@ -27,6 +28,7 @@ pub cluster-is : (answer defined : Result Cluster ClusterFault) → answer ≡ d
 cluster-is (Ok cluster) defined is = sym is
 cluster-is (Err fault) defined is = tt
 
-pub fault-is : (answer defined : Result Cluster ClusterFault) → answer ≡ defined → IfErr answer (λ fault. fault ≢ NoMemory → defined ≡ Err fault)
+pub fault-is : (answer defined : Result Cluster ClusterFault) → answer ≡ defined
+    → IfErr answer (λ fault. fault ≢ NoMemory → defined ≡ Err fault)
 fault-is (Ok cluster) defined is = tt
 fault-is (Err fault) defined is = λ memory. sym is

@@ -16,7 +16,8 @@ abbrev pub found : List Entry → Option (List ℕ)
 found es = option_map string_bytes (find (λ key. not (is_key (string_bytes key))) (keys_of es))
 
 -- a key before all others is the lesser one
-lesser_first : (k : String Global) (es : List Entry) → AllByRecursion (λ y. string_cmp k y ≡ Less) (keys_of es) → lesser (string_bytes k) (found es) ≡ string_bytes k
+lesser_first : (k : String Global) (es : List Entry) → AllByRecursion (λ y. string_cmp k y ≡ Less) (keys_of es)
+    → lesser (string_bytes k) (found es) ≡ string_bytes k
 lesser_first k [] first = refl
 lesser_first k (e ∷ es) first =
     elim (cases_Bool (is_key (string_bytes e.0))) [

@@ -3,7 +3,8 @@ use Rattle.std.specs.Prelude.{ℕ, List, [], ◌∷◌, Bool, codes}
 use Rattle.std.specs.List.{list_any}
 use Rattle.std.specs.Str.{bytes_eq}
 use Rattle.cx_cluster.specs.declared.key.ClusterKey.{ClusterKey}
-use Rattle.cx_cluster.specs.declared.key.ClusterKey.TheVariants.{F, Leaders, Proxies, Acceptors, Replicas, Batchers, Unbatchers, Readers, Clients, Batch, BasePort, Pool, Replacers}
+use Rattle.cx_cluster.specs.declared.key.ClusterKey.TheVariants.{F, Leaders, Proxies, Acceptors, Replicas, Batchers, Unbatchers, Readers}
+use Rattle.cx_cluster.specs.declared.key.ClusterKey.TheVariants.{Clients, Batch, BasePort, Pool, Replacers}
 
 -- how a key is written
 abbrev pub key_name : ClusterKey → List ℕ
@@ -22,7 +23,8 @@ key_name Pool = codes "pool"
 key_name Replacers = codes "replacers"
 
 abbrev pub all_keys : List ClusterKey
-all_keys = F ∷ Leaders ∷ Proxies ∷ Acceptors ∷ Replicas ∷ Batchers ∷ Unbatchers ∷ Readers ∷ Clients ∷ Batch ∷ BasePort ∷ Pool ∷ Replacers ∷ []
+all_keys =
+    F ∷ Leaders ∷ Proxies ∷ Acceptors ∷ Replicas ∷ Batchers ∷ Unbatchers ∷ Readers ∷ Clients ∷ Batch ∷ BasePort ∷ Pool ∷ Replacers ∷ []
 
 -- whether a text is a key of a header
 abbrev pub is_key : List ℕ → Bool

@@ -10,7 +10,8 @@ use Rattle.cx_base.specs.declared.cluster.Cluster.{Cluster}
 use Rattle.cx_cluster.specs.declared.fault.ClusterFault.{ClusterFault}
 use Rattle.cx_cluster.specs.declared.fault.ClusterFault.TheVariants.{Toml, Unknown, Missing, NotNumber, Range}
 use Rattle.cx_cluster.specs.declared.key.ClusterKey.{ClusterKey}
-use Rattle.cx_cluster.specs.declared.key.ClusterKey.TheVariants.{F, Leaders, Proxies, Acceptors, Replicas, Batchers, Unbatchers, Readers, Clients, Batch, BasePort, Pool, Replacers}
+use Rattle.cx_cluster.specs.declared.key.ClusterKey.TheVariants.{F, Leaders, Proxies, Acceptors, Replicas, Batchers, Unbatchers, Readers}
+use Rattle.cx_cluster.specs.declared.key.ClusterKey.TheVariants.{Clients, Batch, BasePort, Pool, Replacers}
 use Rattle.cx_cluster.specs.Keys.{key_name, is_key}
 
 -- a number from low to high
@@ -64,7 +65,8 @@ abbrev pub ◌>>=◌ : {A B : Type 0} → Result A ClusterFault → (A → Resul
 
 -- a number, or the fault, is what is defined
 abbrev pub IsNumber : {low high : ℕ} → Result ℕ ClusterFault → Result (NumberInRange low high) ClusterFault → Type 0
-IsNumber {low} {high} (Ok number) defined = (least : low ≤ number) × (most : number ≤ high) × (defined ≡ Ok (record { number = number; least = least; most = most }))
+IsNumber {low} {high} (Ok number) defined =
+    (least : low ≤ number) × (most : number ≤ high) × (defined ≡ Ok (record { number = number; least = least; most = most }))
 IsNumber (Err fault) defined = defined ≡ Err fault
 
 -- the port, which may be left out

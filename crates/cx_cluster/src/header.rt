@@ -33,7 +33,8 @@ fn number_within(key: ClusterKey, number: i64, low: u16, high: u16) -> Result<u1
 
 /// The value under a key.
 fn member(table: &Table, key: ClusterKey) -> Option<&Value>
-    ensures { option_map (λ value. view value.now) result ≡ get_member (key_name key) (table_view table.now) }
+    ensures { option_map (λ value. view value.now) result
+        ≡ get_member (key_name key) (table_view table.now) }
 {
     table.get(key.name())
 }
@@ -116,7 +117,8 @@ fn cluster_of(table: &Table) -> Result<Cluster, ClusterFault>
 
 /// The first key of a table that no header has. The keys of a table ascend.
 fn first_unknown(table: &Table) -> Option<&String>
-    ensures found { option_copied result ≡ find (λ key. not (is_key (string_bytes key))) (keys table.now) }
+    ensures found { option_copied result
+        ≡ find (λ key. not (is_key (string_bytes key))) (keys table.now) }
     ensures ordered { IsOrdered string_cmp table.now }
 {
     table.keys().find(|key| !is_key(key.as_str()))
@@ -141,7 +143,8 @@ fn unknown(alloc: Global, key: &str) -> ClusterFault
 /// range (this project's own form; TOML is that of the crate `toml`).
 pub fn read(alloc: Global, bytes: &[u8]) -> Result<Cluster, ClusterFault>
     ensures cluster { IfOk result (λ cluster. header_cluster bytes.now ≡ Ok cluster) }
-    ensures fault { IfErr result (λ fault. fault ≢ NoMemory → header_cluster bytes.now ≡ Err fault) }
+    ensures fault { IfErr result
+        (λ fault. fault ≢ NoMemory → header_cluster bytes.now ≡ Err fault) }
 {
     let table = match toml::table_from_slice(alloc, bytes) {
         Ok(table) => table,

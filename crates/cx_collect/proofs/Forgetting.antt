@@ -12,7 +12,8 @@ use Rattle.cx_collect.specs.Collecting.{CollectorState, IsCount, counts_forgotte
 swapped : (a b : ℕ) → (b == a) ≡ false → (a == b) ≡ false
 swapped a b h = grind (arith, nat_tests)
 
-longer_by : (id m : ℕ) (ms : List ℕ) (less : Bool) → nat_lt id m ≡ less → (m == id) ≡ false → length (with_mark id ms) ≡ length ms + 1 → length (with_mark id (m ∷ ms)) ≡ length (m ∷ ms) + 1
+longer_by : (id m : ℕ) (ms : List ℕ) (less : Bool) → nat_lt id m ≡ less → (m == id) ≡ false → length (with_mark id ms) ≡ length ms + 1
+    → length (with_mark id (m ∷ ms)) ≡ length (m ∷ ms) + 1
 longer_by id m ms true l new rest = let e = swapped id m new in rw (e, l) (omega arith)
 longer_by id m ms false l new rest = let e = swapped id m new in rw (e, l) (omega (arith, rest))
 
@@ -24,7 +25,8 @@ length-with_mark id (m ∷ ms) new =
     longer_by id m ms _ refl p.0 (length-with_mark id ms p.1)
 
 -- the matchmaker with which f + 1 have forgotten
-pub forgotten_enough : (k : CollectorState) (id n : ℕ) → IsCount k.f n k.collection → counts_forgotten id k ≡ true → n ≡ k.f → forgotten_by id k ≡ record k { collection = record k.collection { stage = Retired; counted = with_mark id k.collection.counted } }
+pub forgotten_enough : (k : CollectorState) (id n : ℕ) → IsCount k.f n k.collection → counts_forgotten id k ≡ true → n ≡ k.f
+    → forgotten_by id k ≡ record k { collection = record k.collection { stage = Retired; counted = with_mark id k.collection.counted } }
 forgotten_enough k id n is counts same =
     let p = and_parts (is_collecting k.collection.stage) (not (is_in id k.collection.counted)) counts in
     let long = length-with_mark id k.collection.counted (not-true (is_in id k.collection.counted) p.1) in
@@ -33,7 +35,8 @@ forgotten_enough k id n is counts same =
     rw (counts, full) refl
 
 -- one before it
-pub forgotten_more : (k : CollectorState) (id n : ℕ) → IsCount k.f n k.collection → counts_forgotten id k ≡ true → n ≢ k.f → forgotten_by id k ≡ record k { collection = record k.collection { counted = with_mark id k.collection.counted } }
+pub forgotten_more : (k : CollectorState) (id n : ℕ) → IsCount k.f n k.collection → counts_forgotten id k ≡ true → n ≢ k.f
+    → forgotten_by id k ≡ record k { collection = record k.collection { counted = with_mark id k.collection.counted } }
 forgotten_more k id n is counts other =
     let p = and_parts (is_collecting k.collection.stage) (not (is_in id k.collection.counted)) counts in
     let long = length-with_mark id k.collection.counted (not-true (is_in id k.collection.counted) p.1) in
@@ -41,7 +44,8 @@ forgotten_more k id n is counts other =
     let more : nat_lt (length (with_mark id k.collection.counted)) (k.f + 1) ≡ true = lt-ltb _ _ (omega (arith, is.most p.0)) in
     rw (counts, more) refl
 
-pub one_more : (k : CollectorState) (id n : ℕ) → IsCount k.f n k.collection → counts_forgotten id k ≡ true → n ≢ k.f → IsCount k.f (n + 1) (record k.collection { counted = with_mark id k.collection.counted })
+pub one_more : (k : CollectorState) (id n : ℕ) → IsCount k.f n k.collection → counts_forgotten id k ≡ true → n ≢ k.f
+    → IsCount k.f (n + 1) (record k.collection { counted = with_mark id k.collection.counted })
 one_more k id n is counts other =
     let p = and_parts (is_collecting k.collection.stage) (not (is_in id k.collection.counted)) counts in
     let long = length-with_mark id k.collection.counted (not-true (is_in id k.collection.counted) p.1) in

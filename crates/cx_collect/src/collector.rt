@@ -33,7 +33,8 @@ impl Model for Collector {
       collection = record { stage = k.stage; mark = k.mark; counted = k.counted };
     } };
 
-    ghost invariant = { λ k. IsCount k.f k.forgotten (record { stage = k.stage; mark = k.mark; counted = k.counted }) };
+    ghost invariant = { λ k.
+        IsCount k.f k.forgotten (record { stage = k.stage; mark = k.mark; counted = k.counted }) };
 }
 
 impl Collector {
@@ -72,7 +73,8 @@ impl Collector {
     /// the mark, the acceptor is no member of the grid, or it was counted.
     pub fn informed(&mut self, id: u16, cw: u64) -> bool
         requires { id < 64 }
-        ensures whole { result ≡ (counts_informed id cw self.old && is_collecting self.new.collection.stage) }
+        ensures whole { result
+            ≡ (counts_informed id cw self.old && is_collecting self.new.collection.stage) }
         ensures counted { self.new ≡ informed_by id cw self.old }
     {
         if !self.counts_informed(id, cw) {
@@ -92,7 +94,8 @@ impl Collector {
     /// Nothing changes, and the answer is no, outside the stage `Collecting` and where the matchmaker was counted.
     pub fn garbage_b(&mut self, id: u16) -> bool
         requires { id < 64 }
-        ensures enough { result ≡ (counts_forgotten id self.old && is_retired self.new.collection.stage) }
+        ensures enough { result
+            ≡ (counts_forgotten id self.old && is_retired self.new.collection.stage) }
         ensures counted { self.new ≡ forgotten_by id self.old }
     {
         if !self.counts_forgotten(id) {

@@ -19,7 +19,8 @@ use Rattle.cx_model.specs.Unbatcher.{unbatcher_rules}
 use Rattle.cx_model.specs.World.{World, durable_part, kept_by}
 use Rattle.cx_letter.specs.Letter.{Letter}
 use Rattle.cx_letter.specs.declared.input.Written.{Written}
-use Rattle.cx_course.specs.Hosted.{Hosted, ClientAt, BatcherAt, LeaderAt, ProxyAt, AcceptorAt, MatchmakerAt, ReplicaAt, UnbatcherAt, ReaderAt, ReplacerAt, name_of}
+use Rattle.cx_course.specs.Hosted.{Hosted, ClientAt, BatcherAt, LeaderAt, ProxyAt, AcceptorAt, MatchmakerAt, ReplicaAt, UnbatcherAt}
+use Rattle.cx_course.specs.Hosted.{ReaderAt, ReplacerAt, name_of}
 use Rattle.cx_course.proofs.Asker.{IsAsker, IsTraced, SparesClient, still_asks}
 
 -- A role of the protocol is the model's: it runs there with the same volatile part, and its durable part is the fold of its list there.
@@ -60,15 +61,18 @@ pub record Moves (w after : World) (me : RoleId) (what : Option Written) (sends 
 -- ---- a role that is spared stays alike
 
 module _ (w after : World) (me : RoleId) (what : Option Written) (sends : List Letter) (moves : Moves w after me what sends) where
-  spared_role : {D V : Type 0} {rules : Rules D V} {make : V → State} {s : Running D V} → same_role s.me me ≡ false → IsRole rules make w s → IsRole rules make after s
+  spared_role : {D V : Type 0} {rules : Rules D V} {make : V → State} {s : Running D V} → same_role s.me me ≡ false → IsRole rules make w s
+      → IsRole rules make after s
   spared_role {rules} {s} differs is = record {
     cluster = is.cluster ∙ sym moves.cluster;
     kind_is = is.kind_is;
     named = ap (λ c. names_role c s.me) moves.cluster ∙ is.named;
-    durable = is.durable ∙ sym (ap (λ k. durable_part rules s.me k) moves.kept ∙ ap (folded rules) (list_other rules s.me me w.kept what differs));
+    durable = is.durable
+        ∙ sym (ap (λ k. durable_part rules s.me k) moves.kept ∙ ap (folded rules) (list_other rules s.me me w.kept what differs));
     volatile = (moves.others s.me differs).state ∙ is.volatile;
   }
 
   pub spared : (h : Hosted) → same_role (name_of h) me ≡ false → IsAlike w h → IsAlike after h
-  spared (ClientAt s) differs is = still_asks w after s moves.cluster ((moves.others s.me differs).client (ap (λ (a : RoleId). a.kind) is.client.me)) is
+  spared (ClientAt s) differs is =
+      still_asks w after s moves.cluster ((moves.others s.me differs).client (ap (λ (a : RoleId). a.kind) is.client.me)) is
   spared other differs is = spared_role differs is

@@ -21,11 +21,12 @@ use Rattle.cx_record.specs.Readable.{IsRecordable}
 use Rattle.cx_script.specs.Requests.{number_of, rise_above}
 use Rattle.cx_course.specs.Alike.{IsFreshClient}
 
--- Every datagram is from a role of the cluster, and whatever was delivered had been sent. So a client hears of each answer that is delivered
--- to it, as the model counts, and what was heard of earlier datagrams stays as it was.
+-- Every datagram is from a role of the cluster, and whatever was delivered had been sent. So a client hears of each answer that is
+-- delivered to it, as the model counts, and what was heard of earlier datagrams stays as it was.
 pub record IsTraced (w : World) : Type 0 where
   pub named : (d : Letter) → Member d w.sent → names_role w.cluster d.from ≡ true
-  pub there : (h : Happened) (n : ℕ) (cut : Cut) → Member h w.events → is_heard h.why ≡ true → h.event ≡ event.Deliver n cut → n < length w.sent
+  pub there : (h : Happened) (n : ℕ) (cut : Cut) → Member h w.events → is_heard h.why ≡ true → h.event ≡ event.Deliver n cut
+      → n < length w.sent
 
 -- a request that went out is a line of the script, perhaps to others, with a floor that is below the number of each line that is left
 pub record IsTold (s : ClientState) (e : Event) : Type 0 where
@@ -49,16 +50,19 @@ pub record IsAsker (w : World) (s : ClientState) : Type 0 where
   pub lines : (l : Event) → Member l s.script → IsRecordable w.cluster l
   -- two lines have different numbers
   pub one_line : (a b : Event) → Member a s.script → Member b s.script → number_of a ≡ number_of b → a ≡ b
-  pub asked : (h : Happened) (t : Token) → Member h w.events → was_sent h ≡ true → token_of h.event ≡ Some t → t.client ≡ s.me.index → IsTold s h.event
+  pub asked : (h : Happened) (t : Token) → Member h w.events → was_sent h ≡ true → token_of h.event ≡ Some t → t.client ≡ s.me.index
+      → IsTold s h.event
   pub heard : s.heard ≡ heard_by s.me.index w.sent w.events
 
 -- some events change nothing for the client of this index: not what it asked for, and not what it has heard
 pub record SparesClient (w after : World) (index : ℕ) : Type 0 where
-  pub asked : (h : Happened) (t : Token) → Member h after.events → was_sent h ≡ true → token_of h.event ≡ Some t → t.client ≡ index → Member h w.events
+  pub asked : (h : Happened) (t : Token) → Member h after.events → was_sent h ≡ true → token_of h.event ≡ Some t → t.client ≡ index
+      → Member h w.events
   pub heard : heard_by index after.sent after.events ≡ heard_by index w.sent w.events
 
 -- so it stands as before
-pub still_asks : (w after : World) (s : ClientState) → after.cluster ≡ w.cluster → SparesClient w after s.me.index → IsAsker w s → IsAsker after s
+pub still_asks : (w after : World) (s : ClientState) → after.cluster ≡ w.cluster → SparesClient w after s.me.index → IsAsker w s
+    → IsAsker after s
 still_asks w after s same spares is = record {
   client = is.client;
   cluster = is.cluster ∙ sym same;

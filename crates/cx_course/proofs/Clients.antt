@@ -71,8 +71,10 @@ requests_back client heard floor (e ∷ es) own = one e (own e (inl refl)) (requ
     one : (e : Event) → asks client e ≡ true → requests_in floor (request_letters heard floor es) ≡ map (event_with_floor floor) es
         → requests_in floor (request_letters heard floor (e ∷ es)) ≡ event_with_floor floor e ∷ map (event_with_floor floor) es
     one (event.Write command batcher) own rest = ap (λ (l : List Event). event_with_floor floor (event.Write command batcher) ∷ l) rest
-    one (event.Read other seq before reader replica key) own rest = ap (λ (l : List Event). event_with_floor floor (event.Read other seq before reader replica key) ∷ l) rest
-    one (event.Session other seq before replica key) own rest = ap (λ (l : List Event). event_with_floor floor (event.Session other seq before replica key) ∷ l) rest
+    one (event.Read other seq before reader replica key) own rest =
+        ap (λ (l : List Event). event_with_floor floor (event.Read other seq before reader replica key) ∷ l) rest
+    one (event.Session other seq before replica key) own rest =
+        ap (λ (l : List Event). event_with_floor floor (event.Session other seq before replica key) ∷ l) rest
     one other own rest = cc
 
 -- a client's move in a world: its requests go out
@@ -90,8 +92,8 @@ module _ (w : World) (s : ClientState) (m : ClientMoved) (moves : Asks w s m) (t
   its_own : (e : Event) → Member e Lines → asks m.state.me.index e ≡ true
   its_own e here =
       let l = Member-map (shifted m.state.cluster moves.shift) e moves.lines here in
-      let own : asks m.state.me.index l.0 ≡ true =
-      all-Member (asks m.state.me.index) (left m.state) moves.asker.client.script.own l.0 (is_left m.state.window (left m.state) l.0 (moves.out l.0 l.1)) in
+      let own : asks m.state.me.index l.0 ≡ true = all-Member (asks m.state.me.index) (left m.state) moves.asker.client.script.own l.0
+      (is_left m.state.window (left m.state) l.0 (moves.out l.0 l.1)) in
       ap (asks m.state.me.index) l.2 ∙ asks_shifted m.state.cluster moves.shift m.state.me.index l.0 ∙ own
 
   pub requests_are : Requests ≡ map (event_with_floor Floor) Lines
@@ -101,15 +103,19 @@ module _ (w : World) (s : ClientState) (m : ClientMoved) (moves : Asks w s m) (t
   each_recordable e here =
       let x = Member-map (event_with_floor Floor) e Lines here in
       let l = Member-map (shifted m.state.cluster moves.shift) x.0 moves.lines x.1 in
-      let own : Member l.0 m.state.script = dropped m.state.done l.0 m.state.script (is_left m.state.window (left m.state) l.0 (moves.out l.0 l.1)) in
-      let fit : floor_fits (number_of l.0) Floor ≡ true = fits m.state.window (left m.state) moves.asker.client.script.rising l.0 (moves.out l.0 l.1) in
+      let own : Member l.0 m.state.script =
+      dropped m.state.done l.0 m.state.script (is_left m.state.window (left m.state) l.0 (moves.out l.0 l.1)) in
+      let fit : floor_fits (number_of l.0) Floor ≡ true =
+      fits m.state.window (left m.state) moves.asker.client.script.rising l.0 (moves.out l.0 l.1) in
       let line : IsRecordable m.state.cluster l.0 = subst (λ c. IsRecordable c l.0) (sym moves.asker.cluster) (moves.asker.lines l.0 own) in
       subst (IsRecordable w.cluster) (sym (x.2 ∙ ap (event_with_floor Floor) l.2))
-      (subst (λ c. IsRecordable c (sent_as m.state.cluster moves.shift Floor l.0)) moves.asker.cluster (recordable_telling m.state.cluster moves.shift Floor l.0 line fit))
+      (subst (λ c. IsRecordable c (sent_as m.state.cluster moves.shift Floor l.0)) moves.asker.cluster
+      (recordable_telling m.state.cluster moves.shift Floor l.0 line fit))
 
   pub moved_out : Sends w (run_from w Requests) m.state m.sends × IsAsker (run_from w Requests) m.state × IsTraced (run_from w Requests)
   moved_out =
-      let out = all_go_out w m.state moves.asker traced moves.shift moves.lines (λ e here. is_left m.state.window (left m.state) e (moves.out e here)) in (
+      let out = all_go_out w m.state moves.asker traced moves.shift moves.lines
+      (λ e here. is_left m.state.window (left m.state) e (moves.out e here)) in (
         subst (λ es. Sends w (run_from w es) m.state m.sends) (sym requests_are)
             (subst (λ ds. Sends w (run_from w (map (event_with_floor Floor) Lines)) m.state ds) (sym moves.sends) out.0),
         subst (λ es. IsAsker (run_from w es) m.state) (sym requests_are) out.1,
@@ -140,9 +146,10 @@ is_no_replica : (s : ClientState) → s.me ≡ role kind.Client s.me.index → i
 is_no_replica s me = ap (λ (r : RoleId). is_a kind.Replica r) me
 
 -- a step whose own events come to a world in which the client makes this move
-module _ (w : World) (s : ClientState) (what : Doing) (own : List Event) (behind : World) (along : (es : List Event) → run_from w (own ++ es) ≡ run_from behind es)
-    (before : Sends w behind s []) (traced : IsTraced behind) (m : ClientMoved) (moves : Asks behind s m) (text : List ℕ) (answers : List Letter)
-    (does_so : does (ClientAt s) what ≡ moved_step m text answers) (own_so : own_event s.me what ≡ own) where
+module _ (w : World) (s : ClientState) (what : Doing) (own : List Event) (behind : World)
+    (along : (es : List Event) → run_from w (own ++ es) ≡ run_from behind es)
+    (before : Sends w behind s []) (traced : IsTraced behind) (m : ClientMoved) (moves : Asks behind s m) (text : List ℕ)
+    (answers : List Letter) (does_so : does (ClientAt s) what ≡ moved_step m text answers) (own_so : own_event s.me what ≡ own) where
   abbrev All : List Event
   All = own ++ requests_in (floor_for (left m.state)) m.sends
 
@@ -154,7 +161,8 @@ module _ (w : World) (s : ClientState) (what : Doing) (own : List Event) (behind
   after_is : run_from w (step_events (ClientAt s) what) ≡ run_from behind (requests_in (floor_for (left m.state)) m.sends)
   after_is = ap (run_from w) events_so ∙ along (requests_in (floor_for (left m.state)) m.sends)
 
-  pub it_lands : ((d : Letter) → Member d answers → DeliversOneOf w All d) → ((e : Event) → Member e own → IsClients w what e) → ClientLands w s what
+  pub it_lands : ((d : Letter) → Member d answers → DeliversOneOf w All d) → ((e : Event) → Member e own → IsClients w what e)
+      → ClientLands w s what
   it_lands delivered own_events =
       let out = moved_out behind s m moves traced in
       let after = run_from behind (requests_in (floor_for (left m.state)) m.sends) in
@@ -168,12 +176,13 @@ module _ (w : World) (s : ClientState) (what : Doing) (own : List Event) (behind
             (sends_on w behind after s [] m.sends before (same_sends behind after s m.state m.sends moves.me out.0)));
         asker = subst (λ x. IsAsker x m.state) (sym after_is) out.1;
         traced = subst IsTraced (sym after_is) out.2;
-        answers = λ d here.
-            subst (λ es. DeliversOneOf w es d) (sym events_so) (delivered d (subst (λ (ds : List Letter). Member d ds) (ap (λ (x : Step). x.answers) does_so) here));
-        events = λ e here. elim (Member-cases e own (requests_in (floor_for (left m.state)) m.sends) (subst (λ (es : List Event). Member e es) events_so here)) [
-          | inl mine ↦ own_events e mine
-          | inr request ↦ inr (subst (λ c. IsRecordable c e) before.cluster (requests_so behind s m moves traced e request))
-        ];
+        answers = λ d here. subst (λ es. DeliversOneOf w es d) (sym events_so)
+            (delivered d (subst (λ (ds : List Letter). Member d ds) (ap (λ (x : Step). x.answers) does_so) here));
+        events = λ e here. elim (Member-cases e own (requests_in (floor_for (left m.state)) m.sends)
+            (subst (λ (es : List Event). Member e es) events_so here)) [
+              | inl mine ↦ own_events e mine
+              | inr request ↦ inr (subst (λ c. IsRecordable c e) before.cluster (requests_so behind s m moves traced e request))
+            ];
       }
 
 -- ---- the law
@@ -203,20 +212,22 @@ module _ (w : World) (s : ClientState) (is : IsAsker w s) (traced : IsTraced w) 
   rests_so : Asks w s (client_stays why.Idle s)
   rests_so = stays_so w s s why.Idle is refl
 
-  took_so : (n : ℕ) (d : Letter) → slice_get w.sent n ≡ Some d → d.to ≡ s.me → IsAsker (step w (event.Deliver n Whole)) (hearing (mark_told d.msg) s)
-      → Asks (step w (event.Deliver n Whole)) s (client_takes s d)
+  took_so : (n : ℕ) (d : Letter) → slice_get w.sent n ≡ Some d → d.to ≡ s.me
+      → IsAsker (step w (event.Deliver n Whole)) (hearing (mark_told d.msg) s) → Asks (step w (event.Deliver n Whole)) s (client_takes s d)
   took_so n d sent to heard =
-      takes_so (step w (event.Deliver n Whole)) s d (ap (λ c. names_role c d.from) is.cluster ∙ traced.named d (Member-at d w.sent n sent)) to (ap (λ c. names_role c s.me) is.cluster ∙ is.named) heard
+      takes_so (step w (event.Deliver n Whole)) s d (ap (λ c. names_role c d.from) is.cluster ∙ traced.named d (Member-at d w.sent n sent))
+      to (ap (λ c. names_role c s.me) is.cluster ∙ is.named) heard
 
   its_name : s.me ≡ role kind.Client s.me.index
   its_name = is.client.me
 
-  does_begin : does (ClientAt s) Begin ≡ moved_step (record { why = why.Resent; state = s; sends = client_start s; completes = false }) [] []
+  does_begin : does (ClientAt s) Begin
+      ≡ moved_step (record { why = why.Resent; state = s; sends = client_start s; completes = false }) [] []
   unfolding does
   does_begin = refl
 
-  does_take : (n : ℕ) (d : Letter)
-      → does (ClientAt s) (Give n (input.Take d)) ≡ moved_step (client_takes s d) (printed (client_takes s d) s.me d) (answer_in (client_takes s d) d)
+  does_take : (n : ℕ) (d : Letter) → does (ClientAt s) (Give n (input.Take d))
+      ≡ moved_step (client_takes s d) (printed (client_takes s d) s.me d) (answer_in (client_takes s d) d)
   unfolding does
   does_take n d = refl
 
@@ -238,47 +249,55 @@ module _ (w : World) (s : ClientState) (is : IsAsker w s) (traced : IsTraced w) 
   answered_one d x false never = absurd never
 
   pub client_lands : (what : Doing) → Comes w s.me what → ClientLands w s what
-  client_lands Begin come =
-      it_lands w s Begin [] w (λ es. refl) (nothing_sends w s) traced (record { why = why.Resent; state = s; sends = client_start s; completes = false }) starts_so [] [] does_begin refl
+  client_lands Begin come = it_lands w s Begin [] w (λ es. refl) (nothing_sends w s) traced
+      (record { why = why.Resent; state = s; sends = client_start s; completes = false }) starts_so [] [] does_begin refl
       (none_delivered _) (λ e m. absurd m)
   client_lands (Give n input.Tick) come =
       it_lands w s (Give n input.Tick) [] w (λ es. refl) (nothing_sends w s) traced (client_ticks s) (ticks_so w s is) [] [] (does_tick n)
       (ap (λ (b : Bool). if b then [] else event.Tick s.me ∷ []) (is_client s its_name)) (none_delivered _) (λ e m. absurd m)
-  client_lands (Give n (input.Order order)) come =
-      it_lands w s (Give n (input.Order order)) [] w (λ es. refl) (nothing_sends w s) traced (client_stays why.Idle s) rests_so [] [] (does_order n order)
-      (ap (λ (b : Bool). if b then event.Order s.me.index order Whole ∷ [] else []) (is_no_leader s its_name)) (none_delivered _) (λ e m. absurd m)
+  client_lands (Give n (input.Order order)) come = it_lands w s (Give n (input.Order order)) [] w (λ es. refl) (nothing_sends w s) traced
+      (client_stays why.Idle s) rests_so [] [] (does_order n order)
+      (ap (λ (b : Bool). if b then event.Order s.me.index order Whole ∷ [] else []) (is_no_leader s its_name)) (none_delivered _)
+      (λ e m. absurd m)
   client_lands Snap come =
       it_lands w s Snap [] w (λ es. refl) (nothing_sends w s) traced (client_stays why.Idle s) rests_so [] [] does_snap
-      (ap (λ (b : Bool). if b then event.Snap s.me.index Whole ∷ [] else []) (is_no_replica s its_name)) (none_delivered _) (λ e m. absurd m)
+      (ap (λ (b : Bool). if b then event.Snap s.me.index Whole ∷ [] else []) (is_no_replica s its_name)) (none_delivered _)
+      (λ e m. absurd m)
   client_lands (Give n (input.Take d)) come =
       let heard = hears w s is traced n d come.0 come.1 in
       let moves = took_so n d come.0 come.1 heard.1 in
-      it_lands w s (Give n (input.Take d)) (event.Deliver n Whole ∷ []) (step w (event.Deliver n Whole)) (λ es. refl) heard.0 heard.2 (client_takes s d) moves
-      (printed (client_takes s d) s.me d) (answer_in (client_takes s d) d) (does_take n d) refl
-      (λ x here. subst (λ (y : Letter). DeliversOneOf w (event.Deliver n Whole ∷ requests_in (floor_for (left (client_takes s d).state)) (client_takes s d).sends) y)
-      (sym (answered_one d x (client_takes s d).completes here))
-      ([], requests_in (floor_for (left (client_takes s d).state)) (client_takes s d).sends, event.Deliver n Whole, refl, (n, Whole, refl, come.0)))
-      (λ e here. elim here [ inl same ↦ inl (n, d, refl, same) | inr never ↦ absurd never ])
+      it_lands w s (Give n (input.Take d)) (event.Deliver n Whole ∷ []) (step w (event.Deliver n Whole)) (λ es. refl) heard.0 heard.2
+      (client_takes s d) moves (printed (client_takes s d) s.me d) (answer_in (client_takes s d) d) (does_take n d) refl
+      (λ x here. subst (λ (y : Letter). DeliversOneOf w (event.Deliver n Whole ∷ requests_in (floor_for (left (client_takes s d).state))
+      (client_takes s d).sends) y) (sym (answered_one d x (client_takes s d).completes here)) (
+        [],
+        requests_in (floor_for (left (client_takes s d).state)) (client_takes s d).sends,
+        event.Deliver n Whole,
+        refl,
+        (n, Whole, refl, come.0),
+      )) (λ e here. elim here [ inl same ↦ inl (n, d, refl, same) | inr never ↦ absurd never ])
 
 -- ---- the same, a kind of step at a time
 
 -- what a client's move comes to in a world
 abbrev pub MovesOn : World → World → ClientState → ClientMoved → Type 0
-MovesOn w behind s m =
-    Sends w (run_from behind (requests_by (ClientAt m.state) m.sends)) s m.sends × IsAsker (run_from behind (requests_by (ClientAt m.state) m.sends)) m.state
+MovesOn w behind s m = Sends w (run_from behind (requests_by (ClientAt m.state) m.sends)) s m.sends
+    × IsAsker (run_from behind (requests_by (ClientAt m.state) m.sends)) m.state
     × IsTraced (run_from behind (requests_by (ClientAt m.state) m.sends)) × (m.state.me ≡ s.me)
 
-moves_on : (w behind : World) (s : ClientState) (m : ClientMoved) → Sends w behind s [] → IsTraced behind → Asks behind s m → MovesOn w behind s m
+moves_on : (w behind : World) (s : ClientState) (m : ClientMoved) → Sends w behind s [] → IsTraced behind → Asks behind s m
+    → MovesOn w behind s m
 moves_on w behind s m before traced moves =
     let out = moved_out behind s m moves traced in
     let after = run_from behind (requests_by (ClientAt m.state) m.sends) in
     (sends_on w behind after s [] m.sends before (same_sends behind after s m.state m.sends moves.me out.0), out.1, out.2, moves.me)
 
 pub client_begins : (w : World) (s : ClientState) → IsTraced w → IsAsker w s
-    → Sends w (run_from w (requests_by (ClientAt s) (client_start s))) s (client_start s) × IsAsker (run_from w (requests_by (ClientAt s) (client_start s))) s
-    × IsTraced (run_from w (requests_by (ClientAt s) (client_start s)))
+    → Sends w (run_from w (requests_by (ClientAt s) (client_start s))) s (client_start s)
+    × IsAsker (run_from w (requests_by (ClientAt s) (client_start s))) s × IsTraced (run_from w (requests_by (ClientAt s) (client_start s)))
 client_begins w s traced is =
-    let on = moves_on w w s (record { why = why.Resent; state = s; sends = client_start s; completes = false }) (nothing_sends w s) traced (starts_so w s is traced) in
+    let on = moves_on w w s (record { why = why.Resent; state = s; sends = client_start s; completes = false }) (nothing_sends w s) traced
+    (starts_so w s is traced) in
     (on.0, on.1, on.2)
 
 pub client_ticked : (w : World) (s : ClientState) → IsTraced w → IsAsker w s → MovesOn w w s (client_ticks s)

@@ -1,5 +1,6 @@
 -- A step of any hosted role, beside the events that are recorded of it.
-use Rattle.std.proofs.Common.{◌≡◌, ◌<◌, ◌⊎◌, ◌==◌, ℕ, Bool, true, false, List, [], ◌∷◌, ◌++◌, length, None, Some, ap, sym, ◌∙◌, subst, refl, inl, inr, append-nil}
+use Rattle.std.proofs.Common.{◌≡◌, ◌<◌, ◌⊎◌, ◌==◌, ℕ, Bool, true, false, List, [], ◌∷◌, ◌++◌, length, None, Some, ap, sym, ◌∙◌, subst, refl}
+use Rattle.std.proofs.Common.{inl, inr, append-nil}
 use Rattle.std.specs.Prelude.{nat_lt, slice_get, if◌then◌else◌}
 use Rattle.std.proofs.lemmas.Bool.{and_from, true≢false}
 use Rattle.std.proofs.lemmas.Option.{none-some, slice_get_within}
@@ -71,7 +72,8 @@ by_kind_name k me is = role_from_parts me.kind k me.index me.index is refl
 
 -- ---- a client's step
 
-moves_client : (w after : World) (s : ClientState) (ds : List Letter) → s.me.kind ≡ kind.Client → Sends w after s ds → IsTraced after → Moves w after s.me None ds
+moves_client : (w after : World) (s : ClientState) (ds : List Letter) → s.me.kind ≡ kind.Client → Sends w after s ds → IsTraced after
+    → Moves w after s.me None ds
 moves_client w after s ds client sends traced = record {
   cluster = sends.cluster;
   kept = sends.kept ∙ sym (append-nil w.kept);
@@ -79,8 +81,8 @@ moves_client w after s ds client sends traced = record {
   traced = traced;
   others = λ a differs. record {
     state = ap (λ (r : RoleId → State). r a) sends.roles;
-    client = λ is. sends.others a.index (λ same. true≢false
-        (sym (ap (λ x. same_role x s.me) (role_from_parts a.kind s.me.kind a.index s.me.index (is ∙ sym client) same) ∙ same_role-itself s.me) ∙ differs));
+    client = λ is. sends.others a.index (λ same. true≢false (sym (ap (λ x. same_role x s.me)
+        (role_from_parts a.kind s.me.kind a.index s.me.index (is ∙ sym client) same) ∙ same_role-itself s.me) ∙ differs));
   };
 }
 
@@ -91,14 +93,16 @@ comes_so w me (Give n input.Tick) fair = tt
 comes_so w me (Give n (input.Order o)) fair = tt
 comes_so w me Snap fair = tt
 
-client_fits : (w : World) (me : RoleId) (what : Doing) (e : Event) → IsFair w me what → IsClients w what e → FitsIn w.cluster (length w.sent) e
+client_fits : (w : World) (me : RoleId) (what : Doing) (e : Event) → IsFair w me what → IsClients w what e
+    → FitsIn w.cluster (length w.sent) e
 client_fits w me what e fair (inr can) = inr can
 client_fits w me what e fair (inl x) =
     let given : IsFair w me (Give x.0 (input.Take x.1)) = subst (IsFair w me) x.2 fair in
     inl (x.0, Whole, x.3, slice_get_within w.sent x.0 x.1 given.0)
 
 client_steps : (w : World) (s : ClientState) (what : Doing) → IsTraced w → IsAsker w s → IsFair w s.me what
-    → Lands w (step_events (ClientAt s) what) s.me (does (ClientAt s) what) × ((e : Event) → Member e (step_events (ClientAt s) what) → FitsIn w.cluster (length w.sent) e)
+    → Lands w (step_events (ClientAt s) what) s.me (does (ClientAt s) what)
+    × ((e : Event) → Member e (step_events (ClientAt s) what) → FitsIn w.cluster (length w.sent) e)
 client_steps w s what traced is fair =
     let x = client_lands w s is traced what (comes_so w s.me what fair) in
     let after = run_from w (step_events (ClientAt s) what) in (
@@ -160,7 +164,8 @@ no_client_event : (w : World) (h : Hosted) → is_asker h ≡ false → IsAlike 
 no_client_event w (ClientAt s) off is = absurd (true≢false off)
 no_client_event w other off is = is_no kind.Client (kind_at other) (name_of other) is.kind_is refl
 
-server_so : (c : Cluster) (k : Kind) (me : RoleId) → me.kind ≡ k → script.is_client k ≡ false → names_role c me ≡ true → script.names_server c me ≡ true
+server_so : (c : Cluster) (k : Kind) (me : RoleId) → me.kind ≡ k → script.is_client k ≡ false → names_role c me ≡ true
+    → script.names_server c me ≡ true
 server_so c k me is other named = rw (is, other) (ap (λ j. nat_lt me.index (count_of c j)) (sym is) ∙ named)
 
 is_server : (w : World) (h : Hosted) → is_asker h ≡ false → IsAlike w h → script.names_server w.cluster (name_of h) ≡ true
@@ -169,7 +174,8 @@ is_server w other off is = server_so w.cluster (kind_at other) (name_of other) i
 
 -- the step lands, and each of its events fits
 abbrev pub Steps : World → Hosted → Doing → Type 0
-Steps w h what = Lands w (step_events h what) (name_of h) (does h what) × ((e : Event) → Member e (step_events h what) → FitsIn w.cluster (length w.sent) e)
+Steps w h what = Lands w (step_events h what) (name_of h) (does h what)
+    × ((e : Event) → Member e (step_events h what) → FitsIn w.cluster (length w.sent) e)
 
 own_alone : (h : Hosted) (what : Doing) → is_asker h ≡ false → step_events h what ≡ own_event (name_of h) what
 own_alone h what off = ap (λ l. own_event (name_of h) what ++ l) (asks_nothing h what off) ∙ append-nil (own_event (name_of h) what)
@@ -183,8 +189,8 @@ unfolding does
 snaps_so h = refl
 
 module _ (w : World) (traced : IsTraced w) where
-  steps_by : (h : Hosted) (what : Doing) (es : List Event) (x : Step) → is_asker h ≡ false → own_event (name_of h) what ≡ es → does h what ≡ x
-      → Lands w es (name_of h) x → ((e : Event) → Member e es → FitsIn w.cluster (length w.sent) e) → Steps w h what
+  steps_by : (h : Hosted) (what : Doing) (es : List Event) (x : Step) → is_asker h ≡ false → own_event (name_of h) what ≡ es
+      → does h what ≡ x → Lands w es (name_of h) x → ((e : Event) → Member e es → FitsIn w.cluster (length w.sent) e) → Steps w h what
   steps_by h what es x off own is lands fits =
       let all : step_events h what ≡ es = own_alone h what off ∙ own in (
         subst (λ l. Lands w l (name_of h) (does h what)) (sym all) (subst (λ y. Lands w es (name_of h) y) (sym is) lands),
@@ -198,13 +204,14 @@ module _ (w : World) (traced : IsTraced w) where
   one_fits x fits e (inl is) = subst (λ y. FitsIn w.cluster (length w.sent) y) (sym is) fits
   one_fits x fits e (inr never) = absurd never
 
-  rests_so : (h : Hosted) (what : Doing) → is_asker h ≡ false → IsAlike w h → own_event (name_of h) what ≡ [] → does h what ≡ rests h → Steps w h what
+  rests_so : (h : Hosted) (what : Doing) → is_asker h ≡ false → IsAlike w h → own_event (name_of h) what ≡ [] → does h what ≡ rests h
+      → Steps w h what
   rests_so h what off is own does_nothing = steps_by h what [] (rests h) off own does_nothing (rests_lands w h traced is) nothing_fits
 
-  gives : (h : Hosted) (n : ℕ) (i : Input) (e : Event) → is_asker h ≡ false → IsAlike w h → own_event (name_of h) (Give n i) ≡ e ∷ [] → IsAct w e (act.Give i Whole) (name_of h)
-      → FitsIn w.cluster (length w.sent) e → Steps w h (Give n i)
-  gives h n i e off is own this fits =
-      steps_by h (Give n i) (e ∷ []) (given h i) off own (gives_so h n i) (role_lands w h i e (no_client_event w h off is) traced is this) (one_fits e fits)
+  gives : (h : Hosted) (n : ℕ) (i : Input) (e : Event) → is_asker h ≡ false → IsAlike w h → own_event (name_of h) (Give n i) ≡ e ∷ []
+      → IsAct w e (act.Give i Whole) (name_of h) → FitsIn w.cluster (length w.sent) e → Steps w h (Give n i)
+  gives h n i e off is own this fits = steps_by h (Give n i) (e ∷ []) (given h i) off own (gives_so h n i)
+      (role_lands w h i e (no_client_event w h off is) traced is this) (one_fits e fits)
 
   told_whole : (l : ℕ) (o : Order) → tells_all (event.Order l o Whole) ≡ true
   told_whole l (Lead grid) = refl
@@ -218,9 +225,10 @@ module _ (w : World) (traced : IsTraced w) where
   role_gives : (h : Hosted) (n : ℕ) (i : Input) → is_asker h ≡ false → IsAlike w h → IsFair w (name_of h) (Give n i) → Steps w h (Give n i)
   role_gives h n input.Tick off is fair =
       let me = name_of h in
-      gives h n input.Tick (event.Tick me) off is (ap (λ b. if b then [] else event.Tick me ∷ []) (no_client_event w h off is))
-      (record { change = refl; plain = record { no_request = refl; unheard = λ client u. told_none client w (record { event = event.Tick me; why = u }) refl } })
-      (inr (record { ranges = tt; valid = refl; named = is_server w h off is; complete = refl }))
+      gives h n input.Tick (event.Tick me) off is (ap (λ b. if b then [] else event.Tick me ∷ []) (no_client_event w h off is)) (record {
+        change = refl;
+        plain = record { no_request = refl; unheard = λ client u. told_none client w (record { event = event.Tick me; why = u }) refl };
+      }) (inr (record { ranges = tt; valid = refl; named = is_server w h off is; complete = refl }))
   role_gives h n (input.Take d) off is fair =
       gives h n (input.Take d) (event.Deliver n Whole) off is refl
       (record {
@@ -228,7 +236,8 @@ module _ (w : World) (traced : IsTraced w) where
         plain = record {
           no_request = refl;
           unheard = λ client u. told_other client w (record { event = event.Deliver n Whole; why = u }) n Whole d refl fair.0
-              (other_kind client d.to (λ clients. no_client (name_of h) (no_client_event w h off is) (ap (λ (a : RoleId). a.kind) (sym fair.1) ∙ clients)));
+              (other_kind client d.to
+              (λ clients. no_client (name_of h) (no_client_event w h off is) (ap (λ (a : RoleId). a.kind) (sym fair.1) ∙ clients)));
         };
       })
       (inl (n, Whole, refl, slice_get_within w.sent n d fair.0))
@@ -238,12 +247,16 @@ module _ (w : World) (traced : IsTraced w) where
       (ap (λ b. if b then event.Order me.index o Whole ∷ [] else []) (is_one kind.Leader me fair.leader))
       (record {
         change = ap (act_at w (act.Give (input.Order o) Whole)) (sym (by_kind_name kind.Leader me fair.leader));
-        plain = record { no_request = refl; unheard = λ client u. told_none client w (record { event = event.Order me.index o Whole; why = u }) refl };
+        plain = record {
+          no_request = refl;
+          unheard = λ client u. told_none client w (record { event = event.Order me.index o Whole; why = u }) refl;
+        };
       })
       (inr (record {
         ranges = fair.grid;
         valid = refl;
-        named = and_from (nat_lt me.index w.cluster.leaders) (names_order w.cluster o) (in_cluster kind.Leader me fair.leader (named_so w h is)) fair.named;
+        named = and_from (nat_lt me.index w.cluster.leaders) (names_order w.cluster o)
+            (in_cluster kind.Leader me fair.leader (named_so w h is)) fair.named;
         complete = told_whole me.index o;
       }))
 

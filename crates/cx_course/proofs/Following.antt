@@ -1,5 +1,6 @@
 -- A recording node follows the model's run of what it recorded: what stands between two steps, and that a step keeps it.
-use Rattle.std.proofs.Common.{◌≡◌, ◌<◌, ◌≤◌, ◌+◌, ◌==◌, ◌^◌, ◌⊎◌, ℕ, zero, suc, false, List, [], ◌∷◌, ◌++◌, length, Some, option_map, ap, sym, ◌∙◌, subst, refl, inl, inr, arith, append_assoc, length-append}
+use Rattle.std.proofs.Common.{◌≡◌, ◌<◌, ◌≤◌, ◌+◌, ◌==◌, ◌^◌, ◌⊎◌, ℕ, zero, suc, false, List, [], ◌∷◌, ◌++◌, length, Some, option_map, ap}
+use Rattle.std.proofs.Common.{sym, ◌∙◌, subst, refl, inl, inr, arith, append_assoc, length-append}
 use Rattle.std.specs.Prelude.{get_or, slice_get, slice_set}
 use Rattle.std.specs.List.{All}
 use Rattle.std.proofs.lemmas.Bool.{cases_Bool}
@@ -60,7 +61,8 @@ at_is_member [] k d less = absurd (omega (arith, less))
 at_is_member (e ∷ es) zero d less = inl refl
 at_is_member (e ∷ es) (suc k) d less = inr (at_is_member es k d (omega (arith, less)))
 
-all_fit : (c : Cluster) (many : ℕ) (es : List Event) → many ≤ 2 ^ 64 → ((e : Event) → Member e es → FitsIn c many e) → All (IsRecordable c) es
+all_fit : (c : Cluster) (many : ℕ) (es : List Event) → many ≤ 2 ^ 64 → ((e : Event) → Member e es → FitsIn c many e)
+    → All (IsRecordable c) es
 all_fit c many es most fit = λ k d less. one (get_or es k d) (fit (get_or es k d) (at_is_member es k d less))
   where
     within : (n : ℕ) → n < many → n < 2 ^ 64
@@ -86,21 +88,23 @@ stands_follow c p s st = record {
 set_cases : (hs : List Hosted) (i j : ℕ) (old new h : Hosted) → slice_get hs i ≡ Some old → slice_get (slice_set hs i new) j ≡ Some h
     → ((j ≡ i) × (h ≡ new)) ⊎ ((j ≡ i → ⊥) × (slice_get hs j ≡ Some h))
 set_cases hs i j old new h here is = elim (cases_Bool (j == i)) [
-  | inl t ↦ (let e : j ≡ i = grind (arith, nat_tests) in inl (e, same_Some h new (sym is ∙ ap (slice_get (slice_set hs i new)) e ∙ get_set_same hs i old new here)))
+  | inl t ↦ (let e : j ≡ i = grind (arith, nat_tests) in
+      inl (e, same_Some h new (sym is ∙ ap (slice_get (slice_set hs i new)) e ∙ get_set_same hs i old new here)))
   | inr f ↦ (let d : j ≡ i → ⊥ = λ e. differs e f in inr (d, sym (get_set_other hs i j new d) ∙ is))
 ]
   where
     differs : j ≡ i → (j == i) ≡ false → ⊥
     differs e f = grind (arith, nat_tests)
 
-named_before : (hs : List Hosted) (i j : ℕ) (old new h : Hosted) → slice_get hs i ≡ Some old → name_of new ≡ name_of old → slice_get (slice_set hs i new) j ≡ Some h
-    → (x : Hosted) × (slice_get hs j ≡ Some x) × (name_of x ≡ name_of h)
+named_before : (hs : List Hosted) (i j : ℕ) (old new h : Hosted) → slice_get hs i ≡ Some old → name_of new ≡ name_of old
+    → slice_get (slice_set hs i new) j ≡ Some h → (x : Hosted) × (slice_get hs j ≡ Some x) × (name_of x ≡ name_of h)
 named_before hs i j old new h here name is = elim (set_cases hs i j old new h here is) [
   | inl p ↦ (old, ap (slice_get hs) p.0 ∙ here, sym name ∙ ap name_of (sym p.1))
   | inr p ↦ (h, p.1, refl)
 ]
 
-distinct_set : (hs : List Hosted) (i : ℕ) (old new : Hosted) → slice_get hs i ≡ Some old → name_of new ≡ name_of old → AreDistinct hs → AreDistinct (slice_set hs i new)
+distinct_set : (hs : List Hosted) (i : ℕ) (old new : Hosted) → slice_get hs i ≡ Some old → name_of new ≡ name_of old → AreDistinct hs
+    → AreDistinct (slice_set hs i new)
 distinct_set hs i old new here name distinct j k a b at_j at_k same =
     let p = named_before hs i j old new a here name at_j in
     let q = named_before hs i k old new b here name at_k in
@@ -128,7 +132,8 @@ fits_more c many more e (inl x) = (let below = x.3 in inl (x.0, x.1, x.2, longer
     longer : (n : ℕ) → n < many → n < many + more
     longer n below = omega (arith, below)
 
-module _ (c : Cluster) (t : Past) (hs : List Hosted) (st : Stands c t (record { hosted = hs; recorded = Some (record { sent = t.sent; lines = length t.noted }) })) (i : ℕ) (what : Doing) (h : Hosted)
+module _ (c : Cluster) (t : Past) (hs : List Hosted) (st : Stands c t
+    (record { hosted = hs; recorded = Some (record { sent = t.sent; lines = length t.noted }) })) (i : ℕ) (what : Doing) (h : Hosted)
     (here : slice_get hs i ≡ Some h) (fair : IsFair (run c t.noted) (name_of h) what) where
   abbrev Here : Course
   Here = record { hosted = hs; recorded = Some (record { sent = t.sent; lines = length t.noted }) }
@@ -177,8 +182,8 @@ module _ (c : Cluster) (t : Past) (hs : List Hosted) (st : Stands c t (record { 
       ap (λ l. stored_as me l me.kind) kept_is
       ∙ other_store me (name_of h) Now.kept lands.what me.kind differs
       ∙ st.stores me
-      ∙ ap (lists_after (list_after_all me t.kept))
-      (sym (ap (changes_of me) lands.kept ∙ other_changes me (name_of h) (option_map (change_for (stored_as (name_of h) Now.kept (name_of h).kind)) lands.what) differs))
+      ∙ ap (lists_after (list_after_all me t.kept)) (sym (ap (changes_of me) lands.kept
+      ∙ other_changes me (name_of h) (option_map (change_for (stored_as (name_of h) Now.kept (name_of h).kind)) lands.what) differs))
 
   stores_then : (me : RoleId) → stored_as me After.kept me.kind ≡ list_after_all me (t.kept ++ X.kept)
   stores_then me = by_role Changed (name_of h) own_changed other_changed me ∙ sym (lists_then me t.kept X.kept)
@@ -224,8 +229,12 @@ module _ (c : Cluster) (t : Past) (hs : List Hosted) (st : Stands c t (record { 
       let made : changed_by me (Some (change_for (stored_as me Now.kept me.kind) y)) ≡ k ∷ [] =
       sym (ap (λ o. changed_by me (option_map (change_for (stored_as me Now.kept me.kind)) o)) is) ∙ sym lands.kept ∙ alone in
       let own : record { role = me; change = change_for (stored_as me Now.kept me.kind) y } ≡ k = first_is made in
-      let e = lands.next y is in
-      (e.0, e.1 ∙ ap (λ (x : StoreChange). kept_by x.role (Some y)) own, sym (ap (λ (x : StoreChange). x.change) own) ∙ ap (λ l. change_for l y) (st.stores me ∙ ap (λ (x : StoreChange). list_after_all x.role t.kept) own))
+      let e = lands.next y is in (
+        e.0,
+        e.1 ∙ ap (λ (x : StoreChange). kept_by x.role (Some y)) own,
+        sym (ap (λ (x : StoreChange). x.change) own)
+            ∙ ap (λ l. change_for l y) (st.stores me ∙ ap (λ (x : StoreChange). list_after_all x.role t.kept) own),
+      )
     where
       head_or : StoreChange → List StoreChange → StoreChange
       head_or d [] = d

@@ -18,12 +18,18 @@ first_grid_fits : (n : ℕ) → 1 ≤ n → n ≤ 16 → IsGrid (first_grid n)
 first_grid_fits zero some most = let none : ⊥ = omega (arith, some) in absurd none
 first_grid_fits (suc zero) some most = record { some_row = lit≤ tt; some_col = lit≤ tt; room = lit≤ tt; count = refl; once = refl }
 first_grid_fits (suc (suc zero)) some most = record { some_row = lit≤ tt; some_col = lit≤ tt; room = lit≤ tt; count = refl; once = refl }
-first_grid_fits (suc (suc (suc zero))) some most = record { some_row = lit≤ tt; some_col = lit≤ tt; room = lit≤ tt; count = refl; once = refl }
-first_grid_fits (suc (suc (suc (suc zero)))) some most = record { some_row = lit≤ tt; some_col = lit≤ tt; room = lit≤ tt; count = refl; once = refl }
-first_grid_fits (suc (suc (suc (suc (suc zero))))) some most = record { some_row = lit≤ tt; some_col = lit≤ tt; room = lit≤ tt; count = refl; once = refl }
-first_grid_fits (suc (suc (suc (suc (suc (suc zero)))))) some most = record { some_row = lit≤ tt; some_col = lit≤ tt; room = lit≤ tt; count = refl; once = refl }
-first_grid_fits (suc (suc (suc (suc (suc (suc (suc zero))))))) some most = record { some_row = lit≤ tt; some_col = lit≤ tt; room = lit≤ tt; count = refl; once = refl }
-first_grid_fits (suc (suc (suc (suc (suc (suc (suc (suc zero)))))))) some most = record { some_row = lit≤ tt; some_col = lit≤ tt; room = lit≤ tt; count = refl; once = refl }
+first_grid_fits (suc (suc (suc zero))) some most =
+    record { some_row = lit≤ tt; some_col = lit≤ tt; room = lit≤ tt; count = refl; once = refl }
+first_grid_fits (suc (suc (suc (suc zero)))) some most =
+    record { some_row = lit≤ tt; some_col = lit≤ tt; room = lit≤ tt; count = refl; once = refl }
+first_grid_fits (suc (suc (suc (suc (suc zero))))) some most =
+    record { some_row = lit≤ tt; some_col = lit≤ tt; room = lit≤ tt; count = refl; once = refl }
+first_grid_fits (suc (suc (suc (suc (suc (suc zero)))))) some most =
+    record { some_row = lit≤ tt; some_col = lit≤ tt; room = lit≤ tt; count = refl; once = refl }
+first_grid_fits (suc (suc (suc (suc (suc (suc (suc zero))))))) some most =
+    record { some_row = lit≤ tt; some_col = lit≤ tt; room = lit≤ tt; count = refl; once = refl }
+first_grid_fits (suc (suc (suc (suc (suc (suc (suc (suc zero)))))))) some most =
+    record { some_row = lit≤ tt; some_col = lit≤ tt; room = lit≤ tt; count = refl; once = refl }
 first_grid_fits (suc (suc (suc (suc (suc (suc (suc (suc (suc zero))))))))) some most =
     record { some_row = lit≤ tt; some_col = lit≤ tt; room = lit≤ tt; count = refl; once = refl }
 first_grid_fits (suc (suc (suc (suc (suc (suc (suc (suc (suc (suc zero)))))))))) some most =
@@ -44,8 +50,8 @@ first_grid_fits (suc (suc (suc (suc (suc (suc (suc (suc (suc (suc (suc (suc (suc
     let none : ⊥ = omega (arith, most) in absurd none
 
 members_are : (n : ℕ) → (first_grid n).members ≡ numbers 0 n
-members_are n =
-    either_way (λ (g : Shape). g.members ≡ numbers 0 n) (n % 2 == 0) (record { rows = 2; cols = n / 2; members = numbers 0 n }) (record { rows = 1; cols = n; members = numbers 0 n }) refl refl
+members_are n = either_way (λ (g : Shape). g.members ≡ numbers 0 n) (n % 2 == 0) (record { rows = 2; cols = n / 2; members = numbers 0 n })
+    (record { rows = 1; cols = n; members = numbers 0 n }) refl refl
 
 few : (c : Cluster) → min c.acceptors 16 ≤ c.acceptors
 few c = omega arith
@@ -53,8 +59,8 @@ few c = omega arith
 members_named : (c : Cluster) → names_members c (grid_of c) ≡ true
 members_named c =
     let n = min c.acceptors 16 in
-    subst (λ ms. list_all (λ id. nat_lt id c.acceptors) ms ≡ true) (sym (members_are n))
-    (Member-all (λ id. nat_lt id c.acceptors) (numbers 0 n) (λ id m. lt-ltb id c.acceptors (less id n c.acceptors (numbers-Member id 0 n m).1 (few c))))
+    subst (λ ms. list_all (λ id. nat_lt id c.acceptors) ms ≡ true) (sym (members_are n)) (Member-all (λ id. nat_lt id c.acceptors)
+    (numbers 0 n) (λ id m. lt-ltb id c.acceptors (less id n c.acceptors (numbers-Member id 0 n m).1 (few c))))
   where
     less : (id n all : ℕ) → id < 0 + n → n ≤ all → id < all
     less id n all a b = omega (arith, a, b)

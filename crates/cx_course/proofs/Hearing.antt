@@ -1,5 +1,6 @@
 -- What a client has heard when one event more has happened, and where the datagrams of a run are from.
-use Rattle.std.proofs.Common.{◌≡◌, ◌<◌, ◌+◌, ℕ, zero, suc, Bool, true, false, List, [], ◌∷◌, ◌++◌, Option, None, Some, max, ap, sym, ◌∙◌, subst, refl, inl, inr, arith}
+use Rattle.std.proofs.Common.{◌≡◌, ◌<◌, ◌+◌, ℕ, zero, suc, Bool, true, false, List, [], ◌∷◌, ◌++◌, Option, None, Some, max, ap, sym, ◌∙◌}
+use Rattle.std.proofs.Common.{subst, refl, inl, inr, arith}
 use Rattle.std.specs.Prelude.{length, slice_get, if◌then◌else◌}
 use Rattle.std.proofs.lemmas.Bool.{true≢false}
 use Rattle.std.proofs.lemmas.List.{length-append}
@@ -52,7 +53,8 @@ is_there w other n cut heard is = cc
 
 -- ---- what was heard
 
-if_same : (client : ℕ) (sent more : List Letter) (b : Bool) (e : Event) → ((n : ℕ) (cut : Cut) → b ≡ true → e ≡ event.Deliver n cut → n < length sent)
+if_same : (client : ℕ) (sent more : List Letter) (b : Bool) (e : Event)
+    → ((n : ℕ) (cut : Cut) → b ≡ true → e ≡ event.Deliver n cut → n < length sent)
     → ◌≡◌ {A = ℕ} (if b then delivered_to client (sent ++ more) e else 0) (if b then delivered_to client sent e else 0)
 if_same client sent more false e there = refl
 if_same client sent more true (event.Deliver n cut) there = ap (told_to client) (earlier sent more n (there n cut refl refl))
@@ -72,10 +74,11 @@ same_heard client sent more (h ∷ events) there =
 swapped : (a b c : ℕ) → max a (max b c) ≡ max b (max a c)
 swapped a b c = omega arith
 
-one_more : (client : ℕ) (sent : List Letter) (events : List Happened) (h : Happened) → heard_by client sent (events ++ h ∷ []) ≡ max (heard_at client sent h) (heard_by client sent events)
+one_more : (client : ℕ) (sent : List Letter) (events : List Happened) (h : Happened)
+    → heard_by client sent (events ++ h ∷ []) ≡ max (heard_at client sent h) (heard_by client sent events)
 one_more client sent [] h = refl
-one_more client sent (g ∷ events) h =
-    ap (λ n. max (heard_at client sent g) n) (one_more client sent events h) ∙ swapped (heard_at client sent g) (heard_at client sent h) (heard_by client sent events)
+one_more client sent (g ∷ events) h = ap (λ n. max (heard_at client sent g) n) (one_more client sent events h)
+    ∙ swapped (heard_at client sent g) (heard_at client sent h) (heard_by client sent events)
 
 -- ---- one event more
 
@@ -87,15 +90,18 @@ module _ (w : World) (e : Event) (ch : Change) (traced : IsTraced w) (there : Is
   all_there h m n cut heard is = traced.there h n cut m heard is
 
   -- a client has heard what the event tells it, and what it had heard
-  pub heard_then : (client : ℕ) → heard_by client (world_after w e ch).sent (world_after w e ch).events ≡ max (heard_at client w.sent New) (heard_by client w.sent w.events)
+  pub heard_then : (client : ℕ) → heard_by client (world_after w e ch).sent (world_after w e ch).events
+      ≡ max (heard_at client w.sent New) (heard_by client w.sent w.events)
   heard_then client =
       one_more client (w.sent ++ ch.sends) w.events New
       ∙ ap (λ n. max n (heard_by client (w.sent ++ ch.sends) w.events)) (same_at client w.sent ch.sends New there)
       ∙ ap (λ n. max (heard_at client w.sent New) n) (same_heard client w.sent ch.sends w.events all_there)
 
   -- an event that tells it nothing
-  pub heard_still : (client : ℕ) → heard_at client w.sent New ≡ 0 → heard_by client (world_after w e ch).sent (world_after w e ch).events ≡ heard_by client w.sent w.events
-  heard_still client none = heard_then client ∙ ap (λ n. max n (heard_by client w.sent w.events)) none ∙ least (heard_by client w.sent w.events)
+  pub heard_still : (client : ℕ) → heard_at client w.sent New ≡ 0
+      → heard_by client (world_after w e ch).sent (world_after w e ch).events ≡ heard_by client w.sent w.events
+  heard_still client none =
+      heard_then client ∙ ap (λ n. max n (heard_by client w.sent w.events)) none ∙ least (heard_by client w.sent w.events)
     where
       least : (n : ℕ) → max 0 n ≡ n
       least n = omega arith
@@ -106,13 +112,15 @@ module _ (w : World) (e : Event) (ch : Change) (traced : IsTraced w) (there : Is
     named = λ d m. elim (Member-cases d w.sent ch.sends m) [ inl old ↦ traced.named d old | inr new ↦ named d new ];
     there = λ h n cut m heard is. longer n (elim (Member-cases h w.events (New ∷ []) m) [
       | inl old ↦ traced.there h n cut old heard is
-      | inr (inl new) ↦ there n cut (ap (λ (x : Happened). is_heard x.why) (sym new) ∙ heard) (ap (λ (x : Happened). x.event) (sym new) ∙ is)
+      | inr (inl new) ↦
+          there n cut (ap (λ (x : Happened). is_heard x.why) (sym new) ∙ heard) (ap (λ (x : Happened). x.event) (sym new) ∙ is)
       | inr (inr never) ↦ absurd never
     ]);
   }
     where
       longer : (n : ℕ) → n < length w.sent → n < length (w.sent ++ ch.sends)
-      longer n less = (let all : length (w.sent ++ ch.sends) ≡ length w.sent + length ch.sends = length-append w.sent ch.sends in omega (arith, less, all))
+      longer n less = (let all : length (w.sent ++ ch.sends) ≡ length w.sent + length ch.sends = length-append w.sent ch.sends in
+          omega (arith, less, all))
 
   -- an event that is no request, and tells a client nothing, changes nothing for it
   pub spares : (client : ℕ) → token_of e ≡ None → heard_at client w.sent New ≡ 0 → SparesClient w (world_after w e ch) client
@@ -132,8 +140,8 @@ unless_heard true n is = is
 unless_heard false n is = refl
 
 -- what is delivered to a role of another name
-pub told_other : (client : ℕ) (w : World) (h : Happened) (n : ℕ) (cut : Cut) (d : Letter) → h.event ≡ event.Deliver n cut → slice_get w.sent n ≡ Some d
-    → same_role d.to (role kind.Client client) ≡ false → heard_at client w.sent h ≡ 0
+pub told_other : (client : ℕ) (w : World) (h : Happened) (n : ℕ) (cut : Cut) (d : Letter) → h.event ≡ event.Deliver n cut
+    → slice_get w.sent n ≡ Some d → same_role d.to (role kind.Client client) ≡ false → heard_at client w.sent h ≡ 0
 told_other client w h n cut d is found other =
     unless_heard (is_heard h.why) (delivered_to client w.sent h.event)
     (ap (delivered_to client w.sent) is ∙ ap (told_to client) found ∙ rw other refl)

@@ -1,5 +1,6 @@
 -- The moments of a recording node's run: what stands between two steps follows at each of them, and every change of a store that is next.
-use Rattle.std.proofs.Common.{◌≡◌, ◌≤◌, ◌+◌, ℕ, zero, suc, Bool, true, false, List, [], ◌∷◌, ◌++◌, length, map, nat_le, take, Option, None, Some, ap, sym, ◌∙◌, subst, refl, arith, append-nil, append_assoc}
+use Rattle.std.proofs.Common.{◌≡◌, ◌≤◌, ◌+◌, ℕ, zero, suc, Bool, true, false, List, [], ◌∷◌, ◌++◌, length, map, nat_le, take, Option, None}
+use Rattle.std.proofs.Common.{Some, ap, sym, ◌∙◌, subst, refl, arith, append-nil, append_assoc}
 use Rattle.std.specs.Prelude.{slice_get}
 use Rattle.std.specs.Option.{option_map}
 use Rattle.std.proofs.lemmas.Bool.{true≢false}
@@ -31,7 +32,8 @@ Along c p (x ∷ q) = (is_between (Some x) ≡ true → Follows c p) × ((k : St
 
 along_append : (c : Cluster) (p q r : List Action) → Along c p q → Along c (p ++ q) r → Along c p (q ++ r)
 along_append c p [] r a b = subst (λ l. Along c l r) (append-nil p) b
-along_append c p (x ∷ q) r a b = (a.0, a.1, along_append c (p ++ x ∷ []) q r a.2 (subst (λ l. Along c l r) (sym (append_assoc p (x ∷ []) q)) b))
+along_append c p (x ∷ q) r a b =
+    (a.0, a.1, along_append c (p ++ x ∷ []) q r a.2 (subst (λ l. Along c l r) (sym (append_assoc p (x ∷ []) q)) b))
 
 abbrev is_none : {A : Type 0} → List A → Bool
 is_none [] = true
@@ -41,8 +43,8 @@ no_change : (x : Action) (k : StoreChange) → kept_as x ≡ [] → x ≡ Kept k
 no_change x k none is = true≢false (sym (ap is_none none) ∙ ap (λ y. is_none (kept_as y)) is)
 
 -- actions within a step
-within : {B : Type 0} (make : B → Action) → ((b : B) → is_between (Some (make b)) ≡ false) → ((b : B) → kept_as (make b) ≡ []) → (c : Cluster) (p : List Action) (xs : List B)
-    → Along c p (map make xs)
+within : {B : Type 0} (make : B → Action) → ((b : B) → is_between (Some (make b)) ≡ false) → ((b : B) → kept_as (make b) ≡ [])
+    → (c : Cluster) (p : List Action) (xs : List B) → Along c p (map make xs)
 within make off none c p [] = tt
 within make off none c p (x ∷ xs) = (
   λ is. absurd (true≢false (sym is ∙ off x)),
@@ -62,8 +64,8 @@ self s = s
 pub stays_go : {S : Type 0} (of : S → Course) (c : Cluster) (p : List Action) (s : S) → Stands c (past_of p) (of s) → Goes of c p (stays s)
 stays_go of c p s st = (tt, subst (λ l. Stands c (past_of l) (of s)) (sym (append-nil p)) st)
 
-pub then_go : {S T : Type 0} (f : S → Course) (g : T → Course) (c : Cluster) (p : List Action) (m : Moved S) (k : S → Moved T) → Goes f c p m
-    → ((q : List Action) → Stands c (past_of q) (f m.next) → Goes g c q (k m.next)) → Goes g c p (then_do m k)
+pub then_go : {S T : Type 0} (f : S → Course) (g : T → Course) (c : Cluster) (p : List Action) (m : Moved S) (k : S → Moved T)
+    → Goes f c p m → ((q : List Action) → Stands c (past_of q) (f m.next) → Goes g c q (k m.next)) → Goes g c p (then_do m k)
 then_go f g c p m k one rest =
     let r = rest (p ++ m.actions) one.1 in (
       along_append c p m.actions ((k m.next).actions) one.0 r.0,
@@ -81,8 +83,8 @@ took_go c p s what m st rest =
 
 -- ---- a step
 
-module _ (c : Cluster) (p : List Action) (hs : List Hosted)
-    (st : Stands c (past_of p) (record { hosted = hs; recorded = Some (record { sent = sent_in p; lines = length (noted_in p) }) })) (i : ℕ) (what : Doing) where
+module _ (c : Cluster) (p : List Action) (hs : List Hosted) (st : Stands c (past_of p)
+    (record { hosted = hs; recorded = Some (record { sent = sent_in p; lines = length (noted_in p) }) })) (i : ℕ) (what : Doing) where
   abbrev Here : Course
   Here = record { hosted = hs; recorded = Some (record { sent = sent_in p; lines = length (noted_in p) }) }
 
@@ -112,17 +114,22 @@ module _ (c : Cluster) (p : List Action) (hs : List Hosted)
         let k : StoreChange = record { role = name_of h; change = For y } in
         let alone : Changes ≡ k ∷ [] = came.kept ∙ ap (λ o. changed_by (name_of h) (option_map For o)) is in
         let next = next_change c (past_of p) hs st i what h here fair y is k alone in
-        subst (λ ks. Along c p (map Kept ks)) (sym alone) (one_kept k (record { event = next.0; what = y; keeps = next.1; change_is = next.2 }))
+        subst (λ ks. Along c p (map Kept ks)) (sym alone)
+        (one_kept k (record { event = next.0; what = y; keeps = next.1; change_is = next.2 }))
 
-    step_along : Along c p (step_actions Changes (does h what).sends (events_text Events) (map Noted Events ++ map Answered (does h what).answers))
+    step_along : Along c p
+        (step_actions Changes (does h what).sends (events_text Events) (map Noted Events ++ map Answered (does h what).answers))
     step_along =
         let x = does h what in
         let q = p ++ map Kept Changes in
         let r = q ++ map Sent x.sends in
         let v = r ++ map Printed (events_text Events) in
-        along_append c p (map Kept Changes) (map Sent x.sends ++ (map Printed (events_text Events) ++ (map Noted Events ++ map Answered x.answers))) (kept_along came.what refl)
-        (along_append c q (map Sent x.sends) (map Printed (events_text Events) ++ (map Noted Events ++ map Answered x.answers)) (within Sent (λ b. refl) (λ b. refl) c q x.sends)
-        (along_append c r (map Printed (events_text Events)) (map Noted Events ++ map Answered x.answers) (within Printed (λ b. refl) (λ b. refl) c r (events_text Events))
+        along_append c p (map Kept Changes)
+        (map Sent x.sends ++ (map Printed (events_text Events) ++ (map Noted Events ++ map Answered x.answers))) (kept_along came.what refl)
+        (along_append c q (map Sent x.sends) (map Printed (events_text Events) ++ (map Noted Events ++ map Answered x.answers))
+        (within Sent (λ b. refl) (λ b. refl) c q x.sends)
+        (along_append c r (map Printed (events_text Events)) (map Noted Events ++ map Answered x.answers)
+        (within Printed (λ b. refl) (λ b. refl) c r (events_text Events))
         (along_append c v (map Noted Events) (map Answered x.answers) (within Noted (λ b. refl) (λ b. refl) c v Events)
         (within Answered (λ b. refl) (λ b. refl) c (v ++ map Noted Events) x.answers))))
 
@@ -141,14 +148,16 @@ module _ (c : Cluster) (p : List Action) (hs : List Hosted)
       subst (λ t. Stands c t Here) (sym (past_same p Filled refl refl refl refl)) st,
     )
 
-    fit_goes : (b : Bool) → nat_le (length (noted_in p) + length Events) most_lines ≡ b → Goes self c p (made_if b i Here Events (does h what))
+    fit_goes : (b : Bool) → nat_le (length (noted_in p) + length Events) most_lines ≡ b
+        → Goes self c p (made_if b i Here Events (does h what))
     fit_goes true is = made_goes (at_most (length (noted_in p) + length Events) is)
       where
         at_most : (n : ℕ) → nat_le n most_lines ≡ true → n ≤ most_lines
         at_most n is = grind (arith, nat_tests)
     fit_goes false is = full_goes
 
-  found_goes : ((h : Hosted) → slice_get hs i ≡ Some h → IsFair (run c (noted_in p)) (name_of h) what) → (o : Option Hosted) → slice_get hs i ≡ o → Goes self c p (found_does i Here what o)
+  found_goes : ((h : Hosted) → slice_get hs i ≡ Some h → IsFair (run c (noted_in p)) (name_of h) what) → (o : Option Hosted)
+      → slice_get hs i ≡ o → Goes self c p (found_does i Here what o)
   found_goes fair None here = stays_go self c p Here st
   found_goes fair (Some h) here = fit_goes h here (fair h here) (nat_le (length (noted_in p) + length (step_events h what)) most_lines) refl
 
@@ -159,14 +168,16 @@ unfolding does_at
 does_go c p s i what st fair =
     let here : Course = record { hosted = s.hosted; recorded = Some (record { sent = sent_in p; lines = length (noted_in p) }) } in
     let same : s ≡ here = ap (λ (r : Option Recorded). course s.hosted r) st.recorded in
-    subst (λ x. Goes self c p (found_does i x what (slice_get s.hosted i))) (sym same) (found_goes c p s.hosted (subst (Stands c (past_of p)) same st) i what fair (slice_get s.hosted i) refl)
+    subst (λ x. Goes self c p (found_does i x what (slice_get s.hosted i))) (sym same)
+    (found_goes c p s.hosted (subst (Stands c (past_of p)) same st) i what fair (slice_get s.hosted i) refl)
   where
     course : List Hosted → Option Recorded → Course
     course hs r = record { hosted = hs; recorded = r }
 
 -- ---- the whole run
 
-pub follows_between : (c : Cluster) (p q : List Action) → Along c p q → Follows c (p ++ q) → (count : ℕ) → is_between (slice_get q count) ≡ true → Follows c (p ++ take count q)
+pub follows_between : (c : Cluster) (p q : List Action) → Along c p q → Follows c (p ++ q) → (count : ℕ)
+    → is_between (slice_get q count) ≡ true → Follows c (p ++ take count q)
 follows_between c p [] a end zero is = end
 follows_between c p [] a end (suc n) is = end
 follows_between c p (x ∷ q) a end zero is = subst (Follows c) (sym (append-nil p)) (a.0 is)
@@ -174,7 +185,9 @@ follows_between c p (x ∷ q) a end (suc n) is =
     subst (Follows c) (append_assoc p (x ∷ []) (take n q))
     (follows_between c (p ++ x ∷ []) q a.2 (subst (Follows c) (sym (append_assoc p (x ∷ []) q)) end) n is)
 
-pub keeps_next : (c : Cluster) (p q : List Action) → Along c p q → (count : ℕ) (k : StoreChange) → slice_get q count ≡ Some (Kept k) → IsNextOf c (p ++ take count q) k
+pub keeps_next : (c : Cluster) (p q : List Action) → Along c p q → (count : ℕ) (k : StoreChange) → slice_get q count ≡ Some (Kept k)
+    → IsNextOf c (p ++ take count q) k
 keeps_next c p [] a count k is = absurd (none-some (Kept k) is)
 keeps_next c p (x ∷ q) a zero k is = subst (λ l. IsNextOf c l k) (sym (append-nil p)) (a.1 k (same_Some x (Kept k) is))
-keeps_next c p (x ∷ q) a (suc n) k is = subst (λ l. IsNextOf c l k) (append_assoc p (x ∷ []) (take n q)) (keeps_next c (p ++ x ∷ []) q a.2 n k is)
+keeps_next c p (x ∷ q) a (suc n) k is =
+    subst (λ l. IsNextOf c l k) (append_assoc p (x ∷ []) (take n q)) (keeps_next c (p ++ x ∷ []) q a.2 n k is)

@@ -38,11 +38,14 @@ step_is w e ch is = ap (world_after w e) is
 
 -- a request of this client is from it, so from a role of the cluster
 from_it : (n : ℕ) (e : Event) (t : Token) → token_of e ≡ Some t → (d : Letter) → Member d (request n e) → d.from ≡ role kind.Client t.client
-from_it n (event.Write command batcher) t is d (inl new) = ap (λ (x : Letter). x.from) new ∙ ap (λ (u : Token). role kind.Client u.client) (same_Some _ _ is)
+from_it n (event.Write command batcher) t is d (inl new) =
+    ap (λ (x : Letter). x.from) new ∙ ap (λ (u : Token). role kind.Client u.client) (same_Some _ _ is)
 from_it n (event.Write command batcher) t is d (inr never) = absurd never
-from_it n (event.Read client seq floor reader replica key) t is d (inl new) = ap (λ (x : Letter). x.from) new ∙ ap (λ (u : Token). role kind.Client u.client) (same_Some _ _ is)
+from_it n (event.Read client seq floor reader replica key) t is d (inl new) =
+    ap (λ (x : Letter). x.from) new ∙ ap (λ (u : Token). role kind.Client u.client) (same_Some _ _ is)
 from_it n (event.Read client seq floor reader replica key) t is d (inr never) = absurd never
-from_it n (event.Session client seq floor replica key) t is d (inl new) = ap (λ (x : Letter). x.from) new ∙ ap (λ (u : Token). role kind.Client u.client) (same_Some _ _ is)
+from_it n (event.Session client seq floor replica key) t is d (inl new) =
+    ap (λ (x : Letter). x.from) new ∙ ap (λ (u : Token). role kind.Client u.client) (same_Some _ _ is)
 from_it n (event.Session client seq floor replica key) t is d (inr never) = absurd never
 from_it n other t is d m = absurd m
 
@@ -52,7 +55,13 @@ module _ (w : World) (s : ClientState) (is : IsAsker w s) (traced : IsTraced w) 
   Request = Out w s is o e here
 
   abbrev Goes : Change
-  Goes = record { who = Some (role kind.Client s.me.index); why = why.Sent; roles = w.roles; kept = []; sends = request (heard_by s.me.index w.sent w.events) Request }
+  Goes = record {
+    who = Some (role kind.Client s.me.index);
+    why = why.Sent;
+    roles = w.roles;
+    kept = [];
+    sends = request (heard_by s.me.index w.sent w.events) Request;
+  }
 
   asks_so : ask w Request (token_of Request) ≡ Goes
   asks_so = rw (its_token w s is o e here, not_stale w s is o e here) refl
@@ -113,18 +122,25 @@ module _ (w : World) (s : ClientState) (is : IsAsker w s) (traced : IsTraced w) 
     where
       other : (h : Happened) (t : Token) → h ≡ New → token_of h.event ≡ Some t → t.client ≡ index → index ≡ s.me.index
       other h t new token mine =
-          let same : t ≡ Mine w s is o e here = same_Some _ _ (sym token ∙ ap (λ (x : Happened). token_of x.event) new ∙ its_token w s is o e here) in
+          let same : t ≡ Mine w s is o e here =
+          same_Some _ _ (sym token ∙ ap (λ (x : Happened). token_of x.event) new ∙ its_token w s is o e here) in
           sym mine ∙ ap (λ (x : Token). x.client) same
 
   traced_so : IsTraced Asked
   traced_so = traced_behind w Request Goes traced (λ n cut never is. absurd (true≢false (sym never)))
-      (λ d m. ap (names_role w.cluster) (from_it (heard_by s.me.index w.sent w.events) Request (Mine w s is o e here) (its_token w s is o e here) d m ∙ sym is.client.me) ∙ is.named)
+      (λ d m. ap (names_role w.cluster) (from_it (heard_by s.me.index w.sent w.events) Request (Mine w s is o e here)
+      (its_token w s is o e here) d m ∙ sym is.client.me) ∙ is.named)
 
   pub goes_out : Sends w (step w Request) s (request s.heard Request) × IsAsker (step w Request) s × IsTraced (step w Request)
   goes_out =
       let behind = step_is w Request Goes changes_so in (
-        subst (λ x. Sends w x s (request s.heard Request)) (sym behind)
-            (record { cluster = refl; roles = refl; kept = append-nil w.kept; sent = ap (λ (n : ℕ). w.sent ++ request n Request) (sym is.heard); others = spared }),
+        subst (λ x. Sends w x s (request s.heard Request)) (sym behind) (record {
+          cluster = refl;
+          roles = refl;
+          kept = append-nil w.kept;
+          sent = ap (λ (n : ℕ). w.sent ++ request n Request) (sym is.heard);
+          others = spared;
+        }),
         subst (λ x. IsAsker x s) (sym behind) asker_behind,
         subst IsTraced (sym behind) traced_so,
       )
@@ -140,7 +156,8 @@ nothing_sends w s = record {
 }
 
 -- one thing after another
-pub sends_on : (w mid after : World) (s : ClientState) (sends rest : List Letter) → Sends w mid s sends → Sends mid after s rest → Sends w after s (sends ++ rest)
+pub sends_on : (w mid after : World) (s : ClientState) (sends rest : List Letter) → Sends w mid s sends → Sends mid after s rest
+    → Sends w after s (sends ++ rest)
 sends_on w mid after s sends rest one two = record {
   cluster = two.cluster ∙ one.cluster;
   roles = two.roles ∙ one.roles;
@@ -156,8 +173,10 @@ sends_on w mid after s sends rest one two = record {
 }
 
 -- lines that are left go out, perhaps to others, one after the other
-pub all_go_out : (w : World) (s : ClientState) → IsAsker w s → IsTraced w → (o : Option ℕ) (es : List Event) → ((e : Event) → Member e es → Member e (left s))
-    → Sends w (run_from w (map (event_with_floor (floor_for (left s))) (map (shifted s.cluster o) es))) s (request_letters s.heard (floor_for (left s)) (map (shifted s.cluster o) es))
+pub all_go_out : (w : World) (s : ClientState) → IsAsker w s → IsTraced w → (o : Option ℕ) (es : List Event)
+    → ((e : Event) → Member e es → Member e (left s))
+    → Sends w (run_from w (map (event_with_floor (floor_for (left s))) (map (shifted s.cluster o) es))) s
+    (request_letters s.heard (floor_for (left s)) (map (shifted s.cluster o) es))
     × IsAsker (run_from w (map (event_with_floor (floor_for (left s))) (map (shifted s.cluster o) es))) s
     × IsTraced (run_from w (map (event_with_floor (floor_for (left s))) (map (shifted s.cluster o) es)))
 all_go_out w s is traced o [] here = (nothing_sends w s, is, traced)
@@ -165,5 +184,9 @@ all_go_out w s is traced o (e ∷ es) here =
     let one = goes_out w s is traced o e (here e (inl refl)) in
     let first = sent_as s.cluster o (floor_for (left s)) e in
     let rest = all_go_out (step w first) s one.1 one.2 o es (λ x m. here x (inr m)) in
-    let after = run_from w (map (event_with_floor (floor_for (left s))) (map (shifted s.cluster o) (e ∷ es))) in
-    (sends_on w (step w first) after s (request s.heard first) (request_letters s.heard (floor_for (left s)) (map (shifted s.cluster o) es)) one.0 rest.0, rest.1, rest.2)
+    let after = run_from w (map (event_with_floor (floor_for (left s))) (map (shifted s.cluster o) (e ∷ es))) in (
+      sends_on w (step w first) after s (request s.heard first)
+          (request_letters s.heard (floor_for (left s)) (map (shifted s.cluster o) es)) one.0 rest.0,
+      rest.1,
+      rest.2,
+    )

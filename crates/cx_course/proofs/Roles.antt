@@ -1,5 +1,6 @@
 -- One step of a role of the protocol, beside the one event that is recorded of it.
-use Rattle.std.proofs.Common.{◌≡◌, ◌==◌, ◌&&◌, ℕ, true, false, List, [], ◌∷◌, ◌++◌, Option, None, Some, option_map, ap, sym, ◌∙◌, subst, refl}
+use Rattle.std.proofs.Common.{◌≡◌, ◌==◌, ◌&&◌, ℕ, true, false, List, [], ◌∷◌, ◌++◌, Option, None, Some, option_map, ap, sym, ◌∙◌, subst}
+use Rattle.std.proofs.Common.{refl}
 use Rattle.std.proofs.lemmas.Bool.{true≢false}
 use Rattle.std.proofs.lemmas.Option.{none-some}
 use Rattle.cx_base.specs.declared.cluster.Cluster.{Cluster}
@@ -12,8 +13,10 @@ use Rattle.cx_base.specs.declared.why.Why.TheVariants as why
 use Rattle.cx_base.specs.Role.{code_of}
 use Rattle.cx_inv_open.specs.Reopened.{stored_as}
 use Rattle.cx_inv_run.specs.Kinds.{OfKind}
-use Rattle.cx_inv_run.specs.States.{State, BatcherIn, LeaderIn, ProxyIn, ReplicaIn, ReaderIn, ReplacerIn, plain, plain_volatile, batcher_volatile, leader_volatile, proxy_volatile, replica_volatile, reader_volatile, replacer_volatile}
-use Rattle.cx_inv_run.proofs.Senders.{acceptor_kinds, batcher_kinds, matchmaker_kinds, proxy_kinds, reader_kinds, replica_kinds, unbatcher_kinds}
+use Rattle.cx_inv_run.specs.States.{State, BatcherIn, LeaderIn, ProxyIn, ReplicaIn, ReaderIn, ReplacerIn, plain, plain_volatile}
+use Rattle.cx_inv_run.specs.States.{batcher_volatile, leader_volatile, proxy_volatile, replica_volatile, reader_volatile, replacer_volatile}
+use Rattle.cx_inv_run.proofs.Senders.{acceptor_kinds, batcher_kinds, matchmaker_kinds, proxy_kinds, reader_kinds, replica_kinds}
+use Rattle.cx_inv_run.proofs.Senders.{unbatcher_kinds}
 use Rattle.cx_inv_run.proofs.LeaderSenders.{leader_kinds, replacer_kinds}
 use Rattle.cx_keep.specs.Keeper.{Append, KeeperChange, Renewal}
 use Rattle.cx_model.specs.Acceptor.{acceptor_rules}
@@ -45,7 +48,8 @@ use Rattle.cx_course.specs.declared.doing.Doing.{Doing}
 use Rattle.cx_course.specs.declared.doing.Doing.TheVariants.{Begin, Give, Snap}
 use Rattle.cx_course.specs.Changing.{StoreChange, change_for, changed_by}
 use Rattle.cx_course.specs.Course.{is_a}
-use Rattle.cx_course.specs.Hosted.{Hosted, ClientAt, BatcherAt, LeaderAt, ProxyAt, AcceptorAt, MatchmakerAt, ReplicaAt, UnbatcherAt, ReaderAt, ReplacerAt, Step, by_row, by_snap, does, given, kind_at, name_of, snap_of}
+use Rattle.cx_course.specs.Hosted.{Hosted, ClientAt, BatcherAt, LeaderAt, ProxyAt, AcceptorAt, MatchmakerAt, ReplicaAt, UnbatcherAt}
+use Rattle.cx_course.specs.Hosted.{ReaderAt, ReplacerAt, Step, by_row, by_snap, does, given, kind_at, name_of, snap_of}
 use Rattle.cx_course.specs.Run.{is_client}
 use Rattle.cx_course.proofs.Alike.{IsAlike, IsRole, Moves}
 use Rattle.cx_course.proofs.Asker.{IsTraced}
@@ -70,7 +74,8 @@ pub record Lands (w : World) (events : List Event) (me : RoleId) (x : Step) : Ty
 
 -- ---- the list in the store
 
-folded_append : {D V : Type 0} (rules : Rules D V) (d : D) (rs ss : List Record) → folded_from rules d (rs ++ ss) ≡ folded_from rules (folded_from rules d rs) ss
+folded_append : {D V : Type 0} (rules : Rules D V) (d : D) (rs ss : List Record)
+    → folded_from rules d (rs ++ ss) ≡ folded_from rules (folded_from rules d rs) ss
 folded_append rules d [] ss = refl
 folded_append rules d (r ∷ rs) ss = folded_append rules (rules.after d r) rs ss
 
@@ -91,9 +96,12 @@ may_keep k (Some r) other = other
 
 -- ---- by the rules of its kind
 
--- What holds of the list of each kind by its rules holds of the list in every role's store. A client has none, and only a replica's is put anew.
-pub stored_by : (P : (List KeptRecord → List Record) → Type 0) (me : RoleId) (k : Kind) → (k ≡ kind.Client → P (λ kept. [])) → P (list_of replica_rules me)
-    → ((D V : Type 0) (rules : Rules D V) → ((d : D) (first : ℕ) → rules.renewed d first ≡ []) → P (list_of rules me)) → P (λ kept. stored_as me kept k)
+-- What holds of the list of each kind by its rules holds of the list in every role's store. A client has none, and only a replica's is put
+-- anew.
+pub stored_by : (P : (List KeptRecord → List Record) → Type 0) (me : RoleId) (k : Kind) → (k ≡ kind.Client → P (λ kept. []))
+    → P (list_of replica_rules me)
+    → ((D V : Type 0) (rules : Rules D V) → ((d : D) (first : ℕ) → rules.renewed d first ≡ []) → P (list_of rules me))
+    → P (λ kept. stored_as me kept k)
 stored_by P me kind.Client none replica others = none refl
 stored_by P me kind.Replica none replica others = replica
 stored_by P me kind.Batcher none replica others = others _ _ batcher_rules (λ d first. refl)
@@ -106,8 +114,10 @@ stored_by P me kind.Reader none replica others = others _ _ reader_rules (λ d f
 stored_by P me kind.Replacer none replica others = others _ _ replacer_rules (λ d first. refl)
 
 -- What holds of the turns of each kind by its rules holds of the acts at every role. A client hears whatever it is given.
-pub acts_by : (P : (Act → Change) → Type 0) (c : Cluster) (roles : RoleId → State) (kept : List KeptRecord) (me : RoleId) (k : Kind) → P (λ a. nothing (Some me) roles why.Heard)
-    → ((D V : Type 0) (rules : Rules D V) (make : V → State) (running : Option V) → P (λ a. turned rules make c roles kept a me running)) → P (λ a. act_of c roles kept a me k)
+pub acts_by : (P : (Act → Change) → Type 0) (c : Cluster) (roles : RoleId → State) (kept : List KeptRecord) (me : RoleId) (k : Kind)
+    → P (λ a. nothing (Some me) roles why.Heard)
+    → ((D V : Type 0) (rules : Rules D V) (make : V → State) (running : Option V) → P (λ a. turned rules make c roles kept a me running))
+    → P (λ a. act_of c roles kept a me k)
 acts_by P c roles kept me kind.Client heard turns = heard
 acts_by P c roles kept me kind.Batcher heard turns = turns _ _ batcher_rules BatcherIn (batcher_volatile (roles me))
 acts_by P c roles kept me kind.Leader heard turns = turns _ _ leader_rules LeaderIn (leader_volatile (roles me))
@@ -153,7 +163,8 @@ given_changes (ReplacerAt s) i = changes_row (ReplacerAt s) (outcome_of replacer
 pub does_change : (h : Hosted) (what : Doing) → ChangesOwn h (does h what).kept
 unfolding does
 does_change h (Give n i) = given_changes h i
-does_change (ReplicaAt s) Snap = record { change = option_map (λ b. Renewal (replica_renewed s.durable b)) (snap_of s); is = refl; renewal = λ records e. refl }
+does_change (ReplicaAt s) Snap =
+    record { change = option_map (λ b. Renewal (replica_renewed s.durable b)) (snap_of s); is = refl; renewal = λ records e. refl }
 does_change (ClientAt s) Begin = changes_none (ClientAt s)
 does_change other Begin = changes_none other
 does_change other Snap = changes_none other
@@ -164,7 +175,8 @@ pub is_no : (k j : Kind) (me : RoleId) → me.kind ≡ j → (code_of j == code_
 is_no k j me is other = ap (λ i. (code_of i == code_of k) && (me.index == me.index)) is ∙ ap (λ b. b && (me.index == me.index)) other
 
 pub is_one : (k : Kind) (me : RoleId) → me.kind ≡ k → is_a k me ≡ true
-is_one k me is = ap (λ i. (code_of i == code_of k) && (me.index == me.index)) is ∙ ap (λ b. b && (me.index == me.index)) (number_itself (code_of k)) ∙ number_itself me.index
+is_one k me is = ap (λ i. (code_of i == code_of k) && (me.index == me.index)) is
+    ∙ ap (λ b. b && (me.index == me.index)) (number_itself (code_of k)) ∙ number_itself me.index
 
 pub no_client : (me : RoleId) → is_a kind.Client me ≡ false → me.kind ≡ kind.Client → ⊥
 no_client me off client = true≢false (sym (is_one kind.Client me client) ∙ off)
@@ -175,13 +187,16 @@ pub record IsAct (w : World) (e : Event) (a : Act) (me : RoleId) : Type 0 where
   pub plain : IsPlain w e
 
 module _ {D V : Type 0} (rules : Rules D V) (make : V → State) (get : State → Option V) (got : (v : V) → get (make v) ≡ Some v)
-    (acts : (c : Cluster) (roles : RoleId → State) (kept : List KeptRecord) (a : Act) (me : RoleId) → act_of c roles kept a me rules.kind ≡ turned rules make c roles kept a me (get (roles me)))
-    (wrap : Running D V → Hosted) (alike : (w : World) (s : Running D V) → IsRole rules make w s → IsAlike w (wrap s)) (name : (s : Running D V) → name_of (wrap s) ≡ s.me) where
-  row_lands : (w : World) (s : Running D V) (i : Input) (e : Event) → is_a kind.Client s.me ≡ false → IsTraced w → IsRole rules make w s → IsAct w e (act.Give i Whole) s.me → OfKind s.me (outcome_of rules s i)
-      → Lands w (e ∷ []) s.me (by_row rules wrap s i)
+    (acts : (c : Cluster) (roles : RoleId → State) (kept : List KeptRecord) (a : Act) (me : RoleId)
+    → act_of c roles kept a me rules.kind ≡ turned rules make c roles kept a me (get (roles me)))
+    (wrap : Running D V → Hosted) (alike : (w : World) (s : Running D V) → IsRole rules make w s → IsAlike w (wrap s))
+    (name : (s : Running D V) → name_of (wrap s) ≡ s.me) where
+  row_lands : (w : World) (s : Running D V) (i : Input) (e : Event) → is_a kind.Client s.me ≡ false → IsTraced w → IsRole rules make w s
+      → IsAct w e (act.Give i Whole) s.me → OfKind s.me (outcome_of rules s i) → Lands w (e ∷ []) s.me (by_row rules wrap s i)
   row_lands w s i e off traced is this kinds =
       let o = outcome_of rules s i in
-      let m = act_moves rules make get got acts w traced s is (act.Give i Whole) (made_by o) (whole_kept o o.kept) e this.plain (λ d m. (kinds.sends d m).0) this.change in
+      let m = act_moves rules make get got acts w traced s is (act.Give i Whole) (made_by o) (whole_kept o o.kept) e this.plain
+      (λ d m. (kinds.sends d m).0) this.change in
       record {
         what = option_map written.Record o.kept;
         moves = m.0;
@@ -189,7 +204,8 @@ module _ {D V : Type 0} (rules : Rules D V) (make : V → State) (get : State �
           cluster = is.cluster ∙ sym m.0.cluster;
           kind_is = is.kind_is;
           named = subst (λ c. names_role c s.me ≡ true) (sym m.0.cluster) is.named;
-          durable = ap (λ (d : D). with_kept rules d o.kept) is.durable ∙ sym (ap (λ l. durable_part rules s.me l) m.0.kept ∙ durable_kept rules s.me w.kept o.kept);
+          durable = ap (λ (d : D). with_kept rules d o.kept) is.durable
+              ∙ sym (ap (λ l. durable_part rules s.me l) m.0.kept ∙ durable_kept rules s.me w.kept o.kept);
           volatile = m.1;
         });
         name = name (running_after rules s o);
@@ -200,27 +216,31 @@ module _ {D V : Type 0} (rules : Rules D V) (make : V → State) (get : State �
       }
 
 -- a role of the protocol is given something
-pub role_lands : (w : World) (h : Hosted) (i : Input) (e : Event) → is_client h ≡ false → IsTraced w → IsAlike w h → IsAct w e (act.Give i Whole) (name_of h)
-    → Lands w (e ∷ []) (name_of h) (given h i)
+pub role_lands : (w : World) (h : Hosted) (i : Input) (e : Event) → is_client h ≡ false → IsTraced w → IsAlike w h
+    → IsAct w e (act.Give i Whole) (name_of h) → Lands w (e ∷ []) (name_of h) (given h i)
 role_lands w (ClientAt s) i e off traced is this = absurd (no_client s.me off (ap (λ (a : RoleId). a.kind) is.client.me))
 role_lands w (BatcherAt s) i e off traced is this =
-    row_lands batcher_rules BatcherIn batcher_volatile (λ v. refl) (λ c roles kept a me. refl) BatcherAt (λ w s is. is) (λ s. refl) w s i e off traced is this (batcher_kinds s.cluster s.me is.kind_is s.volatile i)
-role_lands w (LeaderAt s) i e off traced is this =
-    row_lands leader_rules LeaderIn leader_volatile (λ v. refl) (λ c roles kept a me. refl) LeaderAt (λ w s is. is) (λ s. refl) w s i e off traced is this (leader_kinds s.cluster s.me is.kind_is s.durable s.volatile i)
-role_lands w (ProxyAt s) i e off traced is this =
-    row_lands proxy_rules ProxyIn proxy_volatile (λ v. refl) (λ c roles kept a me. refl) ProxyAt (λ w s is. is) (λ s. refl) w s i e off traced is this (proxy_kinds s.cluster s.me is.kind_is s.volatile i)
-role_lands w (AcceptorAt s) i e off traced is this =
-    row_lands acceptor_rules plain plain_volatile (λ v. refl) (λ c roles kept a me. refl) AcceptorAt (λ w s is. is) (λ s. refl) w s i e off traced is this (acceptor_kinds s.cluster s.me is.kind_is s.durable i)
+    row_lands batcher_rules BatcherIn batcher_volatile (λ v. refl) (λ c roles kept a me. refl) BatcherAt (λ w s is. is) (λ s. refl) w s i e
+    off traced is this (batcher_kinds s.cluster s.me is.kind_is s.volatile i)
+role_lands w (LeaderAt s) i e off traced is this = row_lands leader_rules LeaderIn leader_volatile (λ v. refl) (λ c roles kept a me. refl)
+    LeaderAt (λ w s is. is) (λ s. refl) w s i e off traced is this (leader_kinds s.cluster s.me is.kind_is s.durable s.volatile i)
+role_lands w (ProxyAt s) i e off traced is this = row_lands proxy_rules ProxyIn proxy_volatile (λ v. refl) (λ c roles kept a me. refl)
+    ProxyAt (λ w s is. is) (λ s. refl) w s i e off traced is this (proxy_kinds s.cluster s.me is.kind_is s.volatile i)
+role_lands w (AcceptorAt s) i e off traced is this = row_lands acceptor_rules plain plain_volatile (λ v. refl) (λ c roles kept a me. refl)
+    AcceptorAt (λ w s is. is) (λ s. refl) w s i e off traced is this (acceptor_kinds s.cluster s.me is.kind_is s.durable i)
 role_lands w (MatchmakerAt s) i e off traced is this =
-    row_lands matchmaker_rules plain plain_volatile (λ v. refl) (λ c roles kept a me. refl) MatchmakerAt (λ w s is. is) (λ s. refl) w s i e off traced is this (matchmaker_kinds s.cluster s.me is.kind_is s.durable i)
+    row_lands matchmaker_rules plain plain_volatile (λ v. refl) (λ c roles kept a me. refl) MatchmakerAt (λ w s is. is) (λ s. refl) w s i e
+    off traced is this (matchmaker_kinds s.cluster s.me is.kind_is s.durable i)
 role_lands w (ReplicaAt s) i e off traced is this =
-    row_lands replica_rules ReplicaIn replica_volatile (λ v. refl) (λ c roles kept a me. refl) ReplicaAt (λ w s is. is) (λ s. refl) w s i e off traced is this (replica_kinds s.cluster s.me is.kind_is s.durable s.volatile i)
-role_lands w (UnbatcherAt s) i e off traced is this =
-    row_lands unbatcher_rules plain plain_volatile (λ v. refl) (λ c roles kept a me. refl) UnbatcherAt (λ w s is. is) (λ s. refl) w s i e off traced is this (unbatcher_kinds s.cluster s.me is.kind_is i)
-role_lands w (ReaderAt s) i e off traced is this =
-    row_lands reader_rules ReaderIn reader_volatile (λ v. refl) (λ c roles kept a me. refl) ReaderAt (λ w s is. is) (λ s. refl) w s i e off traced is this (reader_kinds s.cluster s.me is.kind_is s.durable s.volatile i)
+    row_lands replica_rules ReplicaIn replica_volatile (λ v. refl) (λ c roles kept a me. refl) ReplicaAt (λ w s is. is) (λ s. refl) w s i e
+    off traced is this (replica_kinds s.cluster s.me is.kind_is s.durable s.volatile i)
+role_lands w (UnbatcherAt s) i e off traced is this = row_lands unbatcher_rules plain plain_volatile (λ v. refl) (λ c roles kept a me. refl)
+    UnbatcherAt (λ w s is. is) (λ s. refl) w s i e off traced is this (unbatcher_kinds s.cluster s.me is.kind_is i)
+role_lands w (ReaderAt s) i e off traced is this = row_lands reader_rules ReaderIn reader_volatile (λ v. refl) (λ c roles kept a me. refl)
+    ReaderAt (λ w s is. is) (λ s. refl) w s i e off traced is this (reader_kinds s.cluster s.me is.kind_is s.durable s.volatile i)
 role_lands w (ReplacerAt s) i e off traced is this =
-    row_lands replacer_rules ReplacerIn replacer_volatile (λ v. refl) (λ c roles kept a me. refl) ReplacerAt (λ w s is. is) (λ s. refl) w s i e off traced is this (replacer_kinds s.cluster s.me is.kind_is s.durable s.volatile i)
+    row_lands replacer_rules ReplacerIn replacer_volatile (λ v. refl) (λ c roles kept a me. refl) ReplacerAt (λ w s is. is) (λ s. refl) w s
+    i e off traced is this (replacer_kinds s.cluster s.me is.kind_is s.durable s.volatile i)
 
 -- ---- a snap
 
@@ -229,7 +249,8 @@ module _ (w : World) (s : Running ReplicaDurable ReplicaVolatile) (traced : IsTr
   stored_so = ap (λ k. stored_as s.me w.kept k) is.kind_is
 
   renewed : (list : List Record) → stored_as s.me w.kept s.me.kind ≡ list → s.durable ≡ folded replica_rules list → (first : Option ℕ)
-      → option_map (λ b. Renewal (replica_renewed s.durable b)) first ≡ option_map (change_for (stored_as s.me w.kept s.me.kind)) (option_map written.Snap first)
+      → option_map (λ b. Renewal (replica_renewed s.durable b)) first
+      ≡ option_map (change_for (stored_as s.me w.kept s.me.kind)) (option_map written.Snap first)
   renewed list stored durable None = refl
   renewed list stored durable (Some b) =
       ap (λ d. Some (Renewal (replica_renewed d b))) (durable ∙ sym (ap (folded replica_rules) stored))
@@ -239,16 +260,18 @@ module _ (w : World) (s : Running ReplicaDurable ReplicaVolatile) (traced : IsTr
   may_snap (Some b) = is.kind_is
 
   -- the durable part, and the rest, once this was forgotten
-  durable_snap : (first : Option ℕ) → (snapped_by replica_rules s first).durable ≡ durable_part replica_rules s.me (w.kept ++ kept_by s.me (option_map written.Snap first))
+  durable_snap : (first : Option ℕ) → (snapped_by replica_rules s first).durable
+      ≡ durable_part replica_rules s.me (w.kept ++ kept_by s.me (option_map written.Snap first))
   durable_snap None = is.durable ∙ sym (ap (folded replica_rules) (list_own replica_rules s.me w.kept None))
-  durable_snap (Some b) =
-      ap (λ d. folded replica_rules (replica_renewed d b)) is.durable ∙ sym (ap (folded replica_rules) (list_own replica_rules s.me w.kept (Some (written.Snap b))))
+  durable_snap (Some b) = ap (λ d. folded replica_rules (replica_renewed d b)) is.durable
+      ∙ sym (ap (folded replica_rules) (list_own replica_rules s.me w.kept (Some (written.Snap b))))
 
   name_snap : (first : Option ℕ) → (snapped_by replica_rules s first).me ≡ s.me
   name_snap None = refl
   name_snap (Some b) = refl
 
-  snapped_alike : (after : World) (first : Option ℕ) → after.cluster ≡ w.cluster → after.kept ≡ w.kept ++ kept_by s.me (option_map written.Snap first)
+  snapped_alike : (after : World) (first : Option ℕ) → after.cluster ≡ w.cluster
+      → after.kept ≡ w.kept ++ kept_by s.me (option_map written.Snap first)
       → after.roles s.me ≡ ReplicaIn s.volatile → IsRole replica_rules ReplicaIn after (snapped_by replica_rules s first)
   snapped_alike after None cluster kept state = record {
     cluster = is.cluster ∙ sym cluster;
@@ -268,8 +291,8 @@ module _ (w : World) (s : Running ReplicaDurable ReplicaVolatile) (traced : IsTr
   pub snap_lands : (e : Event) → IsAct w e (act.Snap Whole) s.me → Lands w (e ∷ []) s.me (by_snap s (snap_of s))
   snap_lands e this =
       let first = snap_of s in
-      let m = act_moves replica_rules ReplicaIn replica_volatile (λ v. refl) (λ c roles kept a me. refl) w traced s is (act.Snap Whole) (made_snap s.volatile first) (whole_snap s.volatile first) e
-      this.plain (λ d m. absurd m) this.change in
+      let m = act_moves replica_rules ReplicaIn replica_volatile (λ v. refl) (λ c roles kept a me. refl) w traced s is (act.Snap Whole)
+      (made_snap s.volatile first) (whole_snap s.volatile first) e this.plain (λ d m. absurd m) this.change in
       record {
         what = option_map written.Snap first;
         moves = m.0;

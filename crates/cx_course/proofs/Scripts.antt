@@ -1,5 +1,6 @@
 -- What is known of the requests of a script, and why none of them is stale.
-use Rattle.std.proofs.Common.{◌≡◌, ◌≤◌, ◌<◌, ◌==◌, ◌&&◌, ◌||◌, not, nat_le, ℕ, zero, suc, Bool, true, false, List, [], ◌∷◌, drop, Option, None, Some, ap, sym, ◌∙◌, subst, refl, inl, inr, arith}
+use Rattle.std.proofs.Common.{◌≡◌, ◌≤◌, ◌<◌, ◌==◌, ◌&&◌, ◌||◌, not, nat_le, ℕ, zero, suc, Bool, true, false, List, [], ◌∷◌, drop, Option}
+use Rattle.std.proofs.Common.{None, Some, ap, sym, ◌∙◌, subst, refl, inl, inr, arith}
 use Rattle.std.specs.List.{list_any}
 use Rattle.std.specs.Str.{bytes_eq}
 use Rattle.std.proofs.lemmas.Bool.{and_parts, and_from, cases_Bool, true≢false}
@@ -46,9 +47,11 @@ abbrev pub token_by : ℕ → ℕ → Token
 token_by client seq = record { client = client; seq = seq }
 
 -- a client's own request has its token
-pub own_token : (c : Cluster) (o : Option ℕ) (client floor : ℕ) (e : Event) → asks client e ≡ true → token_of (sent_as c o floor e) ≡ Some (token_by client (number_of e))
+pub own_token : (c : Cluster) (o : Option ℕ) (client floor : ℕ) (e : Event) → asks client e ≡ true
+    → token_of (sent_as c o floor e) ≡ Some (token_by client (number_of e))
 own_token c o client floor (event.Write command batcher) is = ap (λ n. Some (token_by n command.seq)) (same_number command.client client is)
-own_token c o client floor (event.Read other seq before reader replica key) is = ap (λ n. Some (token_by n seq)) (same_number other client is)
+own_token c o client floor (event.Read other seq before reader replica key) is =
+    ap (λ n. Some (token_by n seq)) (same_number other client is)
 own_token c o client floor (event.Session other seq before replica key) is = ap (λ n. Some (token_by n seq)) (same_number other client is)
 own_token c o client floor other is = cc
 
@@ -58,10 +61,14 @@ pub record IsLine (c : Cluster) (o : Option ℕ) (line : Event) (floor : ℕ) (t
   pub floor_is : floor_in (sent_as c o floor line) ≡ floor
   pub same : (other : ℕ) (p : Option ℕ) → same_request (sent_as c p other line) (sent_as c o floor line) ≡ true
 
-line_of : (c : Cluster) (o : Option ℕ) (line : Event) (floor : ℕ) (t : Token) → token_of (sent_as c o floor line) ≡ Some t → IsLine c o line floor t
-line_of c o (event.Write command batcher) floor t is = record { seq = ap (λ (u : Token). u.seq) (sym (same_Some _ _ is)); floor_is = refl; same = λ other p. op_itself command.op }
-line_of c o (event.Read client seq before reader replica key) floor t is = record { seq = ap (λ (u : Token). u.seq) (sym (same_Some _ _ is)); floor_is = refl; same = λ other p. bytes_itself key }
-line_of c o (event.Session client seq before replica key) floor t is = record { seq = ap (λ (u : Token). u.seq) (sym (same_Some _ _ is)); floor_is = refl; same = λ other p. bytes_itself key }
+line_of : (c : Cluster) (o : Option ℕ) (line : Event) (floor : ℕ) (t : Token) → token_of (sent_as c o floor line) ≡ Some t
+    → IsLine c o line floor t
+line_of c o (event.Write command batcher) floor t is =
+    record { seq = ap (λ (u : Token). u.seq) (sym (same_Some _ _ is)); floor_is = refl; same = λ other p. op_itself command.op }
+line_of c o (event.Read client seq before reader replica key) floor t is =
+    record { seq = ap (λ (u : Token). u.seq) (sym (same_Some _ _ is)); floor_is = refl; same = λ other p. bytes_itself key }
+line_of c o (event.Session client seq before replica key) floor t is =
+    record { seq = ap (λ (u : Token). u.seq) (sym (same_Some _ _ is)); floor_is = refl; same = λ other p. bytes_itself key }
 line_of c o other floor t is = absurd (none-some t is)
 
 -- it names what it named without the floor
@@ -70,14 +77,16 @@ names_telling c floor (event.Write command batcher) = refl
 names_telling c floor other = refl
 
 -- and is valid where the floor fits its number
-valid_telling : (c : Cluster) (o : Option ℕ) (floor : ℕ) (e : Event) → floor_fits (number_of e) floor ≡ true → is_valid_event (sent_as c o floor e) ≡ true
+valid_telling : (c : Cluster) (o : Option ℕ) (floor : ℕ) (e : Event) → floor_fits (number_of e) floor ≡ true
+    → is_valid_event (sent_as c o floor e) ≡ true
 valid_telling c o floor (event.Write command batcher) fits = fits
 valid_telling c o floor (event.Read client seq before reader replica key) fits = fits
 valid_telling c o floor (event.Session client seq before replica key) fits = fits
 valid_telling c o floor other fits = refl
 
 -- and can be recorded as the line can
-pub recordable_telling : (c : Cluster) (o : Option ℕ) (floor : ℕ) (e : Event) → IsRecordable c e → floor_fits (number_of e) floor ≡ true → IsRecordable c (sent_as c o floor e)
+pub recordable_telling : (c : Cluster) (o : Option ℕ) (floor : ℕ) (e : Event) → IsRecordable c e → floor_fits (number_of e) floor ≡ true
+    → IsRecordable c (sent_as c o floor e)
 recordable_telling c o floor e line fits = record {
   ranges = ranges e line.ranges;
   valid = valid_telling c o floor e fits;
@@ -114,7 +123,8 @@ token_same t (Some u) is =
     let both = and_parts (t.client == u.client) (t.seq == u.seq) is in
     (u, refl, sym (same_number t.client u.client both.0), sym (same_number t.seq u.seq both.1))
 
-token_past : (t : Token) (o : Option Token) (floor : ℕ) → is_past t o floor ≡ true → (u : Token) × (o ≡ Some u) × (u.client ≡ t.client) × (t.seq ≤ floor)
+token_past : (t : Token) (o : Option Token) (floor : ℕ) → is_past t o floor ≡ true
+    → (u : Token) × (o ≡ Some u) × (u.client ≡ t.client) × (t.seq ≤ floor)
 token_past t None floor is = cc
 token_past t (Some u) floor is =
     let both = and_parts (t.client == u.client) (nat_le t.seq floor) is in
@@ -142,23 +152,27 @@ module _ (w : World) (s : ClientState) (is : IsAsker w s) (o : Option ℕ) (e : 
   its_line = dropped s.done e s.script here
 
   -- an earlier request with its number asks the same
-  asks_same : (h : Happened) (u : Token) → Member h w.events → was_sent h ≡ true → token_of h.event ≡ Some u → u.client ≡ s.me.index → u.seq ≡ number_of e → same_request Out h.event ≡ true
+  asks_same : (h : Happened) (u : Token) → Member h w.events → was_sent h ≡ true → token_of h.event ≡ Some u → u.client ≡ s.me.index
+      → u.seq ≡ number_of e → same_request Out h.event ≡ true
   asks_same h u m sent token client seq =
       let told = is.asked h u m sent token client in
       let line = line_of s.cluster told.shift told.line told.floor u (ap token_of (sym told.is) ∙ token) in
       let same : told.line ≡ e = is.one_line told.line e told.own its_line (sym line.seq ∙ seq) in
-      ap (same_request Out) told.is
-      ∙ subst (λ (x : Event). same_request (sent_as s.cluster o (floor_for (left s)) x) (sent_as s.cluster told.shift told.floor told.line) ≡ true) same (line.same (floor_for (left s)) o)
+      ap (same_request Out) told.is ∙ subst (λ (x : Event). same_request (sent_as s.cluster o (floor_for (left s)) x)
+      (sent_as s.cluster told.shift told.floor told.line) ≡ true) same (line.same (floor_for (left s)) o)
 
   -- and each tells a floor below its number
-  tells_below : (h : Happened) (u : Token) → Member h w.events → was_sent h ≡ true → token_of h.event ≡ Some u → u.client ≡ s.me.index → floor_in h.event < number_of e
+  tells_below : (h : Happened) (u : Token) → Member h w.events → was_sent h ≡ true → token_of h.event ≡ Some u → u.client ≡ s.me.index
+      → floor_in h.event < number_of e
   tells_below h u m sent token client =
       let told = is.asked h u m sent token client in
       let line = line_of s.cluster told.shift told.line told.floor u (ap token_of (sym told.is) ∙ token) in
       subst (λ (n : ℕ). n < number_of e) (sym (ap floor_in told.is ∙ line.floor_is)) (told.below e here)
 
-  never_other : list_any (λ (h : Happened). was_sent h && same_token Mine (token_of h.event) && not (same_request Out h.event)) w.events ≡ false
-  never_other = none_any (λ (h : Happened). was_sent h && same_token Mine (token_of h.event) && not (same_request Out h.event)) w.events (λ h m t.
+  never_other : list_any (λ (h : Happened). was_sent h && same_token Mine (token_of h.event) && not (same_request Out h.event)) w.events
+      ≡ false
+  never_other =
+      none_any (λ (h : Happened). was_sent h && same_token Mine (token_of h.event) && not (same_request Out h.event)) w.events (λ h m t.
       let more = and_parts (was_sent h && same_token Mine (token_of h.event)) (not (same_request Out h.event)) t in
       let both = and_parts (was_sent h) (same_token Mine (token_of h.event)) more.0 in
       let u = token_same Mine (token_of h.event) both.1 in

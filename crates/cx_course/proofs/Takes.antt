@@ -1,5 +1,6 @@
 -- What a datagram does to a hosted client, beside its delivery in the model.
-use Rattle.std.proofs.Common.{◌≡◌, ◌+◌, ◌&&◌, ℕ, zero, suc, Bool, true, false, not, ◌⊎◌, List, [], ◌∷◌, ◌++◌, append_assoc, drop, filter, length, map, max, take, Option, None, Some, ap, sym, ◌∙◌, subst, refl, inl, inr, arith, append-nil, eqb-true}
+use Rattle.std.proofs.Common.{◌≡◌, ◌+◌, ◌&&◌, ℕ, zero, suc, Bool, true, false, not, ◌⊎◌, List, [], ◌∷◌, ◌++◌, append_assoc, drop, filter}
+use Rattle.std.proofs.Common.{length, map, max, take, Option, None, Some, ap, sym, ◌∙◌, subst, refl, inl, inr, arith, append-nil, eqb-true}
 use Rattle.std.specs.Prelude.{slice_get, if◌then◌else◌}
 use Rattle.std.proofs.lemmas.Bool.{cases_Bool}
 use Rattle.std.proofs.lemmas.List.{drop_at, length-take-le, length_push}
@@ -16,8 +17,10 @@ use Rattle.cx_base.specs.declared.why.Why.{Why}
 use Rattle.cx_base.specs.declared.why.Why.TheVariants as why
 use Rattle.cx_base.specs.Role.{role, same_role}
 use Rattle.cx_client.specs.Asking.{one_further, shifted}
-use Rattle.cx_client.specs.Client.{ClientMoved, ClientState, again, answer_number, client_completes, client_hears, client_takes, client_ticks, client_told, client_waits, after_completion, hearing, left, client_stays}
-use Rattle.cx_client.specs.Window.{event_with_floor, floor_for, has_number, is_outstanding, newly, outstanding, request_letters, without_request}
+use Rattle.cx_client.specs.Client.{ClientMoved, ClientState, again, answer_number, client_completes, client_hears, client_takes}
+use Rattle.cx_client.specs.Client.{client_ticks, client_told, client_waits, after_completion, hearing, left, client_stays}
+use Rattle.cx_client.specs.Window.{event_with_floor, floor_for, has_number, is_outstanding, newly, outstanding, request_letters}
+use Rattle.cx_client.specs.Window.{without_request}
 use Rattle.cx_client.proofs.Shifted.{all_itself}
 use Rattle.cx_client.proofs.Steps.{completed_is_client, further_is_client}
 use Rattle.cx_client.proofs.Windows.{is_left, only_one, taken}
@@ -41,7 +44,8 @@ use Rattle.cx_course.proofs.Requests.{Sends, step_is}
 use Rattle.cx_course.proofs.Scripts.{dropped}
 
 -- a request that was told is told by a client of the same cluster whose script has the same lines, and of which no more are left
-told_on : (s t : ClientState) (e : Event) → IsTold s e → t.cluster ≡ s.cluster → ((l : Event) → Member l s.script → Member l t.script) → ((l : Event) → Member l (left t) → Member l (left s)) → IsTold t e
+told_on : (s t : ClientState) (e : Event) → IsTold s e → t.cluster ≡ s.cluster → ((l : Event) → Member l s.script → Member l t.script)
+    → ((l : Event) → Member l (left t) → Member l (left s)) → IsTold t e
 told_on s t e told same lines fewer = record {
   line = told.line;
   floor = told.floor;
@@ -60,7 +64,8 @@ parted (suc n) e (x ∷ es) (inr m) = elim (parted n e es m) [ inl front ↦ inl
 
 -- ---- a delivery to a client
 
-module _ (w : World) (s : ClientState) (is : IsAsker w s) (traced : IsTraced w) (n : ℕ) (d : Letter) (sent : slice_get w.sent n ≡ Some d) (to : d.to ≡ s.me) where
+module _ (w : World) (s : ClientState) (is : IsAsker w s) (traced : IsTraced w) (n : ℕ) (d : Letter) (sent : slice_get w.sent n ≡ Some d)
+    (to : d.to ≡ s.me) where
   abbrev pub Delivery : Event
   Delivery = event.Deliver n Whole
 
@@ -86,10 +91,12 @@ module _ (w : World) (s : ClientState) (is : IsAsker w s) (traced : IsTraced w) 
   its_name = to ∙ is.client.me
 
   tells_it : heard_at s.me.index w.sent New ≡ mark_told d.msg
-  tells_it = ap (told_to s.me.index) sent ∙ ap (λ (b : Bool). if b then mark_told d.msg else 0) (ap (λ (r : RoleId). same_role r (role kind.Client s.me.index)) its_name ∙ same_role-itself (role kind.Client s.me.index))
+  tells_it = ap (told_to s.me.index) sent ∙ ap (λ (b : Bool). if b then mark_told d.msg else 0)
+      (ap (λ (r : RoleId). same_role r (role kind.Client s.me.index)) its_name ∙ same_role-itself (role kind.Client s.me.index))
 
   there : IsThere w.sent New
-  there = subst (λ (y : Why). IsThere w.sent (record { event = Delivery; why = y })) (ap (λ (ch : Change). ch.why) hears_so) (is_there w Delivery)
+  there = subst (λ (y : Why). IsThere w.sent (record { event = Delivery; why = y })) (ap (λ (ch : Change). ch.why) hears_so)
+      (is_there w Delivery)
 
   heard_so : max s.heard (mark_told d.msg) ≡ heard_by s.me.index Heard.sent Heard.events
   heard_so =
@@ -114,19 +121,21 @@ module _ (w : World) (s : ClientState) (is : IsAsker w s) (traced : IsTraced w) 
     named = is.named;
     lines = is.lines;
     one_line = is.one_line;
-    asked = λ h t m sent token mine. told_on s Then h.event (is.asked h t (asks_none h t m token) sent token mine) refl (λ l m. m) (λ l m. m);
+    asked =
+        λ h t m sent token mine. told_on s Then h.event (is.asked h t (asks_none h t m token) sent token mine) refl (λ l m. m) (λ l m. m);
     heard = heard_so;
   }
 
   spared : (index : ℕ) → (index ≡ s.me.index → ⊥) → SparesClient w Heard index
   spared index differs =
-      spares w Delivery Hearing traced there index refl
-      (told_other index w New n Whole d refl sent (differ_role d.to (role kind.Client index) (λ same. differs (ap (λ (r : RoleId). r.index) (sym same ∙ its_name)))))
+      spares w Delivery Hearing traced there index refl (told_other index w New n Whole d refl sent
+      (differ_role d.to (role kind.Client index) (λ same. differs (ap (λ (r : RoleId). r.index) (sym same ∙ its_name)))))
 
   pub hears : Sends w (step w Delivery) s [] × IsAsker (step w Delivery) Then × IsTraced (step w Delivery)
   hears =
       let behind = step_is w Delivery Hearing hears_so in (
-        subst (λ x. Sends w x s []) (sym behind) (record { cluster = refl; roles = refl; kept = append-nil w.kept; sent = refl; others = spared }),
+        subst (λ x. Sends w x s []) (sym behind)
+            (record { cluster = refl; roles = refl; kept = append-nil w.kept; sent = refl; others = spared }),
         subst (λ x. IsAsker x Then) (sym behind) asker_behind,
         subst IsTraced (sym behind) (traced_behind w Delivery Hearing traced there (λ x m. absurd m)),
       )
@@ -193,11 +202,15 @@ module _ (w : World) (s : ClientState) (is : IsAsker w s) (n : ℕ) (out : is_ou
   pub left_then : left (after_completion n s) ≡ without_request n (left s)
   left_then =
       let e = found.0 in
-      let one : filter (has_number n) (left s) ≡ e ∷ [] = subst (λ (k : ℕ). filter (has_number k) (left s) ≡ e ∷ []) found.2 (only_one 0 (left s) is.client.script.rising e found.1) in
+      let one : filter (has_number n) (left s) ≡ e ∷ [] =
+      subst (λ (k : ℕ). filter (has_number k) (left s) ≡ e ∷ []) found.2 (only_one 0 (left s) is.client.script.rising e found.1) in
       let parted : (after_completion n s).script ≡ (take s.done s.script ++ e ∷ []) ++ without_request n (left s) =
-      ap (λ (es : List Event). take s.done s.script ++ (es ++ without_request n (left s))) one ∙ sym (append_assoc (take s.done s.script) (e ∷ []) (without_request n (left s))) in
-      let long : length (take s.done s.script ++ e ∷ []) ≡ s.done + 1 = length_push (take s.done s.script) e ∙ ap (λ (k : ℕ). k + 1) (length-take-le s.done s.script is.client.done) in
-      ap (λ (es : List Event). drop (s.done + 1) es) parted ∙ drop_at (take s.done s.script ++ e ∷ []) (without_request n (left s)) (s.done + 1) long
+      ap (λ (es : List Event). take s.done s.script ++ (es ++ without_request n (left s))) one
+      ∙ sym (append_assoc (take s.done s.script) (e ∷ []) (without_request n (left s))) in
+      let long : length (take s.done s.script ++ e ∷ []) ≡ s.done + 1 =
+      length_push (take s.done s.script) e ∙ ap (λ (k : ℕ). k + 1) (length-take-le s.done s.script is.client.done) in
+      ap (λ (es : List Event). drop (s.done + 1) es) parted
+      ∙ drop_at (take s.done s.script ++ e ∷ []) (without_request n (left s)) (s.done + 1) long
 
   still_left : (l : Event) → Member l (left (after_completion n s)) → Member l (left s)
   still_left l m = (Member-filter (λ (x : Event). not (has_number n x)) l (left s) (subst (λ (es : List Event). Member l es) left_then m)).0
@@ -206,10 +219,13 @@ module _ (w : World) (s : ClientState) (is : IsAsker w s) (n : ℕ) (out : is_ou
   lines_then : (l : Event) → Member l s.script → Member l (after_completion n s).script
   lines_then l m = elim (parted s.done l s.script m) [
     | inl front ↦ Member-first l (take s.done s.script) (filter (has_number n) (left s) ++ without_request n (left s)) front
-    | inr rest ↦ Member-second l (take s.done s.script) (filter (has_number n) (left s) ++ without_request n (left s)) (elim (cases_Bool (has_number n l)) [
-      | inl t ↦ Member-first l (filter (has_number n) (left s)) (without_request n (left s)) (filter-Member (has_number n) l (left s) rest t)
-      | inr f ↦ Member-second l (filter (has_number n) (left s)) (without_request n (left s)) (filter-Member (λ (x : Event). not (has_number n x)) l (left s) rest (rw f refl))
-    ])
+    | inr rest ↦ Member-second l (take s.done s.script) (filter (has_number n) (left s) ++ without_request n (left s))
+        (elim (cases_Bool (has_number n l)) [
+          | inl t ↦
+              Member-first l (filter (has_number n) (left s)) (without_request n (left s)) (filter-Member (has_number n) l (left s) rest t)
+          | inr f ↦ Member-second l (filter (has_number n) (left s)) (without_request n (left s))
+              (filter-Member (λ (x : Event). not (has_number n x)) l (left s) rest (rw f refl))
+        ])
   ]
 
   lines_before : (l : Event) → Member l (after_completion n s).script → Member l s.script
@@ -244,7 +260,8 @@ pub record Asks (w : World) (s : ClientState) (m : ClientMoved) : Type 0 where
 pub stays_so : (w : World) (s t : ClientState) (y : Why) → IsAsker w t → t.me ≡ s.me → Asks w s (client_stays y t)
 stays_so w s t y is me = record { asker = is; me = me; lines = []; shift = None; out = λ e m. absurd m; sends = refl }
 
-completes_so : (w : World) (t : ClientState) (n : ℕ) → IsAsker w t → is_outstanding t.window (left t) n ≡ true → Asks w t (client_completes n t)
+completes_so : (w : World) (t : ClientState) (n : ℕ) → IsAsker w t → is_outstanding t.window (left t) n ≡ true
+    → Asks w t (client_completes n t)
 completes_so w t n is out = record {
   asker = asks_then w t is n out;
   me = refl;
@@ -252,7 +269,8 @@ completes_so w t n is out = record {
   shift = None;
   out = λ e m.
       subst (λ (es : List Event). Member e (outstanding t.window es)) (sym (left_then w t is n out))
-      (Member-filter (λ (x : Event). not (is_outstanding t.window (left t) (number_of x))) e (outstanding t.window (without_request n (left t))) m).0;
+      (Member-filter (λ (x : Event). not (is_outstanding t.window (left t) (number_of x))) e
+      (outstanding t.window (without_request n (left t))) m).0;
   sends =
       ap (λ (es : List Event). request_letters t.heard (floor_for es) (newly t.window n (left t))) (sym (left_then w t is n out))
       ∙ ap (request_letters t.heard (floor_for (left (after_completion n t)))) (sym (all_itself t.cluster (newly t.window n (left t))));
@@ -265,8 +283,8 @@ hears_so_far w t n is = elim (cases_Bool (is_outstanding t.window (left t) n)) [
 ]
 
 -- A datagram to it: it hears of an answer, as the world does that delivers it.
-module _ (w : World) (s : ClientState) (d : Letter) (from : names_role s.cluster d.from ≡ true) (to : d.to ≡ s.me) (named : names_role s.cluster s.me ≡ true)
-    (is : IsAsker w (hearing (mark_told d.msg) s)) where
+module _ (w : World) (s : ClientState) (d : Letter) (from : names_role s.cluster d.from ≡ true) (to : d.to ≡ s.me)
+    (named : names_role s.cluster s.me ≡ true) (is : IsAsker w (hearing (mark_told d.msg) s)) where
   names_it : names_body s.cluster d.msg ≡ true → (same_role d.to s.me && names s.cluster d) ≡ true
   names_it body =
       let mine : same_role d.to s.me ≡ true = ap (λ (r : RoleId). same_role r s.me) to ∙ same_role-itself s.me in
@@ -274,29 +292,31 @@ module _ (w : World) (s : ClientState) (d : Letter) (from : names_role s.cluster
       rw (mine, from, here, body) refl
 
   pub takes_so : Asks w s (client_takes s d)
-  takes_so = elim (answer_or_not d.msg) [ inl other ↦ subst (Asks w s) (sym (no_answer other)) (strange other) | inr answer ↦ subst (Asks w s) (sym (an_answer answer)) (told answer) ]
+  takes_so = elim (answer_or_not d.msg) [
+    | inl other ↦ subst (Asks w s) (sym (no_answer other)) (strange other)
+    | inr answer ↦ subst (Asks w s) (sym (an_answer answer)) (told answer)
+  ]
     where
       either : {A : Type 0} (b : Bool) (x : A) → (if b then x else x) ≡ x
       either true x = refl
       either false x = refl
 
       no_answer : IsOther d.msg → client_takes s d ≡ client_stays why.Stranger s
-      no_answer other =
-          ap (λ (o : Option ℕ). if same_role d.to s.me && names s.cluster d then client_told s (mark_told d.msg) o else client_stays why.Stranger s) other.none
-          ∙ either (same_role d.to s.me && names s.cluster d) (client_stays why.Stranger s)
+      no_answer other = ap (λ (o : Option ℕ). if same_role d.to s.me && names s.cluster d then client_told s (mark_told d.msg) o
+          else client_stays why.Stranger s) other.none ∙ either (same_role d.to s.me && names s.cluster d) (client_stays why.Stranger s)
 
       least : (n : ℕ) → max n 0 ≡ n
       least n = omega arith
 
       strange : IsOther d.msg → Asks w s (client_stays why.Stranger s)
       strange other =
-          let same : hearing (mark_told d.msg) s ≡ s = ap (λ (n : ℕ). record s { heard = max s.heard n }) other.nothing ∙ ap (λ (n : ℕ). record s { heard = n }) (least s.heard) in
+          let same : hearing (mark_told d.msg) s ≡ s =
+          ap (λ (n : ℕ). record s { heard = max s.heard n }) other.nothing ∙ ap (λ (n : ℕ). record s { heard = n }) (least s.heard) in
           stays_so w s s why.Stranger (subst (IsAsker w) same is) refl
 
       an_answer : (answer : IsAnswer d.msg) → client_takes s d ≡ client_hears (hearing (mark_told d.msg) s) answer.number
-      an_answer answer =
-          ap (λ (b : Bool). if b then client_told s (mark_told d.msg) (answer_number d.msg) else client_stays why.Stranger s) (names_it (answer.names s.cluster))
-          ∙ ap (client_told s (mark_told d.msg)) answer.is
+      an_answer answer = ap (λ (b : Bool). if b then client_told s (mark_told d.msg) (answer_number d.msg) else client_stays why.Stranger s)
+          (names_it (answer.names s.cluster)) ∙ ap (client_told s (mark_told d.msg)) answer.is
 
       told : (answer : IsAnswer d.msg) → Asks w s (client_hears (hearing (mark_told d.msg) s) answer.number)
       told answer =

@@ -85,14 +85,15 @@ module _ {D V : Type 0} (rules : Rules D V) (make : V → State) (get : State �
     acted =
         ap (λ (j : Kind). act_of w.cluster w.roles w.kept act s.me j) is.kind_is
         ∙ acts w.cluster w.roles w.kept act s.me
-        ∙ ap (λ (o : Option V). changed make s.me w.roles (turn rules w.cluster s.me (durable_part rules s.me w.kept) act o)) (ap get is.volatile ∙ got s.volatile)
-        ∙ ap (λ (u : Turn V). changed make s.me w.roles u) same_turn
+        ∙ ap (λ (o : Option V). changed make s.me w.roles (turn rules w.cluster s.me (durable_part rules s.me w.kept) act o))
+        (ap get is.volatile ∙ got s.volatile) ∙ ap (λ (u : Turn V). changed make s.me w.roles u) same_turn
 
     -- the world behind it
     abbrev Behind : Event → World
     Behind e = world_after w e (Row w s t)
 
-    module _ (e : Event) (plain : IsPlain w e) (own : (d : Letter) → Member d t.sends → d.from ≡ s.me) (same : change w e ≡ act_at w act s.me) where
+    module _ (e : Event) (plain : IsPlain w e) (own : (d : Letter) → Member d t.sends → d.from ≡ s.me)
+        (same : change w e ≡ act_at w act s.me) where
       there : IsThere w.sent (record { event = e; why = t.why })
       there = subst (λ (ch : Change). IsThere w.sent (record { event = e; why = ch.why })) (same ∙ acted) (is_there w e)
 
@@ -106,10 +107,12 @@ module _ {D V : Type 0} (rules : Rules D V) (make : V → State) (get : State �
       named d m = ap (names_role w.cluster) (own d m) ∙ is.named
 
       moves_behind : Moves w (Behind e) s.me t.what t.sends
-      moves_behind = record { cluster = refl; kept = refl; sent = refl; traced = traced_behind w e (Row w s t) traced there named; others = spared }
+      moves_behind =
+          record { cluster = refl; kept = refl; sent = refl; traced = traced_behind w e (Row w s t) traced there named; others = spared }
 
       -- an event that is this act does the same
-      pub act_moves : Moves w (step w e) s.me t.what t.sends × ((step w e).roles s.me ≡ make t.volatile) × ((change w e).kept ≡ kept_by s.me t.what)
+      pub act_moves : Moves w (step w e) s.me t.what t.sends × ((step w e).roles s.me ≡ make t.volatile)
+          × ((change w e).kept ≡ kept_by s.me t.what)
       act_moves =
           let behind = step_is w e (Row w s t) (same ∙ acted) in (
             subst (λ x. Moves w x s.me t.what t.sends) (sym behind) moves_behind,

@@ -50,4 +50,5 @@ pub record IsNextOf (c : Cluster) (actions : List Action) (kept : StoreChange) :
   pub change_is : kept.change ≡ change_for (list_in kept.role actions) what
 
 abbrev pub EachKeptIsNext : Cluster → List Action → Type 0
-EachKeptIsNext c actions = (count : ℕ) (kept : StoreChange) → slice_get actions count ≡ Some (Kept kept) → IsNextOf c (take count actions) kept
+EachKeptIsNext c actions =
+    (count : ℕ) (kept : StoreChange) → slice_get actions count ≡ Some (Kept kept) → IsNextOf c (take count actions) kept

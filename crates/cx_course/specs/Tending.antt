@@ -1,6 +1,7 @@
 -- The turns of a node that tends its roles, and the run of a node with and without tending. A tended node has the roles tick, and gives its
 -- leader orders, by what it has counted, and not by the numbers of its turns.
-use Rattle.std.specs.Prelude.{ℕ, ◌+◌, ◌*◌, ◌/◌, ◌%◌, ◌==◌, min, nat_lt, nat_le, Bool, false, not, ◌&&◌, ◌||◌, List, [], ◌∷◌, ◌++◌, filter, map, length, sum, count_by, is_some, Option, None, Some, slice_get, if◌then◌else◌}
+use Rattle.std.specs.Prelude.{ℕ, ◌+◌, ◌*◌, ◌/◌, ◌%◌, ◌==◌, min, nat_lt, nat_le, Bool, false, not, ◌&&◌, ◌||◌, List, [], ◌∷◌, ◌++◌, filter}
+use Rattle.std.specs.Prelude.{map, length, sum, count_by, is_some, Option, None, Some, slice_get, if◌then◌else◌}
 use Rattle.std.specs.Option.{option_map_or}
 use Rattle.cx_base.specs.declared.cluster.Cluster.{Cluster}
 use Rattle.cx_base.specs.declared.event.Order.{Order}
@@ -20,7 +21,8 @@ use Rattle.cx_course.specs.declared.doing.Doing.TheVariants.{Begin, Give}
 use Rattle.cx_course.specs.declared.standing.Standing.{Standing}
 use Rattle.cx_course.specs.Hosted.{Hosted, ClientAt, LeaderAt, ProxyAt, ReplicaAt, name_of}
 use Rattle.cx_course.specs.Course.{Course, Moved, does_at, is_a, stays, then_do, took}
-use Rattle.cx_course.specs.Run.{all_do, at_place, brought, grid_of, is_client, ordered, hosted_place, snaps, TakeResults, node_turn, turns_from, untended_run}
+use Rattle.cx_course.specs.Run.{all_do, at_place, brought, grid_of, is_client, ordered, hosted_place, snaps, TakeResults, node_turn}
+use Rattle.cx_course.specs.Run.{turns_from, untended_run}
 use Rattle.cx_record.specs.Numbers.{Numbered}
 
 -- What a tended node has counted. Counts of turns and beats stop at 2 ^ 32 - 1.
@@ -49,7 +51,18 @@ pub record Tended : Type 0 where
 
 -- nothing is counted yet
 abbrev pub no_care : List Hosted → Care
-no_care hs = record { turns = 0; empty = 0; came = false; calm = 0; done = 0; still = 0; counts = map (λ (h : Hosted). 0) hs; queue = below (length hs); cw = 0; stuck = 0 }
+no_care hs = record {
+  turns = 0;
+  empty = 0;
+  came = false;
+  calm = 0;
+  done = 0;
+  still = 0;
+  counts = map (λ (h : Hosted). 0) hs;
+  queue = below (length hs);
+  cw = 0;
+  stuck = 0;
+}
 
 -- one more turn or beat
 abbrev pub one_more : ℕ → ℕ
@@ -150,7 +163,8 @@ gets (Some o) s = at_place (hosted_place (role kind.Leader 0) s.hosted) (Give 0 
 -- leader 0 is ordered to lead as in a node that doesn't tend, but at turn 1 only where it never began a round
 unfoldable pub tend_ordered : Cluster → ℕ → Course → Moved Course
 tend_ordered c n s =
-    if (n == 1) && not (option_map_or (λ (l : Running LeaderDurable LeaderVolatile). is_new_leader l.durable) (first_leader s.hosted) false) then stays s else ordered c n s
+    if (n == 1) && not (option_map_or (λ (l : Running LeaderDurable LeaderVolatile). is_new_leader l.durable) (first_leader s.hosted) false)
+    then stays s else ordered c n s
 
 -- the first part of the n-th turn
 unfoldable pub tend_prepared : Cluster → ℕ → Course → Moved Course
@@ -168,8 +182,8 @@ reported from who before s =
 
 -- leader 0 is ordered to collect, where that would begin
 unfoldable pub collected : Course → Moved Course
-collected s =
-    gets (if option_map_or (λ (l : Running LeaderDurable LeaderVolatile). can_collect l.volatile) (first_leader s.hosted) false then Some order.Collect else None) s
+collected s = gets (if option_map_or (λ (l : Running LeaderDurable LeaderVolatile). can_collect l.volatile) (first_leader s.hosted) false
+    then Some order.Collect else None) s
 
 -- a role takes a datagram; a replica may then tick, and leader 0 collect
 unfoldable pub heeded : Numbered → Course → Moved Course
@@ -281,9 +295,9 @@ is_overtaken counts i h = is_client h && had_completed counts i (completed h)
 abbrev pub is_still : List ℕ → List ℕ → ℕ → Bool
 is_still before now i = option_map_or (had_completed before i) (slice_get now i) false
 
--- The order of the next pass: who completed none in this one stays in front, and the others go behind. So nobody comes to be in front of one
--- that waits longer, and whoever waits comes to be the first. By their places the last would be asked last at each pass, and where more is
--- asked than the leader's window has room for, they would wait for ever longer.
+-- The order of the next pass: who completed none in this one stays in front, and the others go behind. So nobody comes to be in front of
+-- one that waits longer, and whoever waits comes to be the first. By their places the last would be asked last at each pass, and where more
+-- is asked than the leader's window has room for, they would wait for ever longer.
 abbrev pub requeued : List ℕ → List ℕ → List ℕ → List ℕ
 requeued before now queue = filter (is_still before now) queue ++ filter (λ i. not (is_still before now i)) queue
 
@@ -307,7 +321,8 @@ clients_tended t =
     else stays noted
 
 unfoldable pub beat : Cluster → Tended → Moved Tended
-beat c t = then_do (within others_tick t) (λ after. then_do (leader_tended c (first_leader after.course.hosted) after) (λ last. clients_tended last))
+beat c t = then_do (within others_tick t)
+    (λ after. then_do (leader_tended c (first_leader after.course.hosted) after) (λ last. clients_tended last))
 
 -- a turn was made, and ends with a beat where it is time
 unfoldable pub turn_ended : Cluster → ℕ → Bool → Tended → Moved Tended

@@ -14,8 +14,8 @@ ghost use Rattle.cx_course.specs.Tending.{node_run};
 /// node has kept there, has delivered what clients took as answers, and is lawful; and a change of a store that is next is that of
 /// the run's next event.
 pub fn recorded_runs_follow()
-    ensures follows { (tend : Option ℕ) (c : Cluster) (takes : TakeResults) (hs : List Hosted) → AreFresh c hs
-        → FollowsBetween c (node_run tend c takes (course_of true hs)).actions }
-    ensures in_flight { (tend : Option ℕ) (c : Cluster) (takes : TakeResults) (hs : List Hosted) → AreFresh c hs
-        → EachKeptIsNext c (node_run tend c takes (course_of true hs)).actions }
+    ensures follows { (tend : Option ℕ) (c : Cluster) (takes : TakeResults) (hs : List Hosted)
+        → AreFresh c hs → FollowsBetween c (node_run tend c takes (course_of true hs)).actions }
+    ensures in_flight { (tend : Option ℕ) (c : Cluster) (takes : TakeResults) (hs : List Hosted)
+        → AreFresh c hs → EachKeptIsNext c (node_run tend c takes (course_of true hs)).actions }
 {}

@@ -6,7 +6,8 @@ use Rattle.cx_base.specs.Faults.{Rises}
 abbrev pub written : ℕ → List ℕ → List ℕ → List ℕ
 written at bytes file = take at file ++ bytes ++ drop (at + length bytes) file
 
--- A write of n bytes that was not synced: any bytes in the range and past the old end, any length from the old to the new, the same elsewhere.
+-- A write of n bytes that was not synced: any bytes in the range and past the old end, any length from the old to the new, the same
+-- elsewhere.
 pub record Torn (at n : ℕ) (old new : List ℕ) : Type 0 where
   pub before : take at new ≡ take at old
   pub after : drop (at + n) new ≡ drop (at + n) old
@@ -37,7 +38,8 @@ pub record Elapses (before now : ℕ) (past since : ℕ → List ℕ → Type 0)
   pub keeps : (t : ℕ) (c : List ℕ) → t ≤ before → past t c → since t c
 
 -- A crash at any moment since old leaves a file that has P.
-pub record LeavesOnly {D : Type 0} (moment : D → ℕ) (left_since : D → ℕ → List ℕ → Type 0) (old new : D) (P : List ℕ → Type 0) : Type 0 where
+pub record LeavesOnly {D : Type 0} (moment : D → ℕ) (left_since : D → ℕ → List ℕ → Type 0) (old new : D)
+    (P : List ℕ → Type 0) : Type 0 where
   pub later : moment old ≤ moment new
   pub each : (c : List ℕ) → left_since new (moment old) c → P c
   -- for a run that began earlier

@@ -1,5 +1,6 @@
 -- What a disk in memory has held, call by call.
-use Rattle.std.specs.Prelude.{◌≡◌, ℕ, ◌+◌, ◌≤◌, nat_le, Bool, true, List, [], ◌∷◌, ◌++◌, length, map, take, slice_range, replicate, fold, if◌then◌else◌}
+use Rattle.std.specs.Prelude.{◌≡◌, ℕ, ◌+◌, ◌≤◌, nat_le, Bool, true, List, [], ◌∷◌, ◌++◌, length, map, take, slice_range, replicate, fold}
+use Rattle.std.specs.Prelude.{if◌then◌else◌}
 use Rattle.std.specs.List.{list_all}
 use Rattle.cx_disk.specs.Disk.{written, Torn, TornCut}
 use Rattle.cx_disk.specs.declared.memory.Call.{Call}
@@ -40,7 +41,8 @@ pub data NotedCall : Type 0 where
   made_sync : NotedCall
 
 abbrev pub after : DiskState → NotedCall → DiskState
-after state (made_write at bytes) = stepped state (if nat_le at (length state.seen) then written at bytes state.seen else state.seen) (write at (length bytes))
+after state (made_write at bytes) =
+    stepped state (if nat_le at (length state.seen) then written at bytes state.seen else state.seen) (write at (length bytes))
 after state (failed_write at len) = stepped state state.seen (write at len)
 after state (made_cut at) = stepped state (take at state.seen) (cut at)
 after state (failed_cut at) = stepped state state.seen (cut at)

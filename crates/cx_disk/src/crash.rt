@@ -61,9 +61,11 @@ impl MemDisk {
     /// The bytes that a crash at this moment leaves, of those that it may leave.
     pub fn crash_image(&self, alloc: Global, unsynced: Unsynced) -> Result<Vec<u8>, NoMemory>
         ensures left { IfOk result (λ v. IsCrashImage self.now v.items) }
-        ensures kept { unsynced ≡ Unsynced.Kept → IfOk result (λ v. v.items ≡ mem_disk_bytes self.now) }
+        ensures kept { unsynced ≡ Unsynced.Kept
+            → IfOk result (λ v. v.items ≡ mem_disk_bytes self.now) }
         ensures lost { unsynced ≡ Unsynced.Lost → IfOk result (λ v. v.items ≡ synced_by self.now) }
-        ensures filled { unsynced ≡ Unsynced.Filled → IfOk result (λ v. v.items ≡ filled_by self.now) }
+        ensures filled { unsynced ≡ Unsynced.Filled
+            → IfOk result (λ v. v.items ≡ filled_by self.now) }
     {
         match unsynced {
             Unsynced::Kept => copy_in(alloc, &self.bytes, self.bytes.len()),

@@ -43,10 +43,12 @@ pub trait Disk {
     /// Writes over what is there, and past the end.
     fn write_at(&mut self, at: u64, bytes: &[u8]) -> Result<(), Failed>
         requires { at ≤ size self.old }
-        ensures written { OnOk result (seen self.new ≡ option_map (written at bytes.now) (seen self.old)) }
+        ensures written { OnOk result
+            (seen self.new ≡ option_map (written at bytes.now) (seen self.old)) }
         ensures tells { is_some (seen self.new) ≡ is_some (seen self.old) }
         ensures size { OnOk result (size self.new ≡ max (size self.old) (at + length bytes.now)) }
-        ensures crash { IsAfterStep (Torn at (length bytes.now)) (may_leave self.old) (may_leave self.new) }
+        ensures crash { IsAfterStep (Torn at (length bytes.now)) (may_leave self.old)
+            (may_leave self.new) }
         ensures time { Elapses (moment self.old) (moment self.new) (left_since self.old)
             (left_since self.new) (may_leave self.new) }
         ensures cause { HasCause (faults self.old) (faults self.new) result };
@@ -73,16 +75,20 @@ pub trait Disk {
         ensures cause { HasCause (faults self.old) (faults self.new) result };
 
     /// The bytes that are known are as many as the length.
-    ghost told_size: { (disk : Self) (file : List ℕ) → seen disk ≡ Some file → length file ≡ size disk };
+    ghost told_size: { (disk : Self) (file : List ℕ) → seen disk ≡ Some file
+        → length file ≡ size disk };
 
     /// What a read gives is one of what a crash may leave, also after a call that failed.
-    ghost told_is_left: { (disk : Self) (file : List ℕ) → seen disk ≡ Some file → may_leave disk file };
+    ghost told_is_left: { (disk : Self) (file : List ℕ) → seen disk ≡ Some file
+        → may_leave disk file };
 
     ghost size_fits: { (disk : Self) → size disk < 2 ^ 63 };
 
     /// This moment is one of those since an earlier one.
-    ghost counts_now: { (disk : Self) (t : ℕ) (c : List ℕ) → t ≤ moment disk → may_leave disk c → left_since disk t c };
+    ghost counts_now: { (disk : Self) (t : ℕ) (c : List ℕ) → t ≤ moment disk → may_leave disk c
+        → left_since disk t c };
 
     /// Since this moment there is no other.
-    ghost only_now: { (disk : Self) (c : List ℕ) → left_since disk (moment disk) c → may_leave disk c };
+    ghost only_now: { (disk : Self) (c : List ℕ) → left_since disk (moment disk) c
+        → may_leave disk c };
 }

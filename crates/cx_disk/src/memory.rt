@@ -32,8 +32,10 @@ pub struct MemDisk {
     pub(crate) made: u64,
     pub(crate) faults: Faults,
     ghost within: { all_within (length written.items) calls.items ≡ true },
-    ghost tells: { bytes.items ≡ (state_after first.items (notes_of_calls written.items calls.items)).seen },
-    ghost keeps: { synced.items ≡ (state_after first.items (notes_of_calls written.items calls.items)).synced },
+    ghost tells: { bytes.items
+        ≡ (state_after first.items (notes_of_calls written.items calls.items)).seen },
+    ghost keeps: { synced.items
+        ≡ (state_after first.items (notes_of_calls written.items calls.items)).synced },
 }
 
 /// Whether the disk makes no call any more from this one on.
@@ -64,7 +66,8 @@ fn note(written: &[u8], calls: &mut Vec<Call>, call: Call) -> bool
     requires calls { all_within (length written.now) calls.old.items ≡ true }
     ensures added { result ≡ true → notes_of_calls written.now calls.new.items
         ≡ notes_of_calls written.now calls.old.items ++ note_of_call written.now call ∷ [] }
-    ensures same { result ≡ false → notes_of_calls written.now calls.new.items ≡ notes_of_calls written.now calls.old.items }
+    ensures same { result ≡ false
+        → notes_of_calls written.now calls.new.items ≡ notes_of_calls written.now calls.old.items }
     ensures within { all_within (length written.now) calls.new.items ≡ true }
 {
     if calls.len() == calls.capacity() {
@@ -86,7 +89,8 @@ fn note_write(written: &mut Vec<u8>, calls: &mut Vec<Call>, at: u64, bytes: &[u8
     requires { all_within (length written.old.items) calls.old.items ≡ true }
     ensures added { result ≡ true → notes_of_calls written.new.items calls.new.items
         ≡ notes_of_calls written.old.items calls.old.items ++ made_write at bytes.now ∷ [] }
-    ensures same { result ≡ false → notes_of_calls written.new.items calls.new.items ≡ notes_of_calls written.old.items calls.old.items }
+    ensures same { result ≡ false → notes_of_calls written.new.items calls.new.items
+        ≡ notes_of_calls written.old.items calls.old.items }
     ensures within { all_within (length written.new.items) calls.new.items ≡ true }
 {
     if written.capacity() - written.len() < bytes.len() || calls.len() == calls.capacity() {
@@ -105,7 +109,8 @@ fn note_sync(written: &[u8], calls: &mut Vec<Call>, bytes: &[u8], synced: &mut V
     ensures added { result ≡ true → notes_of_calls written.now calls.new.items
         ≡ notes_of_calls written.now calls.old.items ++ made_sync ∷ [] }
     ensures synced { result ≡ true → synced.new.items ≡ bytes.now }
-    ensures same { result ≡ false → notes_of_calls written.now calls.new.items ≡ notes_of_calls written.now calls.old.items }
+    ensures same { result ≡ false
+        → notes_of_calls written.now calls.new.items ≡ notes_of_calls written.now calls.old.items }
     ensures same_synced { result ≡ false → synced.new.items ≡ synced.old.items }
     ensures within { all_within (length written.now) calls.new.items ≡ true }
 {
@@ -120,11 +125,13 @@ fn note_sync(written: &[u8], calls: &mut Vec<Call>, bytes: &[u8], synced: &mut V
 impl Disk for MemDisk {
     ghost seen = { λ m. Some m.bytes.items };
 
-    ghost may_leave = { λ m. MayLeave (state_after m.first.items (notes_of_calls m.written.items m.calls.items)) };
+    ghost may_leave = { λ m.
+        MayLeave (state_after m.first.items (notes_of_calls m.written.items m.calls.items)) };
 
     ghost moment = { λ m. length (notes_of_calls m.written.items m.calls.items) };
 
-    ghost left_since = { λ m. LeftSince m.first.items (notes_of_calls m.written.items m.calls.items) };
+    ghost left_since = { λ m.
+        LeftSince m.first.items (notes_of_calls m.written.items m.calls.items) };
 
     ghost faults = { λ m. m.faults };
 
@@ -139,9 +146,11 @@ impl Disk for MemDisk {
 
     ghost size_fits = { λ m. vec_small m.bytes };
 
-    ghost counts_now = { λ m t c le now. left_now m.first.items (notes_of_calls m.written.items m.calls.items) t c le now };
+    ghost counts_now = { λ m t c le now.
+        left_now m.first.items (notes_of_calls m.written.items m.calls.items) t c le now };
 
-    ghost only_now = { λ m c left. left_only_now m.first.items (notes_of_calls m.written.items m.calls.items) c left };
+    ghost only_now = { λ m c left.
+        left_only_now m.first.items (notes_of_calls m.written.items m.calls.items) c left };
 
     fn len(&self) -> u64 {
         self.bytes.len() as u64

@@ -1,5 +1,6 @@
 -- What a count does to the counts of all roles, and changes at a place that was found.
-use Rattle.std.proofs.Common.{map, ◌≡◌, ◌≤◌, ◌<◌, ℕ, zero, suc, Bool, true, false, if◌then◌else◌, List, [], ◌∷◌, arith, refl, sym, ap, ◌∙◌, inl, inr, length, None, Some, cond, nat_lt, slice_index_or, slice_set}
+use Rattle.std.proofs.Common.{map, ◌≡◌, ◌≤◌, ◌<◌, ℕ, zero, suc, Bool, true, false, if◌then◌else◌, List, [], ◌∷◌, arith, refl, sym, ap, ◌∙◌}
+use Rattle.std.proofs.Common.{inl, inr, length, None, Some, cond, nat_lt, slice_index_or, slice_set}
 use Rattle.std.specs.List.{position, position_or_len, remove}
 use Rattle.std.proofs.lemmas.Bool.{cases_Bool}
 use Rattle.std.proofs.lemmas.Bool.Decides.{nat_tests}
@@ -36,7 +37,8 @@ count_later role n (row ∷ rest) = elim (cases_Bool (of_role role row)) [
   | inr other ↦ rw (other, other) (count_later role n rest)
 ]
 
-pub count_rises : (role : RoleId) (n : ℕ) (rows : List CountRow) → 0 < n → Rises (fault_count_of role rows) (fault_count_of role (with_faults role n rows))
+pub count_rises : (role : RoleId) (n : ℕ) (rows : List CountRow) → 0 < n
+    → Rises (fault_count_of role rows) (fault_count_of role (with_faults role n rows))
 count_rises role n [] some = inr (omega arith)
 count_rises role n (row ∷ rest) some = elim (cases_Bool (of_role role row)) [
   | inl is ↦ rw (is, is) (plus_rises row.count n some)
@@ -50,7 +52,8 @@ count_none who role (row ∷ rest) = elim (cases_Bool (of_role role row)) [
   | inr other ↦ rw other (ap (λ n. if of_role who row then row.count else n) (count_none who role rest))
 ]
 
-pub count_other : (who role : RoleId) (n : ℕ) (rows : List CountRow) → (who ≡ role → ⊥) → fault_count_of who (with_faults role n rows) ≡ fault_count_of who rows
+pub count_other : (who role : RoleId) (n : ℕ) (rows : List CountRow) → (who ≡ role → ⊥)
+    → fault_count_of who (with_faults role n rows) ≡ fault_count_of who rows
 count_other who role n [] other = refl
 count_other who role n (row ∷ rest) other = elim (cases_Bool (of_role role row)) [
   | inl is ↦ elim (cases_Bool (of_role who row)) [
@@ -60,25 +63,27 @@ count_other who role n (row ∷ rest) other = elim (cases_Bool (of_role role row
   | inr not_role ↦ rw not_role (ap (λ m. if of_role who row then row.count else m) (count_other who role n rest other))
 ]
 
-pub counted_at : (role : RoleId) (n : ℕ) (rows : List CountRow) (i : ℕ) (d : CountRow) → i < length rows → of_role role (slice_index_or rows i d) ≡ true
-    → ((k : ℕ) → k < i → of_role role (slice_index_or rows k d) ≡ false)
+pub counted_at : (role : RoleId) (n : ℕ) (rows : List CountRow) (i : ℕ) (d : CountRow) → i < length rows
+    → of_role role (slice_index_or rows i d) ≡ true → ((k : ℕ) → k < i → of_role role (slice_index_or rows k d) ≡ false)
     → slice_set rows i (record (slice_index_or rows i d) { count = plus (slice_index_or rows i d).count n }) ≡ with_faults role n rows
 counted_at role n [] i d within at before = absurd (omega arith)
 counted_at role n (row ∷ rest) zero d within at before = rw at refl
-counted_at role n (row ∷ rest) (suc i) d within at before =
-    rw (before 0 (omega arith)) (ap (λ (rs : List CountRow). row ∷ rs) (counted_at role n rest i d (omega arith) at (λ k less. before (suc k) (omega arith))))
+counted_at role n (row ∷ rest) (suc i) d within at before = rw (before 0 (omega arith))
+    (ap (λ (rs : List CountRow). row ∷ rs) (counted_at role n rest i d (omega arith) at (λ k less. before (suc k) (omega arith))))
 
-pub without_at : (place : Shelf) (places : List Shelf) (i : ℕ) (d : Shelf) → i < length places → same_shelf place (slice_index_or places i d) ≡ true
+pub without_at : (place : Shelf) (places : List Shelf) (i : ℕ) (d : Shelf) → i < length places
+    → same_shelf place (slice_index_or places i d) ≡ true
     → ((k : ℕ) → k < i → same_shelf place (slice_index_or places k d) ≡ false) → remove places i ≡ without place places
 without_at place [] i d within at before = absurd (omega arith)
 without_at place (p ∷ rest) zero d within at before = rw at refl
-without_at place (p ∷ rest) (suc i) d within at before =
-    rw (before 0 (omega arith)) (ap (λ (ps : List Shelf). p ∷ ps) (without_at place rest i d (omega arith) at (λ k less. before (suc k) (omega arith))))
+without_at place (p ∷ rest) (suc i) d within at before = rw (before 0 (omega arith))
+    (ap (λ (ps : List Shelf). p ∷ ps) (without_at place rest i d (omega arith) at (λ k less. before (suc k) (omega arith))))
 
 pub past_end : {T : Type 0} (p : T → Bool) (xs : List T) → position p xs ≡ None → length xs ≤ position_or_len p xs
 past_end p xs none = go (nat_lt (position_or_len p xs) (length xs)) refl none
   where
-    go : (b : Bool) → nat_lt (position_or_len p xs) (length xs) ≡ b → (cond b (Some (position_or_len p xs)) None) ≡ None → length xs ≤ position_or_len p xs
+    go : (b : Bool) → nat_lt (position_or_len p xs) (length xs) ≡ b → (cond b (Some (position_or_len p xs)) None) ≡ None
+        → length xs ≤ position_or_len p xs
     go true e n = cc
     go false e n = grind (arith, nat_tests)
 

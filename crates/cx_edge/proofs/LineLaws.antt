@@ -1,5 +1,7 @@
 -- Lines in bytes, and bytes that are read and buffered.
-use Rattle.std.proofs.Common.{◌≡◌, ◌≤◌, ◌<◌, ◌+◌, ◌-◌, ◌==◌, ◌++◌, ℕ, false, List, [], ◌∷◌, Option, None, Some, unwrap_or, length, take, drop, get_or, sym, ap, ◌∙◌, subst, append_assoc, append-nil, arith, take-append-drop, take_all, length-append, length-take, drop-drop, take-take, get_or-take, eqb-true, nat_lt}
+use Rattle.std.proofs.Common.{◌≡◌, ◌≤◌, ◌<◌, ◌+◌, ◌-◌, ◌==◌, ◌++◌, ℕ, false, List, [], ◌∷◌, Option, None, Some, unwrap_or, length, take}
+use Rattle.std.proofs.Common.{drop, get_or, sym, ap, ◌∙◌, subst, append_assoc, append-nil, arith, take-append-drop, take_all, length-append}
+use Rattle.std.proofs.Common.{length-take, drop-drop, take-take, get_or-take, eqb-true, nat_lt}
 use Rattle.std.specs.Io.KnownBytes.{Keeps, Consumes}
 use Rattle.std.proofs.KnownBytes.{Consumes-nil, Consumes-trans, Consumes-kept}
 use Rattle.std.specs.List.{position, position_or_len, slice_index}
@@ -32,9 +34,8 @@ free_up_to bytes n none =
     rw (get_or-take n bytes k 0 within) (none k within)))
 
 no_feed : (bytes : List ℕ) → feed_at bytes ≡ None → (k : ℕ) → k < length bytes → (get_or bytes k 0 == 10) ≡ false
-no_feed bytes none k l =
-    cond_both (nat_lt (position_or_len (λ b. b == 10) bytes) (length bytes)) (Some (position_or_len (λ b. b == 10) bytes)) None (λ o. o ≡ None → (get_or bytes k 0 == 10) ≡ false)
-    (λ e h. cc)
+no_feed bytes none k l = cond_both (nat_lt (position_or_len (λ b. b == 10) bytes) (length bytes))
+    (Some (position_or_len (λ b. b == 10) bytes)) None (λ o. o ≡ None → (get_or bytes k 0 == 10) ≡ false) (λ e h. cc)
     (λ e h. fails_before_first (λ b. b == 10) bytes k 0 (grind (arith, nat_tests)))
     none
 
@@ -92,30 +93,36 @@ first_line max bytes place n len found is size fits =
       free = free_up_to bytes place at.2;
       fits = omega (arith, long, fits);
       text = sym (take-take len place bytes shorter) ∙ ap (λ k. take k part) long ∙ strip_front part;
-      whole = sym (take-append-drop (place + 1) bytes) ∙ ap (λ l. l ++ drop (place + 1) bytes) (take_more bytes place 0 at.0 ∙ ap (λ b. part ++ b ∷ []) feed);
+      whole = sym (take-append-drop (place + 1) bytes)
+          ∙ ap (λ l. l ++ drop (place + 1) bytes) (take_more bytes place 0 at.0 ∙ ap (λ b. part ++ b ∷ []) feed);
       shorter = omega (arith, shorter);
       inside = omega (arith, at.0);
     }
 
 -- and there is no line feed yet
-pub is_open : (max : ℕ) (bytes : List ℕ) (n len : ℕ) → feed_at bytes ≡ None → n ≡ length bytes → len ≡ length (strip_carriage_return (take n bytes)) → len ≤ max → IsOpenLine max bytes
+pub is_open : (max : ℕ) (bytes : List ℕ) (n len : ℕ) → feed_at bytes ≡ None → n ≡ length bytes
+    → len ≡ length (strip_carriage_return (take n bytes)) → len ≤ max → IsOpenLine max bytes
 is_open max bytes n len none is size fits =
     let all : take n bytes ≡ bytes = take_all n bytes (omega (arith, is)) in
     (is_free bytes none, omega (arith, rw all at size, fits))
 
 -- a part of a list, of its middle
-pub drop_between : {X : Type 0} (xs : List X) (start end size : ℕ) → start + size ≤ end → drop size (take (end - start) (drop start xs)) ≡ take (end - (start + size)) (drop (start + size) xs)
+pub drop_between : {X : Type 0} (xs : List X) (start end size : ℕ) → start + size ≤ end
+    → drop size (take (end - start) (drop start xs)) ≡ take (end - (start + size)) (drop (start + size) xs)
 drop_between xs start end size inside =
     let count : end - start ≡ size + (end - (start + size)) = omega arith in
-    ap (λ n. drop size (take n (drop start xs))) count ∙ drop-take size (end - (start + size)) (drop start xs) ∙ ap (take (end - (start + size))) (drop-drop size start xs)
+    ap (λ n. drop size (take n (drop start xs))) count ∙ drop-take size (end - (start + size)) (drop start xs)
+    ∙ ap (take (end - (start + size))) (drop-drop size start xs)
 
-pub take_between : {X : Type 0} (xs : List X) (start end len : ℕ) → start + len ≤ end → take len (take (end - start) (drop start xs)) ≡ take (start + len - start) (drop start xs)
+pub take_between : {X : Type 0} (xs : List X) (start end len : ℕ) → start + len ≤ end
+    → take len (take (end - start) (drop start xs)) ≡ take (start + len - start) (drop start xs)
 take_between xs start end len inside =
     let count : start + len - start ≡ len = omega arith in
     take-take len (end - start) (drop start xs) (omega arith) ∙ ap (λ n. take n (drop start xs)) (sym count)
 
 -- what a read into the rest of a buffer leaves
-pub reads_behind : (left left_after : Option (List ℕ)) (buffered : ℕ) (old part : List ℕ) (end : ReadEnd) → buffered < length old → length part ≡ length old - buffered
+pub reads_behind : (left left_after : Option (List ℕ)) (buffered : ℕ) (old part : List ℕ) (end : ReadEnd) → buffered < length old
+    → length part ≡ length old - buffered
     → ReadsBytes left left_after end part → ReadsBehind left left_after buffered old (put_mid buffered (length old - buffered) old part) end
 reads_behind left left_after buffered old part (end.Got count) room same reads =
     let rest = part ++ drop (length old - buffered) (drop buffered old) in
@@ -123,7 +130,15 @@ reads_behind left left_after buffered old part (end.Got count) room same reads =
     record {
       read = take count part;
       size = omega (arith, reads.fits, length-take count part);
-      inside = omega (arith, front, reads.fits, same, room, length-append (take buffered old) rest, length-append part (drop (length old - buffered) (drop buffered old)));
+      inside = omega (
+        arith,
+        front,
+        reads.fits,
+        same,
+        room,
+        length-append (take buffered old) rest,
+        length-append part (drop (length old - buffered) (drop buffered old)),
+      );
       consumed = reads.bytes;
       whole = ap (λ n. take (n + count) (take buffered old ++ rest)) (sym front) ∙ take-append-add (take buffered old) rest count
           ∙ ap (λ l. take buffered old ++ l) (take-append-le count part (drop (length old - buffered) (drop buffered old)) reads.fits);
@@ -136,8 +151,8 @@ reads_behind left left_after buffered old part end.Failed room same reads =
 pub hands_none : (left : Option (List ℕ)) (buffered : List ℕ) → Hands left left buffered buffered []
 hands_none left buffered = record { read = []; consumed = Consumes-nil left; whole = append-nil buffered }
 
-pub hands_more : (left now next : Option (List ℕ)) (buffered held_now buffered_next read : List ℕ) → Hands left now buffered held_now [] → Consumes now next read → buffered_next ≡ held_now ++ read
-    → Hands left next buffered buffered_next []
+pub hands_more : (left now next : Option (List ℕ)) (buffered held_now buffered_next read : List ℕ) → Hands left now buffered held_now []
+    → Consumes now next read → buffered_next ≡ held_now ++ read → Hands left next buffered buffered_next []
 hands_more left now next buffered held_now buffered_next read h consumed grown =
     record {
       read = h.read ++ read;
@@ -145,11 +160,12 @@ hands_more left now next buffered held_now buffered_next read h consumed grown =
       whole = sym (append_assoc buffered h.read read) ∙ ap (λ l. l ++ read) h.whole ∙ sym grown;
     }
 
-pub hands_kept : (left now next : Option (List ℕ)) (buffered held_now buffered_next : List ℕ) → Hands left now buffered held_now [] → Keeps now next → buffered_next ≡ held_now
-    → Hands left next buffered buffered_next []
+pub hands_kept : (left now next : Option (List ℕ)) (buffered held_now buffered_next : List ℕ) → Hands left now buffered held_now []
+    → Keeps now next → buffered_next ≡ held_now → Hands left next buffered buffered_next []
 hands_kept left now next buffered held_now buffered_next h unchanged same =
     record { read = h.read; consumed = Consumes-kept left now next h.read h.consumed unchanged; whole = h.whole ∙ sym same }
 
 -- and is given from the start
-pub hands_out : (left now : Option (List ℕ)) (buffered held_now buffered_next out : List ℕ) → Hands left now buffered held_now [] → held_now ≡ out ++ buffered_next → Hands left now buffered buffered_next out
+pub hands_out : (left now : Option (List ℕ)) (buffered held_now buffered_next out : List ℕ) → Hands left now buffered held_now []
+    → held_now ≡ out ++ buffered_next → Hands left now buffered buffered_next out
 hands_out left now buffered held_now buffered_next out h cut = record { read = h.read; consumed = h.consumed; whole = h.whole ∙ cut }

@@ -5,7 +5,8 @@ use Rattle.std.proofs.lemmas.Bool.{cases_Bool}
 use Rattle.std.proofs.lemmas.Bool.Decides.{nat_tests}
 use Rattle.cx_base.specs.declared.role.RoleId.{RoleId}
 use Rattle.cx_base.specs.declared.role.Kind.{Kind}
-use Rattle.cx_base.specs.declared.role.Kind.TheVariants.{Client, Batcher, Leader, Proxy, Acceptor, Matchmaker, Replica, Unbatcher, Reader, Replacer}
+use Rattle.cx_base.specs.declared.role.Kind.TheVariants.{Client, Batcher, Leader, Proxy, Acceptor, Matchmaker, Replica, Unbatcher, Reader}
+use Rattle.cx_base.specs.declared.role.Kind.TheVariants.{Replacer}
 use Rattle.cx_base.specs.Role.{same_role, code_of, kind_of}
 use Rattle.cx_edge.specs.declared.shelf.Shelf.{Shelf}
 use Rattle.cx_edge.specs.Depot.{IsOut, without}
@@ -33,7 +34,8 @@ kind_back Replacer = refl
 pub same_role-true : (a b : RoleId) → same_role a b ≡ true → a ≡ b
 same_role-true a b h =
     let p = and_both (code_of a.kind == code_of b.kind) (a.index == b.index) h in
-    let kinds : a.kind ≡ b.kind = sym (kind_back a.kind) ∙ ap kind_of (same_number (code_of a.kind) (code_of b.kind) p.0) ∙ kind_back b.kind in
+    let kinds : a.kind ≡ b.kind =
+    sym (kind_back a.kind) ∙ ap kind_of (same_number (code_of a.kind) (code_of b.kind) p.0) ∙ kind_back b.kind in
     let indexes = same_number a.index b.index p.1 in
     λ i. record { kind = kinds i; index = indexes i }
 

@@ -29,4 +29,5 @@ fault_count_of role (row ∷ rest) = if of_role role row then row.count else fau
 -- the counts with these further faults of a role
 abbrev pub with_faults : RoleId → ℕ → List CountRow → List CountRow
 with_faults role faults [] = []
-with_faults role faults (row ∷ rest) = if of_role role row then record row { count = plus row.count faults } ∷ rest else row ∷ with_faults role faults rest
+with_faults role faults (row ∷ rest) =
+    if of_role role row then record row { count = plus row.count faults } ∷ rest else row ∷ with_faults role faults rest

@@ -23,4 +23,5 @@ file_extension side = if side == 0 then codes "journal" else codes "other"
 
 -- the name of a store's file
 abbrev pub file_name : Shelf → List ℕ
-file_name place = codes "compax-" ++ kind_text place.role.kind ++ codes "-" ++ decimal place.role.index ++ codes "." ++ file_extension place.side
+file_name place =
+    codes "compax-" ++ kind_text place.role.kind ++ codes "-" ++ decimal place.role.index ++ codes "." ++ file_extension place.side

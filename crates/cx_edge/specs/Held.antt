@@ -30,7 +30,8 @@ shelf_bytes (row ∷ rest) place = if is_held_at place row then row.bytes else s
 -- the same with other bytes in the store in this place
 abbrev pub with_bytes : Shelf → List ℕ → List ShelfContent → List ShelfContent
 with_bytes place bytes [] = []
-with_bytes place bytes (row ∷ rest) = if is_held_at place row then record row { bytes = bytes } ∷ rest else row ∷ with_bytes place bytes rest
+with_bytes place bytes (row ∷ rest) =
+    if is_held_at place row then record row { bytes = bytes } ∷ rest else row ∷ with_bytes place bytes rest
 
 -- what a store holds, and while it is out what it held before
 abbrev pub bytes_of : Option MemDisk → List ℕ → List ℕ

@@ -28,4 +28,5 @@ no_history = record { binds = []; taken = []; sent = [] }
 
 -- the history, unless a send was lost because there was no room to note it
 abbrev pub mem_link_history : Bool → List BindRow → NotesState → Option LinkHistory
-mem_link_history is_silent binds notes = if is_silent then None else Some (record { binds = map bind_of binds; taken = notes.taken; sent = notes.sent })
+mem_link_history is_silent binds notes =
+    if is_silent then None else Some (record { binds = map bind_of binds; taken = notes.taken; sent = notes.sent })

@@ -1,5 +1,6 @@
 -- Datagrams that are noted in one list of bytes.
-use Rattle.std.specs.Prelude.{◌≡◌, ◌≤◌, ◌+◌, ℕ, Bool, if◌then◌else◌, List, [], ◌∷◌, ◌++◌, length, take, slice_range, map, Option, None, Some, option_map, IfSome}
+use Rattle.std.specs.Prelude.{◌≡◌, ◌≤◌, ◌+◌, ℕ, Bool, if◌then◌else◌, List, [], ◌∷◌, ◌++◌, length, take, slice_range, map, Option, None}
+use Rattle.std.specs.Prelude.{Some, option_map, IfSome}
 use Rattle.std.specs.List.{All}
 use Rattle.cx_edge.specs.declared.link.TakeEnd.{TakeEnd}
 use Rattle.cx_edge.specs.declared.link.TakeEnd.TheVariants.{Got, Nothing, Failed}
@@ -25,7 +26,8 @@ told_sent bytes row = record { from = row.from; port = row.port; bytes = bytes_a
 
 -- what the places say
 abbrev pub notes_state : List ℕ → List (Option Piece) → List SentRow → List Piece → NotesState
-notes_state bytes takes sends queue = record { taken = map (told_taken bytes) takes; sent = map (told_sent bytes) sends; waiting = map (bytes_at bytes) queue }
+notes_state bytes takes sends queue =
+    record { taken = map (told_taken bytes) takes; sent = map (told_sent bytes) sends; waiting = map (bytes_at bytes) queue }
 
 -- the place lies in n bytes
 abbrev pub Fits : ℕ → Piece → Type 0
@@ -57,8 +59,8 @@ with_sending is_lost sending n = record n { sent = n.sent ++ sending ∷ []; wai
 
 -- The first that waits is taken, cut to the buffer, and noted. Without room for noting nothing is taken.
 abbrev pub NotesTake : NotesState → NotesState → List ℕ → TakeEnd → Type 0
-NotesTake old new buffer (Got count) =
-    (first : List ℕ) × (rest : List (List ℕ)) × (old.waiting ≡ first ∷ rest) × (count ≤ length buffer) × (take count buffer ≡ take (length buffer) first)
+NotesTake old new buffer (Got count) = (first : List ℕ) × (rest : List (List ℕ)) × (old.waiting ≡ first ∷ rest) × (count ≤ length buffer)
+    × (take count buffer ≡ take (length buffer) first)
     × (new ≡ record { taken = old.taken ++ Some (take count buffer) ∷ []; sent = old.sent; waiting = rest })
 NotesTake old new buffer Nothing = (old.waiting ≡ []) × (new ≡ record old { taken = old.taken ++ None ∷ [] })
 NotesTake old new buffer Failed = new ≡ old

@@ -12,8 +12,8 @@ pub record UdpState : Type 0 where
 
 -- the errors of a socket that are no fault: nothing is there, or the network answers an earlier send
 abbrev pub IsNoFault : ErrorKind → Type 0
-IsNoFault kind =
-    (kind ≡ error.WouldBlock) ⊎ ((kind ≡ error.ConnectionRefused) ⊎ ((kind ≡ error.ConnectionReset) ⊎ ((kind ≡ error.HostUnreachable) ⊎ (kind ≡ error.NetworkUnreachable))))
+IsNoFault kind = (kind ≡ error.WouldBlock) ⊎ ((kind ≡ error.ConnectionRefused)
+    ⊎ ((kind ≡ error.ConnectionReset) ⊎ ((kind ≡ error.HostUnreachable) ⊎ (kind ≡ error.NetworkUnreachable))))
 
 -- what a take answers where a socket gave an error of this kind
 abbrev pub EndsAs : ErrorKind → TakeEnd → Type 0

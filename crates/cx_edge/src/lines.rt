@@ -91,7 +91,8 @@ fn move_to_front(bytes: &mut [u8], start: usize, count: usize)
 // Reads into the bytes after the first `buffered`.
 fn read_behind<S: Source>(source: &mut S, bytes: &mut [u8], buffered: usize) -> ReadEnd
     requires { buffered < length bytes.old }
-    ensures bytes { ReadsBehind (S.left source.old) (S.left source.new) buffered bytes.old bytes.new result }
+    ensures bytes { ReadsBehind (S.left source.old) (S.left source.new) buffered bytes.old
+        bytes.new result }
     ensures len { length bytes.new ≡ length bytes.old }
     ensures cause { result ≡ read_end.Failed → Rises (S.faults source.old) (S.faults source.new) }
     ensures still { ReadKeepsCount result (S.faults source.old) (S.faults source.new) }
@@ -123,7 +124,8 @@ impl Model for Lines {
       text = take (s.text_end - s.text_start) (drop s.text_start s.bytes.items);
     } };
 
-    ghost invariant = { λ s. (s.start ≤ s.end) × (s.end ≤ vec_len s.bytes) × (s.text_start ≤ s.text_end)
+    ghost invariant = { λ s.
+        (s.start ≤ s.end) × (s.end ≤ vec_len s.bytes) × (s.text_start ≤ s.text_end)
         × (s.text_end ≤ vec_len s.bytes) × (vec_len s.bytes ≡ 20480) };
 }
 
@@ -171,8 +173,10 @@ impl Lines {
     // Reads bytes after those that are buffered, which are moved to the start.
     fn fill<S: Source>(&mut self, source: &mut S) -> ReadEnd
         requires { length self.old.buffered < 20480 }
-        ensures bytes { Fills (S.left source.old) (S.left source.new) self.old.buffered self.new.buffered result }
-        ensures cause { result ≡ read_end.Failed → Rises (S.faults source.old) (S.faults source.new) }
+        ensures bytes { Fills (S.left source.old) (S.left source.new) self.old.buffered
+            self.new.buffered result }
+        ensures cause { result ≡ read_end.Failed
+            → Rises (S.faults source.old) (S.faults source.new) }
         ensures still { ReadKeepsCount result (S.faults source.old) (S.faults source.new) }
         ensures later { S.faults source.old ≤ S.faults source.new }
     {
@@ -206,7 +210,8 @@ impl Lines {
     /// yet is buffered for the next call, so that nothing is lost where a read fails. The count of faults changes exactly then.
     pub fn next<S: Source>(&mut self, source: &mut S, max: usize) -> Next
         requires { max ≤ 16384 }
-        ensures gives { GivesNext max (S.left source.old) (S.left source.new) self.old self.new result }
+        ensures gives { GivesNext max (S.left source.old) (S.left source.new) self.old
+            self.new result }
         ensures cause { result ≡ next.Failed → Rises (S.faults source.old) (S.faults source.new) }
         ensures still { (result ≡ next.Failed → ⊥) → S.faults source.new ≡ S.faults source.old }
         ensures later { S.faults source.old ≤ S.faults source.new }

@@ -34,7 +34,8 @@ impl Model for MemDepot {
 
     ghost Value = { DepotState };
 
-    ghost view = { λ d. record { stores = map slot_held d.slots.items; counts = d.desk.counts; out = d.desk.out } };
+    ghost view = { λ d.
+        record { stores = map slot_held d.slots.items; counts = d.desk.counts; out = d.desk.out } };
 
     ghost invariant = { λ d. OutHaveStores d.desk.out (map slot_held d.slots.items) };
 }
@@ -68,7 +69,8 @@ impl MemDepot {
 
     /// The store on a side of a role, while it isn't out.
     pub fn store(&self, role: RoleId, side: u8) -> Option<&MemDisk>
-        ensures { IfSome result (λ disk. mem_disk_bytes disk.now ≡ depot_held self.now (shelf role side)) }
+        ensures { IfSome result
+            (λ disk. mem_disk_bytes disk.now ≡ depot_held self.now (shelf role side)) }
     {
         store_in(&self.slots, Shelf::new(role, side))
     }

@@ -58,7 +58,8 @@ impl Model for MemLink {
 
 /// Whether the role or the port is bound.
 fn is_bound(binds: &[BindRow], role: RoleId, port: u16) -> bool
-    ensures { result ≡ list_any (λ (row : BindRow). binds_either role port (bind_of row)) binds.now }
+    ensures { result
+        ≡ list_any (λ (row : BindRow). binds_either role port (bind_of row)) binds.now }
 {
     binds
         .iter()
@@ -74,7 +75,8 @@ impl MemLink {
         failing: LinkFailing,
         fronts: &[Front],
     ) -> Result<Self, NoMemory>
-        ensures { IfOk result (λ link. link ≡ record { history = Some no_history; faults = 0; losses = 0 }) }
+        ensures { IfOk result
+            (λ link. link ≡ record { history = Some no_history; faults = 0; losses = 0 }) }
     {
         Ok(MemLink {
             notes: Notes::new(alloc, room, fronts)?,

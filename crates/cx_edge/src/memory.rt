@@ -50,7 +50,8 @@ impl MemSource {
     /// The source that gives these bytes, each read as many as there is room for, and fails at the calls with these numbers,
     /// which are counted from 0.
     pub fn new(bytes: Vec<u8>, failing: Vec<u64>) -> Self
-        ensures { result ≡ record { left = bytes.items; call = 0; failing = failing.items; faults = 0 } }
+        ensures { result
+            ≡ record { left = bytes.items; call = 0; failing = failing.items; faults = 0 } }
     {
         MemSource {
             bytes,
@@ -71,7 +72,8 @@ impl Source for MemSource {
         ensures answer { result ≡ source_read self.old (length buffer.old) }
         ensures after { self.new ≡ source_after self.old (length buffer.old) }
         ensures bytes { ReadsBytes (source_left self.old) (source_left self.new) result buffer.new }
-        ensures cause { result ≡ read_end.Failed → Rises (source_faults self.old) (source_faults self.new) }
+        ensures cause { result ≡ read_end.Failed
+            → Rises (source_faults self.old) (source_faults self.new) }
         ensures still { ReadKeepsCount result (source_faults self.old) (source_faults self.new) }
         ensures later { source_faults self.old ≤ source_faults self.new }
     {
@@ -150,7 +152,8 @@ impl Sink for MemSink {
         ensures answer { result ≡ sink_write self.old piece.now }
         ensures after { self.new ≡ sink_after self.old piece.now }
         ensures bytes { Writes (sink_taken self.old) (sink_taken self.new) result piece.now }
-        ensures cause { result ≡ write_end.Failed → Rises (sink_faults self.old) (sink_faults self.new) }
+        ensures cause { result ≡ write_end.Failed
+            → Rises (sink_faults self.old) (sink_faults self.new) }
         ensures still { WriteKeepsCount result (sink_faults self.old) (sink_faults self.new) }
         ensures later { sink_faults self.old ≤ sink_faults self.new }
     {

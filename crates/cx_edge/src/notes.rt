@@ -49,7 +49,8 @@ impl Model for Notes {
 
     ghost view = { λ n. notes_state n.bytes.items n.taken.items n.sent.items n.waiting.items };
 
-    ghost invariant = { λ n. NotesFit (vec_len n.bytes) n.taken.items n.sent.items n.waiting.items n.fronts.items };
+    ghost invariant = { λ n.
+        NotesFit (vec_len n.bytes) n.taken.items n.sent.items n.waiting.items n.fronts.items };
 }
 
 /// Puts a datagram at the end, unless it is lost.
@@ -64,7 +65,8 @@ fn queue(waiting: &mut VecDeque<Piece>, piece: Piece, is_lost: bool)
 
 /// Puts the datagram before all that wait if it has this number.
 fn put_one(waiting: &mut VecDeque<Piece>, front: &FrontRow, call: u64)
-    ensures { (n : ℕ) → FrontFits n front.now → All (Fits n) waiting.old.items → All (Fits n) waiting.new.items }
+    ensures { (n : ℕ) → FrontFits n front.now → All (Fits n) waiting.old.items
+        → All (Fits n) waiting.new.items }
 {
     if front.before == call && waiting.len() < waiting.capacity() {
         waiting.push_front_reserved(front.piece);
@@ -73,7 +75,8 @@ fn put_one(waiting: &mut VecDeque<Piece>, front: &FrontRow, call: u64)
 
 /// Puts the datagrams of this number before all that wait.
 fn put_all(waiting: &mut VecDeque<Piece>, fronts: &[FrontRow], call: u64)
-    ensures { (n : ℕ) → All (FrontFits n) fronts.now → All (Fits n) waiting.old.items → All (Fits n) waiting.new.items }
+    ensures { (n : ℕ) → All (FrontFits n) fronts.now → All (Fits n) waiting.old.items
+        → All (Fits n) waiting.new.items }
 {
     for front in fronts {
         put_one(waiting, front, call);

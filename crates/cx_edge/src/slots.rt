@@ -56,8 +56,10 @@ fn handed_from(slot: &mut Slot) -> Option<MemDisk>
 pub(crate) fn hand_out(slots: &mut Vec<Slot>, place: Shelf) -> Option<MemDisk>
     ensures stored { map slot_held slots.new.items ≡ map slot_held slots.old.items }
     ensures known { IfSome result (λ disk. has_store place (map slot_held slots.old.items) ≡ true) }
-    ensures bytes { IfSome result (λ disk. mem_disk_bytes disk ≡ shelf_bytes (map slot_held slots.old.items) place) }
-    ensures durable { IfSome result (λ disk. Only (shelf_bytes (map slot_held slots.old.items) place) (IsCrashImage disk)) }
+    ensures bytes { IfSome result
+        (λ disk. mem_disk_bytes disk ≡ shelf_bytes (map slot_held slots.old.items) place) }
+    ensures durable { IfSome result
+        (λ disk. Only (shelf_bytes (map slot_held slots.old.items) place) (IsCrashImage disk)) }
 {
     match slot_at(slots, place) {
         None => None,
@@ -67,7 +69,8 @@ pub(crate) fn hand_out(slots: &mut Vec<Slot>, place: Shelf) -> Option<MemDisk>
 
 /// Puts a store back in its place, if there is one.
 pub(crate) fn put_back(slots: &mut Vec<Slot>, place: Shelf, disk: MemDisk)
-    ensures { map slot_held slots.new.items ≡ with_bytes place (mem_disk_bytes disk) (map slot_held slots.old.items) }
+    ensures { map slot_held slots.new.items
+        ≡ with_bytes place (mem_disk_bytes disk) (map slot_held slots.old.items) }
 {
     match slot_at(slots, place) {
         None => {}
@@ -87,7 +90,8 @@ fn shown(slot: &Slot) -> Option<&MemDisk>
 
 /// The store in a place, while it isn't out.
 pub(crate) fn store_in(slots: &[Slot], place: Shelf) -> Option<&MemDisk>
-    ensures { IfSome result (λ disk. mem_disk_bytes disk.now ≡ shelf_bytes (map slot_held slots.now) place) }
+    ensures { IfSome result
+        (λ disk. mem_disk_bytes disk.now ≡ shelf_bytes (map slot_held slots.now) place) }
 {
     match slot_at(slots, place) {
         None => None,

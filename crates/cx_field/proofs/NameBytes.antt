@@ -1,5 +1,6 @@
 -- The next byte of a name.
-use Rattle.std.proofs.Common.{◌≡◌, ℕ, zero, suc, ◌+◌, ◌≤◌, List, [], ◌∷◌, ◌++◌, length, take, drop, refl, sym, ap, ◌∙◌, subst, get_or, ◌<◌, ◌%◌, arith}
+use Rattle.std.proofs.Common.{◌≡◌, ℕ, zero, suc, ◌+◌, ◌≤◌, List, [], ◌∷◌, ◌++◌, length, take, drop, refl, sym, ap, ◌∙◌, subst, get_or, ◌<◌}
+use Rattle.std.proofs.Common.{◌%◌, arith}
 use Rattle.std.proofs.Common.{Ok, true, lit<}
 use Rattle.std.proofs.lemmas.Bool.{eq-eqb}
 use Rattle.std.proofs.lemmas.Bool.Decides.{nat_tests}
@@ -12,7 +13,8 @@ use Rattle.cx_field.specs.Fields.{name_byte}
 use Rattle.cx_field.proofs.FieldLaws.{name_byte-exact}
 use Rattle.cx_field.proofs.RangeLaws.{bytes_fit}
 
-next_suc : (i : ℕ) (bytes : List ℕ) (b : ℕ) (after : List ℕ) → drop i bytes ≡ b ∷ after → (suc i ≤ length bytes) × (after ≡ drop (suc i) bytes) × (take (suc i) bytes ≡ take i bytes ++ b ∷ [])
+next_suc : (i : ℕ) (bytes : List ℕ) (b : ℕ) (after : List ℕ) → drop i bytes ≡ b ∷ after
+    → (suc i ≤ length bytes) × (after ≡ drop (suc i) bytes) × (take (suc i) bytes ≡ take i bytes ++ b ∷ [])
 next_suc zero [] b after e = absurd cc
 next_suc zero (x ∷ xs) b after e =
     let head : x ≡ b = cc in
@@ -23,10 +25,12 @@ next_suc (suc i) (x ∷ xs) b after e =
     let r = next_suc i xs b after e in
     (omega (arith, r.0), r.1, ap (λ (ys : List ℕ). x ∷ ys) r.2)
 
-pub next : (i : ℕ) (bytes : List ℕ) (b : ℕ) (after rest : List ℕ) → rest ≡ drop i bytes → rest ≡ b ∷ after → (i + 1 ≤ length bytes) × (after ≡ drop (i + 1) bytes) × (take (i + 1) bytes ≡ take i bytes ++ b ∷ [])
+pub next : (i : ℕ) (bytes : List ℕ) (b : ℕ) (after rest : List ℕ) → rest ≡ drop i bytes → rest ≡ b ∷ after
+    → (i + 1 ≤ length bytes) × (after ≡ drop (i + 1) bytes) × (take (i + 1) bytes ≡ take i bytes ++ b ∷ [])
 next i bytes b after rest place front =
     let k : suc i ≡ i + 1 = omega arith in
-    subst (λ (j : ℕ). (j ≤ length bytes) × (after ≡ drop j bytes) × (take j bytes ≡ take i bytes ++ b ∷ [])) k (next_suc i bytes b after (sym place ∙ front))
+    subst (λ (j : ℕ). (j ≤ length bytes) × (after ≡ drop j bytes) × (take j bytes ≡ take i bytes ++ b ∷ [])) k
+    (next_suc i bytes b after (sym place ∙ front))
 
 -- bytes spell themselves
 pub bytes_spell : (xs before : List ℕ) → ((i : ℕ) → get_or xs i 0 < 256) → each_spell (λ _. name_byte) before xs ≡ xs
@@ -48,12 +52,14 @@ are_bytes (x ∷ xs) all (suc i) =
     are_bytes xs p.1 i
 
 -- the bytes of a name are read from the front
-pub all_read : (count : ℕ) (bytes : List ℕ) → count ≤ length bytes → list_all is_name_byte (take count bytes) ≡ true → each_read (λ _. name_byte) [] count bytes ≡ Ok (take count bytes, drop count bytes)
+pub all_read : (count : ℕ) (bytes : List ℕ) → count ≤ length bytes → list_all is_name_byte (take count bytes) ≡ true
+    → each_read (λ _. name_byte) [] count bytes ≡ Ok (take count bytes, drop count bytes)
 all_read count bytes le all =
     let f : List ℕ → Format ℕ = λ _. name_byte in
     let xs = take count bytes in
     let rest = drop count bytes in
     let len : length xs ≡ count = omega (arith, length-take count bytes) in
     let again = (times-exact count f (λ _. name_byte-exact)).again xs rest (rw (eq-eqb (length xs) count len, bytes_fit xs [] all) refl) in
-    let spelled : each_spell f [] xs ++ rest ≡ bytes = ap (λ (ys : List ℕ). ys ++ rest) (bytes_spell xs [] (are_bytes xs all)) ∙ take-append-drop count bytes in
+    let spelled : each_spell f [] xs ++ rest ≡ bytes =
+    ap (λ (ys : List ℕ). ys ++ rest) (bytes_spell xs [] (are_bytes xs all)) ∙ take-append-drop count bytes in
     ap (each_read f [] count) (sym spelled) ∙ again

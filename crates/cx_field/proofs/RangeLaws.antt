@@ -1,5 +1,6 @@
 -- What the types of grids, keys and texts say of their ranges, and what those of a command's parts say of it.
-use Rattle.std.proofs.Common.{◌≡◌, ℕ, suc, ◌+◌, ◌*◌, ◌<◌, ◌≤◌, true, ◌&&◌, not, None, Some, inl, inr, sym, ◌∙◌, List, [], ◌∷◌, ◌++◌, length, get_or, refl, IsTrue, arith}
+use Rattle.std.proofs.Common.{◌≡◌, ℕ, suc, ◌+◌, ◌*◌, ◌<◌, ◌≤◌, true, ◌&&◌, not, None, Some, inl, inr, sym, ◌∙◌, List, [], ◌∷◌, ◌++◌, length}
+use Rattle.std.proofs.Common.{get_or, refl, IsTrue, arith}
 use Rattle.std.proofs.lemmas.Bool.{cases_Bool, lt-ltb, eq-eqb}
 use Rattle.std.specs.Prelude.{nat_le, ◌==◌, ◌^◌}
 use Rattle.std.specs.List.{list_all}
@@ -40,7 +41,15 @@ unfolding grid
 grid_in_range s g small =
     let rows : s.rows < 256 = grind (arith, g.some_row, g.some_col, g.room) in
     let cols : s.cols < 256 = grind (arith, g.some_row, g.some_col, g.room) in
-    rw (byte_fits s.rows rows, at_most 1 s.rows g.some_row, byte_fits s.cols cols, at_most 1 s.cols g.some_col, at_most (s.rows * s.cols) 16 g.room, eq-eqb _ _ g.count, members_fit [] s.members g.once small) refl
+    rw (
+      byte_fits s.rows rows,
+      at_most 1 s.rows g.some_row,
+      byte_fits s.cols cols,
+      at_most 1 s.cols g.some_col,
+      at_most (s.rows * s.cols) 16 g.room,
+      eq-eqb _ _ g.count,
+      members_fit [] s.members g.once small,
+    ) refl
 
 pub bytes_fit : (bytes before : List ℕ) → list_all is_name_byte bytes ≡ true → each_fits (λ _. name_byte) before bytes ≡ true
 unfolding each_fits name_byte
@@ -56,7 +65,13 @@ pub name_in_range : (limit : ℕ) (bytes : List ℕ) → limit ≤ 255 → IsNam
 unfolding name
 name_in_range limit bytes most is =
     let len : length bytes < 256 = omega (arith, is.room) in
-    rw (byte_fits (length bytes) len, at_most 1 (length bytes) is.some, at_most (length bytes) limit is.room, eq-eqb (length bytes) (length bytes) refl, bytes_fit bytes [] is.each) refl
+    rw (
+      byte_fits (length bytes) len,
+      at_most 1 (length bytes) is.some,
+      at_most (length bytes) limit is.room,
+      eq-eqb (length bytes) (length bytes) refl,
+      bytes_fit bytes [] is.each,
+    ) refl
 
 -- ---- commands
 
@@ -76,14 +91,16 @@ told_some number floor (App key text) = refl
 just_below : (number floor : ℕ) → (floor + 1 == number) ≡ true → floor_fits number floor ≡ true
 just_below number floor e = grind (arith, nat_tests)
 
-told_in_range : (number floor : ℕ) (o : Op) → u64.fits floor ≡ true → floor_fits number floor ≡ true → op_in_range o ≡ true → (told_op true number).fits (told_floor number floor, o) ≡ true
+told_in_range : (number floor : ℕ) (o : Op) → u64.fits floor ≡ true → floor_fits number floor ≡ true → op_in_range o ≡ true
+    → (told_op true number).fits (told_floor number floor, o) ≡ true
 unfolding floor_below
 told_in_range number floor o small fits rest = elim (cases_Bool (floor + 1 == number)) [
   | inl e ↦ rw e (told_none number o ∙ rest)
   | inr e ↦ rw e (told_some number floor o ∙ rw (small, fits, e, rest) refl)
 ]
 
-told_apart : (number floor : ℕ) (o : Op) → (told_op true number).fits (told_floor number floor, o) ≡ true → (floor_fits number floor ≡ true) × (op_in_range o ≡ true)
+told_apart : (number floor : ℕ) (o : Op) → (told_op true number).fits (told_floor number floor, o) ≡ true
+    → (floor_fits number floor ≡ true) × (op_in_range o ≡ true)
 unfolding floor_below
 told_apart number floor o h = elim (cases_Bool (floor + 1 == number)) [
   | inl e ↦ (just_below number floor e, sym (told_none number o) ∙ rw e at h)
@@ -98,16 +115,23 @@ unfolding u64
 number_fits n lt = lt-ltb _ _ lt
 
 -- a command whose floor fits its number
-pub command_in_range : (c : Command) → c.client < 65536 → c.seq < 2 ^ 64 → IsTrue (floor_fits c.seq c.floor) → IsTrue (op_in_range c.op) → IsTrue (command.fits c)
+pub command_in_range : (c : Command) → c.client < 65536 → c.seq < 2 ^ 64 → IsTrue (floor_fits c.seq c.floor) → IsTrue (op_in_range c.op)
+    → IsTrue (command.fits c)
 unfolding command command_with seq
 command_in_range c client number fits rest =
     let lt : c.floor < c.seq = grind (arith, nat_tests, fits) in
     let small : c.floor < 2 ^ 64 = omega (arith, lt, number) in
     let some : 1 ≤ c.seq = omega (arith, lt) in
-    rw (id_fits c.client client, number_fits c.seq number, at_most 1 c.seq some, told_in_range c.seq c.floor c.op (number_fits c.floor small) fits rest) refl
+    rw (
+      id_fits c.client client,
+      number_fits c.seq number,
+      at_most 1 c.seq some,
+      told_in_range c.seq c.floor c.op (number_fits c.floor small) fits rest,
+    ) refl
 
 -- the parts of a command that fits
-pub command_apart : (c : Command) → IsTrue (command.fits c) → IsTrue (u16.fits c.client) × IsTrue (seq.fits c.seq) × IsTrue (floor_fits c.seq c.floor) × IsTrue (op_in_range c.op)
+pub command_apart : (c : Command) → IsTrue (command.fits c)
+    → IsTrue (u16.fits c.client) × IsTrue (seq.fits c.seq) × IsTrue (floor_fits c.seq c.floor) × IsTrue (op_in_range c.op)
 unfolding command command_with
 command_apart c h =
     let who = both (u16.fits c.client) (seq.fits c.seq && (told_op true c.seq).fits (told_floor c.seq c.floor, c.op)) h in

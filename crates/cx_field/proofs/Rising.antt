@@ -1,5 +1,6 @@
 -- Lists whose values rise, and the formats that ask it value by value.
-use Rattle.std.proofs.Common.{◌≡◌, suc, ◌-◌, Bool, true, false, ◌&&◌, if◌then◌else◌, List, [], ◌∷◌, ◌++◌, length, refl, sym, ap, ◌∙◌, append_assoc, arith}
+use Rattle.std.proofs.Common.{◌≡◌, suc, ◌-◌, Bool, true, false, ◌&&◌, if◌then◌else◌, List, [], ◌∷◌, ◌++◌, length, refl, sym, ap, ◌∙◌}
+use Rattle.std.proofs.Common.{append_assoc, arith}
 use Rattle.std.specs.Prelude.{filter}
 use Rattle.std.specs.List.{list_all}
 use Rattle.std.proofs.lemmas.List.{append-nil}
@@ -26,13 +27,15 @@ last_step test y z zs =
     rw k refl
 
 -- the last of rising values comes before x, so each does
-last_all : {A : Type 0} (before : A → A → Bool) → PassesOn before → (x : A) (front : List A) → rises before front ≡ true → last_passes (λ y. before y x) front ≡ true → list_all (λ y. before y x) front ≡ true
+last_all : {A : Type 0} (before : A → A → Bool) → PassesOn before → (x : A) (front : List A) → rises before front ≡ true
+    → last_passes (λ y. before y x) front ≡ true → list_all (λ y. before y x) front ≡ true
 last_all before passes x [] r last = refl
 last_all before passes x (y ∷ []) r last = join (before y x) true last refl
 last_all before passes x (y ∷ z ∷ zs) r last =
     let p = both (list_all (λ w. before y w) (z ∷ zs)) (rises before (z ∷ zs)) r in
     let q = both (before y z) (list_all (λ w. before y w) zs) p.0 in
-    let rest : list_all (λ w. before w x) (z ∷ zs) ≡ true = last_all before passes x (z ∷ zs) p.1 (sym (last_step (λ w. before w x) y z zs) ∙ last) in
+    let rest : list_all (λ w. before w x) (z ∷ zs) ≡ true =
+    last_all before passes x (z ∷ zs) p.1 (sym (last_step (λ w. before w x) y z zs) ∙ last) in
     let s = both (before z x) (list_all (λ w. before w x) zs) rest in
     join (before y x) (list_all (λ w. before w x) (z ∷ zs)) (passes.on y z x q.0 s.0) rest
 
@@ -42,28 +45,34 @@ all_last test (y ∷ []) h = (both (test y) true h).0
 all_last test (y ∷ z ∷ zs) h = last_step test y z zs ∙ all_last test (z ∷ zs) (both (test y) (list_all test (z ∷ zs)) h).1
 
 -- rising values, all of them before x, rise with x after them
-pub rises-snoc : {A : Type 0} (before : A → A → Bool) (x : A) (front : List A) → rises before front ≡ true → list_all (λ y. before y x) front ≡ true → rises before (front ++ x ∷ []) ≡ true
+pub rises-snoc : {A : Type 0} (before : A → A → Bool) (x : A) (front : List A) → rises before front ≡ true
+    → list_all (λ y. before y x) front ≡ true → rises before (front ++ x ∷ []) ≡ true
 rises-snoc before x [] r h = refl
 rises-snoc before x (y ∷ ys) r h =
     let p = both (list_all (λ w. before y w) ys) (rises before ys) r in
     let q = both (before y x) (list_all (λ w. before w x) ys) h in
-    let all : list_all (λ w. before y w) (ys ++ x ∷ []) ≡ true = list_all-append (λ w. before y w) ys (x ∷ []) ∙ join _ _ p.0 (join (before y x) true q.0 refl) in
+    let all : list_all (λ w. before y w) (ys ++ x ∷ []) ≡ true =
+    list_all-append (λ w. before y w) ys (x ∷ []) ∙ join _ _ p.0 (join (before y x) true q.0 refl) in
     join (list_all (λ w. before y w) (ys ++ x ∷ [])) (rises before (ys ++ x ∷ [])) all (rises-snoc before x ys p.1 q.1)
 
 -- rising values, the last of them before x, rise with x after them
-pub rises-next : {A : Type 0} (before : A → A → Bool) → PassesOn before → (x : A) (front : List A) → rises before front ≡ true → last_passes (λ y. before y x) front ≡ true → rises before (front ++ x ∷ []) ≡ true
+pub rises-next : {A : Type 0} (before : A → A → Bool) → PassesOn before → (x : A) (front : List A) → rises before front ≡ true
+    → last_passes (λ y. before y x) front ≡ true → rises before (front ++ x ∷ []) ≡ true
 rises-next before passes x front r last = rises-snoc before x front r (last_all before passes x front r last)
 
-before_all : {A : Type 0} (before : A → A → Bool) (x : A) (xs front : List A) → rises before (front ++ x ∷ xs) ≡ true → list_all (λ y. before y x) front ≡ true
+before_all : {A : Type 0} (before : A → A → Bool) (x : A) (xs front : List A) → rises before (front ++ x ∷ xs) ≡ true
+    → list_all (λ y. before y x) front ≡ true
 before_all before x xs [] r = refl
 before_all before x xs (y ∷ ys) r =
     let p = both (list_all (λ w. before y w) (ys ++ x ∷ xs)) (rises before (ys ++ x ∷ xs)) r in
-    let q = both (list_all (λ w. before y w) ys) (list_all (λ w. before y w) (x ∷ xs)) (sym (list_all-append (λ w. before y w) ys (x ∷ xs)) ∙ p.0) in
+    let q = both (list_all (λ w. before y w) ys) (list_all (λ w. before y w) (x ∷ xs))
+    (sym (list_all-append (λ w. before y w) ys (x ∷ xs)) ∙ p.0) in
     let s = both (before y x) (list_all (λ w. before y w) xs) q.1 in
     join (before y x) (list_all (λ w. before w x) ys) s.0 (before_all before x xs ys p.1)
 
 -- what fits value by value rises, and each value is fine
-pub rising_apart : {A : Type 0} (f : List A → Format A) (before : A → A → Bool) (fine : A → Bool) → AsksToRise f before fine → PassesOn before → (xs front : List A) → rises before front ≡ true → each_fits f front xs ≡ true
+pub rising_apart : {A : Type 0} (f : List A → Format A) (before : A → A → Bool) (fine : A → Bool) → AsksToRise f before fine
+    → PassesOn before → (xs front : List A) → rises before front ≡ true → each_fits f front xs ≡ true
     → (rises before (front ++ xs) ≡ true) × (list_all fine xs ≡ true)
 unfolding each_fits
 rising_apart f before fine a passes [] front r h = (rw (append-nil front) r, refl)
@@ -75,7 +84,8 @@ rising_apart {A} f before fine a passes (x ∷ xs) front r h =
     (ap (rises before) (sym (append_assoc front (x ∷ []) xs)) ∙ t.0, join (fine x) (list_all fine xs) q.1 t.1)
 
 -- values that rise, each of them fine, fit value by value
-pub rising_fits : {A : Type 0} (f : List A → Format A) (before : A → A → Bool) (fine : A → Bool) → AsksToRise f before fine → (xs front : List A) → rises before (front ++ xs) ≡ true → list_all fine xs ≡ true → each_fits f front xs ≡ true
+pub rising_fits : {A : Type 0} (f : List A → Format A) (before : A → A → Bool) (fine : A → Bool) → AsksToRise f before fine
+    → (xs front : List A) → rises before (front ++ xs) ≡ true → list_all fine xs ≡ true → each_fits f front xs ≡ true
 unfolding each_fits
 rising_fits f before fine a [] front r h = refl
 rising_fits f before fine a (x ∷ xs) front r h =
@@ -114,10 +124,12 @@ list_all-filter p test (x ∷ xs) h =
     either (λ ys. list_all test ys ≡ true) (p x) (x ∷ filter p xs) (filter p xs) (join (test x) (list_all test (filter p xs)) q.0 rest) rest
 
 -- rising values still rise where some are left out
-pub rises-filter : {A : Type 0} (p : A → Bool) (before : A → A → Bool) (xs : List A) → rises before xs ≡ true → rises before (filter p xs) ≡ true
+pub rises-filter : {A : Type 0} (p : A → Bool) (before : A → A → Bool) (xs : List A) → rises before xs ≡ true
+    → rises before (filter p xs) ≡ true
 rises-filter p before [] r = refl
 rises-filter p before (x ∷ xs) r =
     let q = both (list_all (λ y. before x y) xs) (rises before xs) r in
     let rest : rises before (filter p xs) ≡ true = rises-filter p before xs q.1 in
     let all : list_all (λ y. before x y) (filter p xs) ≡ true = list_all-filter p (λ y. before x y) xs q.0 in
-    either (λ ys. rises before ys ≡ true) (p x) (x ∷ filter p xs) (filter p xs) (join (list_all (λ y. before x y) (filter p xs)) (rises before (filter p xs)) all rest) rest
+    either (λ ys. rises before ys ≡ true) (p x) (x ∷ filter p xs) (filter p xs)
+    (join (list_all (λ y. before x y) (filter p xs)) (rises before (filter p xs)) all rest) rest

@@ -1,5 +1,6 @@
 -- Sets of matchmakers: ids that are read rise, and each set has a spelling.
-use Rattle.std.proofs.Common.{◌≡◌, ℕ, zero, suc, ◌<◌, ◌≤◌, Bool, true, false, ◌&&◌, cond, List, [], ◌∷◌, ◌++◌, length, get_or, Ok, Err, refl, sym, ap, subst, ◌∙◌, append_assoc, IsTrue, arith}
+use Rattle.std.proofs.Common.{◌≡◌, ℕ, zero, suc, ◌<◌, ◌≤◌, Bool, true, false, ◌&&◌, cond, List, [], ◌∷◌, ◌++◌, length, get_or, Ok, Err}
+use Rattle.std.proofs.Common.{refl, sym, ap, subst, ◌∙◌, append_assoc, IsTrue, arith}
 use Rattle.std.specs.Prelude.{nat_le, nat_lt}
 use Rattle.std.specs.List.{list_all}
 use Rattle.std.proofs.lemmas.Bool.{lt-ltb, eq-eqb}
@@ -32,19 +33,24 @@ rises_are [] = refl
 rises_are (n ∷ ns) = ap (λ (rest : Bool). list_all (λ m. nat_lt n m) ns && rest) (rises_are ns)
 
 -- ids that are read after rising ones rise with them
-read_on : (n : ℕ) (before bytes : List ℕ) (x : List ℕ × List ℕ) → rises nat_lt before ≡ true → each_read set_member before n bytes ≡ Ok x → rises nat_lt (before ++ x.0) ≡ true
+read_on : (n : ℕ) (before bytes : List ℕ) (x : List ℕ × List ℕ) → rises nat_lt before ≡ true → each_read set_member before n bytes ≡ Ok x
+    → rises nat_lt (before ++ x.0) ≡ true
 unfolding each_read set_member
-read_on zero before bytes x r e = subst (λ (y : List ℕ × List ℕ). rises nat_lt (before ++ y.0) ≡ true) (ok_is ([], bytes) x e) (rw (append-nil before) r)
+read_on zero before bytes x r e =
+    subst (λ (y : List ℕ × List ℕ). rises nat_lt (before ++ y.0) ≡ true) (ok_is ([], bytes) x e) (rw (append-nil before) r)
 read_on (suc n) before bytes x r e =
-    let a = bind_ok ((set_member before).read bytes) (λ y. each_read set_member (before ++ y.0 ∷ []) n y.1 >>= λ ys. Ok (y.0 ∷ ys.0, ys.1)) x e in
+    let a =
+    bind_ok ((set_member before).read bytes) (λ y. each_read set_member (before ++ y.0 ∷ []) n y.1 >>= λ ys. Ok (y.0 ∷ ys.0, ys.1)) x e in
     let b = bind_ok (each_read set_member (before ++ a.0.0 ∷ []) n a.0.1) (λ ys. Ok (a.0.0 ∷ ys.0, ys.1)) x a.2 in
     let one = bind_ok (u16.read bytes) (λ y. cond (last_passes (λ m. nat_lt m y.0) before) (Ok y) (Err (bad (length bytes)))) a.0 a.1 in
     let test = guard_ok (last_passes (λ m. nat_lt m one.0.0) before) (bad (length bytes)) one.0 a.0 one.2 in
-    let last : last_passes (λ m. nat_lt m a.0.0) before ≡ true = ap (λ (y : ℕ × List ℕ). last_passes (λ m. nat_lt m y.0) before) (sym test.1) ∙ test.0 in
+    let last : last_passes (λ m. nat_lt m a.0.0) before ≡ true =
+    ap (λ (y : ℕ × List ℕ). last_passes (λ m. nat_lt m y.0) before) (sym test.1) ∙ test.0 in
     let more : rises nat_lt (before ++ a.0.0 ∷ []) ≡ true = rises-next nat_lt members_pass a.0.0 before r last in
     let others : rises nat_lt ((before ++ a.0.0 ∷ []) ++ b.0.0) ≡ true = read_on n (before ++ a.0.0 ∷ []) a.0.1 b.0 more b.1 in
     let made : List ℕ × List ℕ = (a.0.0 ∷ b.0.0, b.0.1) in
-    subst (λ (y : List ℕ × List ℕ). rises nat_lt (before ++ y.0) ≡ true) (ok_is made x b.2) (ap (rises nat_lt) (sym (append_assoc before (a.0.0 ∷ []) b.0.0)) ∙ others)
+    subst (λ (y : List ℕ × List ℕ). rises nat_lt (before ++ y.0) ≡ true) (ok_is made x b.2)
+    (ap (rises nat_lt) (sym (append_assoc before (a.0.0 ∷ []) b.0.0)) ∙ others)
 
 -- ids that are read rise
 pub read_members_rise : (n : ℕ) (bytes : List ℕ) (x : List ℕ × List ℕ) → each_read set_member [] n bytes ≡ Ok x → is_rising x.0 ≡ true
@@ -69,12 +75,17 @@ at_most n k le = grind (arith, nat_tests)
 -- a set of ids in two bytes
 pub set_in_range : (ids : List ℕ) → length ids ≤ 7 → IsTrue (is_rising ids) → ((i : ℕ) → get_or ids i 0 < 65536) → IsTrue (set.fits ids)
 unfolding set
-set_in_range ids room rising small =
-    rw (byte_fits (length ids) room, at_most (length ids) 7 room, eq-eqb (length ids) (length ids) refl, rising_members ids rising (ids_fit ids small)) refl
+set_in_range ids room rising small = rw (
+  byte_fits (length ids) room,
+  at_most (length ids) 7 room,
+  eq-eqb (length ids) (length ids) refl,
+  rising_members ids rising (ids_fit ids small),
+) refl
 
 -- the same, after the round in which it was accepted
-pub accepted_set_in_range : (accepted : Round) (ids : List ℕ) → length ids ≤ 7 → IsTrue (is_rising ids) → ((i : ℕ) → get_or ids i 0 < 65536) → IsTrue (goes_with accepted (length ids)) → IsTrue ((accepted_set accepted).fits ids)
+pub accepted_set_in_range : (accepted : Round) (ids : List ℕ) → length ids ≤ 7 → IsTrue (is_rising ids) → ((i : ℕ) → get_or ids i 0 < 65536)
+    → IsTrue (goes_with accepted (length ids)) → IsTrue ((accepted_set accepted).fits ids)
 unfolding accepted_set
-accepted_set_in_range accepted ids room rising small goes =
-    join _ _ (join _ _ (byte_fits (length ids) room) (join (nat_le (length ids) 7) (goes_with accepted (length ids)) (at_most (length ids) 7 room) goes))
+accepted_set_in_range accepted ids room rising small goes = join _ _ (join _ _ (byte_fits (length ids) room)
+    (join (nat_le (length ids) 7) (goes_with accepted (length ids)) (at_most (length ids) 7 room) goes))
     (join _ _ (eq-eqb (length ids) (length ids) refl) (rising_members ids rising (ids_fit ids small)))

@@ -14,8 +14,14 @@ use Rattle.cx_base.specs.declared.command.Reply.{Reply}
 use Rattle.cx_base.specs.declared.command.Reply.TheVariants as replies
 use Rattle.cx_wire.specs.Format.{u8, u16, u32, u64, only, whole, then_by, ◌▷◌, times}
 use Rattle.cx_wire.proofs.Laws.{both}
-use Rattle.cx_wire.proofs.Sizes.{IsShort, u8-short, u16-short, u32-short, u64-short, weaker, only-short, whole-short, then_by-short, ▷-short, shaped-short, times-short, counted-short, tagged-short}
-use Rattle.cx_field.specs.Fields.{slot, mark, seq, at, round_fields, round, round0, member, grid, name_byte, name, floor_below, told_shape, told_cases, told_op, make_command, command_parts, command_with, command, commands_with, commands, value_shape, value_cases, value_with, value, reply_len, reply_shape, reply_cases, reply, last_passes, in_window, entry, entries, joined, set_member, set, goes_with, accepted_set, vote_with, votes_with, votes, answered, answers, pair, pairs, note, notes, found_shape, found_cases, found, reason_shape, reason_cases, reason, token, asking}
+use Rattle.cx_wire.proofs.Sizes.{IsShort, u8-short, u16-short, u32-short, u64-short, weaker, only-short, whole-short, then_by-short}
+use Rattle.cx_wire.proofs.Sizes.{▷-short, shaped-short, times-short, counted-short, tagged-short}
+use Rattle.cx_field.specs.Fields.{slot, mark, seq, at, round_fields, round, round0, member, grid, name_byte, name, floor_below, told_shape}
+use Rattle.cx_field.specs.Fields.{told_cases, told_op, make_command, command_parts, command_with, command, commands_with, commands}
+use Rattle.cx_field.specs.Fields.{value_shape, value_cases, value_with, value, reply_len, reply_shape, reply_cases, reply, last_passes}
+use Rattle.cx_field.specs.Fields.{in_window, entry, entries, joined, set_member, set, goes_with, accepted_set, vote_with, votes_with, votes}
+use Rattle.cx_field.specs.Fields.{answered, answers, pair, pairs, note, notes, found_shape, found_cases, found, reason_shape, reason_cases}
+use Rattle.cx_field.specs.Fields.{reason, token, asking}
 use Rattle.cx_field.specs.declared.parts.Entry.{Entry}
 use Rattle.cx_field.specs.declared.parts.NackReason.{NackReason}
 use Rattle.cx_field.specs.declared.parts.NackReason.TheVariants as nack
@@ -47,7 +53,8 @@ unfolding seq
 seq-short = only-short (λ n. nat_le 1 n) u64 8 u64-short
 
 round_fields-short : IsShort round_fields 10
-round_fields-short = shaped-short {A = ℕ × (ℕ × ℕ)} (λ x. record { r = x.0; id = x.1.0; s = x.1.1 }) (λ r. (r.r, (r.id, r.s))) (u32 ▷ (u16 ▷ u32)) 10 (▷-short u32 (u16 ▷ u32) 4 6 u32-short (▷-short u16 u32 2 4 u16-short u32-short))
+round_fields-short = shaped-short {A = ℕ × (ℕ × ℕ)} (λ x. record { r = x.0; id = x.1.0; s = x.1.1 }) (λ r. (r.r, (r.id, r.s)))
+    (u32 ▷ (u16 ▷ u32)) 10 (▷-short u32 (u16 ▷ u32) 4 6 u32-short (▷-short u16 u32 2 4 u16-short u32-short))
 
 pub round-short : IsShort round 10
 unfolding round
@@ -55,24 +62,30 @@ round-short = only-short (λ r. nat_le 1 r.r) (whole 10 round_fields) 10 (whole-
 
 pub round0-short : IsShort round0 10
 unfolding round0
-round0-short = only-short (λ r. nat_le 1 r.r || (r.r == 0 && r.id == 0 && r.s == 0)) (whole 10 round_fields) 10 (whole-short 10 round_fields 10 round_fields-short)
+round0-short = only-short (λ r. nat_le 1 r.r || (r.r == 0 && r.id == 0 && r.s == 0)) (whole 10 round_fields) 10
+    (whole-short 10 round_fields 10 round_fields-short)
 
 member-short : (before : List ℕ) → IsShort (member before) 2
 unfolding member
 member-short before = only-short (λ id. not (is_in id before)) u16 2 u16-short
 
-members-short : (rows cols : ℕ) → (only (λ c. nat_le 1 c && nat_le (rows * c) 16) u8).fits cols ≡ true → IsShort (times (rows * cols) member) 32
+members-short : (rows cols : ℕ) → (only (λ c. nat_le 1 c && nat_le (rows * c) 16) u8).fits cols ≡ true
+    → IsShort (times (rows * cols) member) 32
 members-short rows cols h =
-    let le : rows * cols ≤ 16 = at_most (rows * cols) 16 (both (nat_le 1 cols) (nat_le (rows * cols) 16) (both (u8.fits cols) (nat_le 1 cols && nat_le (rows * cols) 16) h).1).1 in
+    let le : rows * cols ≤ 16 = at_most (rows * cols) 16
+    (both (nat_le 1 cols) (nat_le (rows * cols) 16) (both (u8.fits cols) (nat_le 1 cols && nat_le (rows * cols) 16) h).1).1 in
     weaker (times (rows * cols) member) (rows * cols * 2) 32 (omega arith) (times-short (rows * cols) member 2 member-short)
 
 pub grid-short : IsShort grid 34
 unfolding grid
 grid-short =
-    shaped-short {A = ℕ × (ℕ × List ℕ)} (λ x. make_grid x.0 x.1.0 x.1.1) (λ g. (g.rows, (g.cols, g.members))) (then_by (only (λ rows. nat_le 1 rows) u8) (λ rows. then_by (only (λ cols. nat_le 1 cols && nat_le (rows * cols) 16) u8) (λ cols. times (rows * cols) member))) 34
-    (then_by-short (only (λ rows. nat_le 1 rows) u8) (λ rows. then_by (only (λ cols. nat_le 1 cols && nat_le (rows * cols) 16) u8) (λ cols. times (rows * cols) member)) 1 33 (only-short (λ rows. nat_le 1 rows) u8 1 u8-short)
-    (λ rows _. then_by-short (only (λ cols. nat_le 1 cols && nat_le (rows * cols) 16) u8) (λ cols. times (rows * cols) member) 1 32 (only-short (λ cols. nat_le 1 cols && nat_le (rows * cols) 16) u8 1 u8-short)
-    (λ cols h. members-short rows cols h)))
+    shaped-short {A = ℕ × (ℕ × List ℕ)} (λ x. make_grid x.0 x.1.0 x.1.1)
+    (λ g. (g.rows, (g.cols, g.members))) (then_by (only (λ rows. nat_le 1 rows) u8)
+    (λ rows. then_by (only (λ cols. nat_le 1 cols && nat_le (rows * cols) 16) u8) (λ cols. times (rows * cols) member))) 34
+    (then_by-short (only (λ rows. nat_le 1 rows) u8) (λ rows. then_by (only (λ cols. nat_le 1 cols && nat_le (rows * cols) 16) u8)
+    (λ cols. times (rows * cols) member)) 1 33 (only-short (λ rows. nat_le 1 rows) u8 1 u8-short)
+    (λ rows _. then_by-short (only (λ cols. nat_le 1 cols && nat_le (rows * cols) 16) u8) (λ cols. times (rows * cols) member) 1 32
+    (only-short (λ cols. nat_le 1 cols && nat_le (rows * cols) 16) u8 1 u8-short) (λ cols h. members-short rows cols h)))
 
 name_byte-short : IsShort name_byte 1
 unfolding name_byte
@@ -80,11 +93,13 @@ name_byte-short = only-short is_name_byte u8 1 u8-short
 
 pub key-short : IsShort (name 32) 33
 unfolding name
-key-short = counted-short (only (λ n. nat_le 1 n && nat_le n 32) u8) (λ _. name_byte) 1 32 1 (only-short (λ n. nat_le 1 n && nat_le n 32) u8 1 u8-short) (λ n h. from_one n 32 h) (λ _. name_byte-short)
+key-short = counted-short (only (λ n. nat_le 1 n && nat_le n 32) u8) (λ _. name_byte) 1 32 1
+    (only-short (λ n. nat_le 1 n && nat_le n 32) u8 1 u8-short) (λ n h. from_one n 32 h) (λ _. name_byte-short)
 
 pub text-short : IsShort (name 64) 65
 unfolding name
-text-short = counted-short (only (λ n. nat_le 1 n && nat_le n 64) u8) (λ _. name_byte) 1 64 1 (only-short (λ n. nat_le 1 n && nat_le n 64) u8 1 u8-short) (λ n h. from_one n 64 h) (λ _. name_byte-short)
+text-short = counted-short (only (λ n. nat_le 1 n && nat_le n 64) u8) (λ _. name_byte) 1 64 1
+    (only-short (λ n. nat_le 1 n && nat_le n 64) u8 1 u8-short) (λ n h. from_one n 64 h) (λ _. name_byte-short)
 
 key_text-short : IsShort (name 32 ▷ name 64) 98
 key_text-short = ▷-short (name 32) (name 64) 33 65 key-short text-short
@@ -113,12 +128,13 @@ told_op-short number = tagged-short (told_shape true number) (told_cases true nu
 
 pub command-short : IsShort command 117
 unfolding command command_with
-command-short = shaped-short {A = ℕ × (ℕ × (Option ℕ × Op))} make_command command_parts (u16 ▷ then_by seq (told_op true)) 117
-    (▷-short u16 (then_by seq (told_op true)) 2 115 u16-short (then_by-short seq (told_op true) 8 107 seq-short (λ number _. told_op-short number)))
+command-short = shaped-short {A = ℕ × (ℕ × (Option ℕ × Op))} make_command command_parts (u16 ▷ then_by seq (told_op true)) 117 (▷-short u16
+    (then_by seq (told_op true)) 2 115 u16-short (then_by-short seq (told_op true) 8 107 seq-short (λ number _. told_op-short number)))
 
 pub commands-short : IsShort commands 937
 unfolding commands commands_with command
-commands-short = counted-short (only (λ n. nat_le 1 n && nat_le n 8) u8) (λ _. command_with true) 1 8 117 (only-short (λ n. nat_le 1 n && nat_le n 8) u8 1 u8-short) (λ n h. from_one n 8 h) (λ _. command-short)
+commands-short = counted-short (only (λ n. nat_le 1 n && nat_le n 8) u8) (λ _. command_with true) 1 8 117
+    (only-short (λ n. nat_le 1 n && nat_le n 8) u8 1 u8-short) (λ n h. from_one n 8 h) (λ _. command-short)
 
 value-sizes : (x : Value) → (value_shape true x).fits ≡ true → length (value_shape true x).bytes ≤ 937
 unfolding commands
@@ -153,11 +169,13 @@ entry-short before =
 
 pub entries-short : IsShort entries 11221
 unfolding entries
-entries-short = counted-short (only (λ n. nat_le n 255) u8) entry 1 255 44 (only-short (λ n. nat_le n 255) u8 1 u8-short) (λ n h. from_none n 255 h) entry-short
+entries-short = counted-short (only (λ n. nat_le n 255) u8) entry 1 255 44 (only-short (λ n. nat_le n 255) u8 1 u8-short)
+    (λ n h. from_none n 255 h) entry-short
 
 pub joined-short : IsShort joined 11177
 unfolding joined
-joined-short = counted-short (only (λ n. nat_le n 254) u8) entry 1 254 44 (only-short (λ n. nat_le n 254) u8 1 u8-short) (λ n h. from_none n 254 h) entry-short
+joined-short = counted-short (only (λ n. nat_le n 254) u8) entry 1 254 44 (only-short (λ n. nat_le n 254) u8 1 u8-short)
+    (λ n h. from_none n 254 h) entry-short
 
 set_member-short : (before : List ℕ) → IsShort (set_member before) 2
 unfolding set_member
@@ -165,52 +183,62 @@ set_member-short before = only-short (λ id. last_passes (λ m. nat_lt m id) bef
 
 pub set-short : IsShort set 15
 unfolding set
-set-short = counted-short (only (λ n. nat_le n 7) u8) set_member 1 7 2 (only-short (λ n. nat_le n 7) u8 1 u8-short) (λ n h. from_none n 7 h) set_member-short
+set-short = counted-short (only (λ n. nat_le n 7) u8) set_member 1 7 2 (only-short (λ n. nat_le n 7) u8 1 u8-short) (λ n h. from_none n 7 h)
+    set_member-short
 
 from_accepted : (accepted : Round) (n : ℕ) → (only (λ m. nat_le m 7 && goes_with accepted m) u8).fits n ≡ true → n ≤ 7
-from_accepted accepted n h = at_most n 7 (both (nat_le n 7) (goes_with accepted n) (both (u8.fits n) (nat_le n 7 && goes_with accepted n) h).1).0
+from_accepted accepted n h =
+    at_most n 7 (both (nat_le n 7) (goes_with accepted n) (both (u8.fits n) (nat_le n 7 && goes_with accepted n) h).1).0
 
 pub accepted_set-short : (accepted : Round) → IsShort (accepted_set accepted) 15
 unfolding accepted_set
-accepted_set-short accepted =
-    counted-short (only (λ n. nat_le n 7 && goes_with accepted n) u8) set_member 1 7 2 (only-short (λ n. nat_le n 7 && goes_with accepted n) u8 1 u8-short) (from_accepted accepted) set_member-short
+accepted_set-short accepted = counted-short (only (λ n. nat_le n 7 && goes_with accepted n) u8) set_member 1 7 2
+    (only-short (λ n. nat_le n 7 && goes_with accepted n) u8 1 u8-short) (from_accepted accepted) set_member-short
 
 vote-short : (cw : ℕ) (before : List Vote) → IsShort (vote_with true cw before) 956
 unfolding vote_with value
 vote-short cw before =
     let rises : ℕ → Bool = λ s. in_window cw s && last_passes (λ (v : Vote). nat_lt v.slot s) before in
-    shaped-short {A = Round × (ℕ × Value)} (λ x. record { round = x.0; slot = x.1.0; value = x.1.1 }) (λ v. (v.round, (v.slot, v.value))) (round ▷ (only rises slot ▷ value_with true)) 956
-    (▷-short round (only rises slot ▷ value_with true) 10 946 round-short (▷-short (only rises slot) (value_with true) 8 938 (only-short rises slot 8 slot-short) value-short))
+    shaped-short {A = Round × (ℕ × Value)} (λ x. record { round = x.0; slot = x.1.0; value = x.1.1 }) (λ v. (v.round, (v.slot, v.value)))
+    (round ▷ (only rises slot ▷ value_with true)) 956
+    (▷-short round (only rises slot ▷ value_with true) 10 946 round-short
+    (▷-short (only rises slot) (value_with true) 8 938 (only-short rises slot 8 slot-short) value-short))
 
 pub votes-short : (cw : ℕ) → IsShort (votes cw) 30593
 unfolding votes votes_with
-votes-short cw = counted-short (only (λ n. nat_le n 32) u8) (vote_with true cw) 1 32 956 (only-short (λ n. nat_le n 32) u8 1 u8-short) (λ n h. from_none n 32 h) (vote-short cw)
+votes-short cw = counted-short (only (λ n. nat_le n 32) u8) (vote_with true cw) 1 32 956 (only-short (λ n. nat_le n 32) u8 1 u8-short)
+    (λ n h. from_none n 32 h) (vote-short cw)
 
 answered-short : IsShort answered 84
 unfolding answered
-answered-short = shaped-short {A = ℕ × (ℕ × (ℕ × Reply))} (λ x. record { client = x.0; seq = x.1.0; at = x.1.1.0; reply = x.1.1.1 }) (λ a. (a.client, (a.seq, (a.at, a.reply)))) (u16 ▷ (seq ▷ (at ▷ reply))) 84
+answered-short = shaped-short {A = ℕ × (ℕ × (ℕ × Reply))} (λ x. record { client = x.0; seq = x.1.0; at = x.1.1.0; reply = x.1.1.1 })
+    (λ a. (a.client, (a.seq, (a.at, a.reply)))) (u16 ▷ (seq ▷ (at ▷ reply))) 84
     (▷-short u16 (seq ▷ (at ▷ reply)) 2 82 u16-short (▷-short seq (at ▷ reply) 8 74 seq-short (▷-short at reply 8 66 at-short reply-short)))
 
 pub answers-short : IsShort answers 673
 unfolding answers
-answers-short = counted-short (only (λ n. nat_le 1 n && nat_le n 8) u8) (λ _. answered) 1 8 84 (only-short (λ n. nat_le 1 n && nat_le n 8) u8 1 u8-short) (λ n h. from_one n 8 h) (λ _. answered-short)
+answers-short = counted-short (only (λ n. nat_le 1 n && nat_le n 8) u8) (λ _. answered) 1 8 84
+    (only-short (λ n. nat_le 1 n && nat_le n 8) u8 1 u8-short) (λ n h. from_one n 8 h) (λ _. answered-short)
 
 pair-short : IsShort pair 98
 unfolding pair
-pair-short = shaped-short {A = List ℕ × List ℕ} (λ x. record { key = x.0; text = x.1 }) (λ p. (p.key, p.text)) (name 32 ▷ name 64) 98 key_text-short
+pair-short =
+    shaped-short {A = List ℕ × List ℕ} (λ x. record { key = x.0; text = x.1 }) (λ p. (p.key, p.text)) (name 32 ▷ name 64) 98 key_text-short
 
 pub pairs-short : IsShort pairs 24991
 unfolding pairs
-pairs-short = counted-short (only (λ n. nat_le 1 n && nat_le n 255) u8) (λ _. pair) 1 255 98 (only-short (λ n. nat_le 1 n && nat_le n 255) u8 1 u8-short) (λ n h. from_one n 255 h) (λ _. pair-short)
+pairs-short = counted-short (only (λ n. nat_le 1 n && nat_le n 255) u8) (λ _. pair) 1 255 98
+    (only-short (λ n. nat_le 1 n && nat_le n 255) u8 1 u8-short) (λ n h. from_one n 255 h) (λ _. pair-short)
 
 note-short : IsShort note 82
 unfolding note
-note-short = shaped-short {A = ℕ × (ℕ × Reply)} (λ x. record { seq = x.0; at = x.1.0; reply = x.1.1 }) (λ n. (n.seq, (n.at, n.reply))) (seq ▷ (at ▷ reply)) 82
-    (▷-short seq (at ▷ reply) 8 74 seq-short (▷-short at reply 8 66 at-short reply-short))
+note-short = shaped-short {A = ℕ × (ℕ × Reply)} (λ x. record { seq = x.0; at = x.1.0; reply = x.1.1 }) (λ n. (n.seq, (n.at, n.reply)))
+    (seq ▷ (at ▷ reply)) 82 (▷-short seq (at ▷ reply) 8 74 seq-short (▷-short at reply 8 66 at-short reply-short))
 
 pub notes-short : IsShort notes 5249
 unfolding notes
-notes-short = counted-short (only (λ n. nat_le 1 n && nat_le n 64) u8) (λ _. note) 1 64 82 (only-short (λ n. nat_le 1 n && nat_le n 64) u8 1 u8-short) (λ n h. from_one n 64 h) (λ _. note-short)
+notes-short = counted-short (only (λ n. nat_le 1 n && nat_le n 64) u8) (λ _. note) 1 64 82
+    (only-short (λ n. nat_le 1 n && nat_le n 64) u8 1 u8-short) (λ n h. from_one n 64 h) (λ _. note-short)
 
 found-sizes : (x : Option (List ℕ)) → (found_shape x).fits ≡ true → length (found_shape x).bytes ≤ 65
 found-sizes None h = omega arith
@@ -231,8 +259,10 @@ reason-short = tagged-short reason_shape reason_cases 0 reason-sizes
 
 pub token-short : IsShort token 10
 unfolding token
-token-short = shaped-short {A = ℕ × ℕ} (λ x. record { client = x.0; seq = x.1 }) (λ t. (t.client, t.seq)) (u16 ▷ seq) 10 (▷-short u16 seq 2 8 u16-short seq-short)
+token-short = shaped-short {A = ℕ × ℕ} (λ x. record { client = x.0; seq = x.1 }) (λ t. (t.client, t.seq)) (u16 ▷ seq) 10
+    (▷-short u16 seq 2 8 u16-short seq-short)
 
 pub asking-short : IsShort asking 10
 unfolding asking
-asking-short = shaped-short {A = ℕ × ℕ} (λ x. record { reader = x.0; turn = x.1 }) (λ a. (a.reader, a.turn)) (u16 ▷ seq) 10 (▷-short u16 seq 2 8 u16-short seq-short)
+asking-short = shaped-short {A = ℕ × ℕ} (λ x. record { reader = x.0; turn = x.1 }) (λ a. (a.reader, a.turn)) (u16 ▷ seq) 10
+    (▷-short u16 seq 2 8 u16-short seq-short)

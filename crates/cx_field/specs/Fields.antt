@@ -1,5 +1,6 @@
 -- The fields of messages and records: which bytes spell each, and which values each may have.
-use Rattle.std.specs.Prelude.{ℕ, ◌+◌, ◌-◌, ◌*◌, ◌^◌, Bool, true, false, ◌&&◌, ◌||◌, not, ◌==◌, nat_lt, nat_le, List, [], ◌∷◌, length, Option, Some, None, slice_get, if◌then◌else◌}
+use Rattle.std.specs.Prelude.{ℕ, ◌+◌, ◌-◌, ◌*◌, ◌^◌, Bool, true, false, ◌&&◌, ◌||◌, not, ◌==◌, nat_lt, nat_le, List, [], ◌∷◌, length}
+use Rattle.std.specs.Prelude.{Option, Some, None, slice_get, if◌then◌else◌}
 use Rattle.std.specs.List.{list_any}
 use Rattle.std.specs.Option.{option_map_or}
 use Rattle.cx_base.specs.Asked.{floor_fits}
@@ -24,7 +25,8 @@ use Rattle.cx_field.specs.declared.parts.NackReason.TheVariants as nack
 use Rattle.cx_field.specs.declared.parts.Vote.{Vote}
 use Rattle.cx_field.specs.declared.parts.Token.{Token}
 use Rattle.cx_field.specs.declared.parts.Asking.{Asking}
-use Rattle.cx_wire.specs.Format.{Format, u8, u16, u32, u64, only, whole, then_by, ◌▷◌, no_bytes, shaped, times, counted, TaggedBytes, shape, Case, case, tagged}
+use Rattle.cx_wire.specs.Format.{Format, u8, u16, u32, u64, only, whole, then_by, ◌▷◌, no_bytes, shaped, times, counted, TaggedBytes, shape}
+use Rattle.cx_wire.specs.Format.{Case, case, tagged}
 
 -- a slot, below 2^40
 unfoldable pub slot : Format ℕ
@@ -204,7 +206,8 @@ in_window cw s = nat_le cw s && nat_lt s (cw + 32)
 
 -- an entry after others, of a greater round
 unfoldable pub entry : List Entry → Format Entry
-entry before = shaped (λ x. record { round = x.0; grid = x.1 }) (λ e. (e.round, e.grid)) (only (λ r. last_passes (λ e. is_before e.round r) before) round ▷ grid)
+entry before = shaped (λ x. record { round = x.0; grid = x.1 }) (λ e. (e.round, e.grid))
+    (only (λ r. last_passes (λ e. is_before e.round r) before) round ▷ grid)
 
 -- at most 255 entries
 unfoldable pub entries : Format (List Entry)
@@ -244,7 +247,8 @@ votes = votes_with true
 
 -- a command's answer: its client, its number, one more than its slot, and the reply
 unfoldable pub answered : Format Answered
-answered = shaped (λ x. record { client = x.0; seq = x.1.0; at = x.1.1.0; reply = x.1.1.1 }) (λ a. (a.client, (a.seq, (a.at, a.reply)))) (u16 ▷ seq ▷ at ▷ reply)
+answered = shaped (λ x. record { client = x.0; seq = x.1.0; at = x.1.1.0; reply = x.1.1.1 }) (λ a. (a.client, (a.seq, (a.at, a.reply))))
+    (u16 ▷ seq ▷ at ▷ reply)
 
 -- one to eight answers
 unfoldable pub answers : Format (List Answered)

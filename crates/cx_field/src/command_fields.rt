@@ -119,7 +119,8 @@ fn are_name_bytes(bytes: &[u8]) -> bool
 
 // The bytes of a name. Where they are refused, the letters one by one tell where the fault lies.
 fn name_bytes_from<'a>(count: usize, reader: &mut ByteReader<'a>) -> Result<&'a [u8], ReadFault>
-    ensures read { Gives (λ x. x.now) result (wire.each_read (λ _. field.name_byte) [] count reader.old) reader.new }
+    ensures read { Gives (λ x. x.now) result
+        (wire.each_read (λ _. field.name_byte) [] count reader.old) reader.new }
     ensures len { IfOk result (λ x. length x.now ≡ count) }
     ensures names { IfOk result (λ x. IsTrue (list_all is_name_byte x.now)) }
 {

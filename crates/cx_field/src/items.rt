@@ -44,7 +44,8 @@ pub fn items_from<I: Items>(
 ) -> Result<Vec<I::Item>, ReadFault>
 where
     I::Item: Drop,
-    ensures read { Gives (λ v. v.items) result (each_read (I.format items.now) [] count reader.old) reader.new }
+    ensures read { Gives (λ v. v.items) result (each_read (I.format items.now) [] count reader.old)
+        reader.new }
     ensures len { IfOk result (λ v. vec_len v ≡ count) }
 {
     let mut list = Vec::with_capacity(alloc, count)?;
@@ -89,8 +90,10 @@ where
 
 /// Appends values.
 pub fn put_items<I: Items>(items: &I, list: &[I::Item], out: &mut Vec<u8>) -> Result<(), NoMemory>
-    ensures bytes { OnOk result (out.new.items ≡ out.old.items ++ each_spell (I.format items.now) [] list.now) }
-    ensures room { OnOk result (length out.new.items ≤ length out.old.items + length list.now * I.most) }
+    ensures bytes { OnOk result
+        (out.new.items ≡ out.old.items ++ each_spell (I.format items.now) [] list.now) }
+    ensures room { OnOk result
+        (length out.new.items ≤ length out.old.items + length list.now * I.most) }
 {
     for item in list {
         items.put_next(item, out)?;

@@ -70,7 +70,8 @@ pub fn put_grid(out: &mut Vec<u8>, grid: &Grid) -> Result<(), NoMemory>
 
 // The bytes of a name.
 fn put_name_bytes(out: &mut Vec<u8>, bytes: &[u8]) -> Result<(), NoMemory>
-    ensures bytes { OnOk result (out.new.items ≡ out.old.items ++ wire.each_spell (λ _. field.name_byte) [] bytes.now) }
+    ensures bytes { OnOk result
+        (out.new.items ≡ out.old.items ++ wire.each_spell (λ _. field.name_byte) [] bytes.now) }
     ensures room { OnOk result (length out.new.items ≤ length out.old.items + length bytes.now) }
 {
     out.extend_from_slice(bytes)?;
@@ -99,7 +100,8 @@ fn told_floor(number: u64, floor: u64) -> Option<u64>
 }
 
 fn put_key_text(out: &mut Vec<u8>, key: &Key, text: &Text) -> Result<(), NoMemory>
-    ensures { OnOk result (Appends (field.name 32 ▷ field.name 64) (key.now, text.now) 98 out.old.items out.new.items) }
+    ensures { OnOk result (Appends (field.name 32 ▷ field.name 64) (key.now, text.now) 98
+        out.old.items out.new.items) }
 {
     put_name(out, key)?;
     put_name(out, text)
@@ -204,8 +206,10 @@ pub fn put_reply(out: &mut Vec<u8>, reply: &Reply) -> Result<(), NoMemory>
 /// Appends entries of a matchmaker, at most 11,221 bytes; those with which it begins have the same bytes.
 #[tactic(auto, unfolding(crate::specs::Fields::entries, crate::specs::Fields::joined))]
 pub fn put_entries(out: &mut Vec<u8>, entries: &Entries) -> Result<(), NoMemory>
-    ensures any { OnOk result (Appends field.entries entries.now 11221 out.old.items out.new.items) }
-    ensures joined { OnOk result (Appends field.joined entries.now 11221 out.old.items out.new.items) }
+    ensures any { OnOk result
+        (Appends field.entries entries.now 11221 out.old.items out.new.items) }
+    ensures joined { OnOk result
+        (Appends field.joined entries.now 11221 out.old.items out.new.items) }
 {
     let list = entries.as_slice();
     put_u8(out, list.len() as u8)?;

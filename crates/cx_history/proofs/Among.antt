@@ -18,8 +18,8 @@ both_eq : (k l t u : List ℕ) → ((length k == length l) && bytes_eq (k ++ t) 
 both_eq [] [] t u = refl
 both_eq [] (y ∷ l) t u = rw (eqb-zero-suc (length l)) refl
 both_eq (x ∷ k) [] t u = rw (eqb-suc-zero (length k)) refl
-both_eq (x ∷ k) (y ∷ l) t u =
-    rw (eqb-suc-suc (length k) (length l)) (elim (x == y) as (λ b. ((length k == length l) && (b && bytes_eq (k ++ t) (l ++ u))) ≡ ((b && bytes_eq k l) && bytes_eq t u)) [
+both_eq (x ∷ k) (y ∷ l) t u = rw (eqb-suc-suc (length k) (length l))
+    (elim (x == y) as (λ b. ((length k == length l) && (b && bytes_eq (k ++ t) (l ++ u))) ≡ ((b && bytes_eq k l) && bytes_eq t u)) [
       | true ↦ both_eq k l t u
       | false ↦ elim (length k == length l) as (λ b. (b && false) ≡ false) [ true ↦ refl | false ↦ refl ]
     ])
@@ -61,7 +61,8 @@ write_asks_no_session (Del l) key = refl
 write_asks_no_session (App l u) key = refl
 
 -- two requests ask the same where the same bytes spell what they ask
-same_write : (e : Event) (command : Command) (batcher : ℕ) → same_request e (event.Write command batcher) ≡ bytes_eq (asked e) (asked_op command.op)
+same_write : (e : Event) (command : Command) (batcher : ℕ)
+    → same_request e (event.Write command batcher) ≡ bytes_eq (asked e) (asked_op command.op)
 same_write (event.Write other another) command batcher = same_asked_op other.op command.op
 same_write (event.Read client seq floor reader replica key) command batcher = read_asks key command.op
 same_write (event.Session client seq floor replica key) command batcher = session_asks key command.op
@@ -73,7 +74,8 @@ same_write (event.Snap replica cut) command batcher = none_asks command.op
 same_write (event.Crash r) command batcher = none_asks command.op
 same_write (event.Restart r) command batcher = none_asks command.op
 
-same_key : (e : Event) (client seq floor reader replica : ℕ) (key : List ℕ) → same_request e (event.Read client seq floor reader replica key) ≡ bytes_eq (asked e) (0 ∷ key)
+same_key : (e : Event) (client seq floor reader replica : ℕ) (key : List ℕ)
+    → same_request e (event.Read client seq floor reader replica key) ≡ bytes_eq (asked e) (0 ∷ key)
 same_key (event.Write command batcher) client seq floor reader replica key = write_asks command.op key
 same_key (event.Read other number told another one last) client seq floor reader replica key = refl
 same_key (event.Session other number told another last) client seq floor reader replica key = refl
@@ -85,7 +87,8 @@ same_key (event.Snap snapped cut) client seq floor reader replica key = refl
 same_key (event.Crash r) client seq floor reader replica key = refl
 same_key (event.Restart r) client seq floor reader replica key = refl
 
-same_session : (e : Event) (client seq floor replica : ℕ) (key : List ℕ) → same_request e (event.Session client seq floor replica key) ≡ bytes_eq (asked e) (4 ∷ key)
+same_session : (e : Event) (client seq floor replica : ℕ) (key : List ℕ)
+    → same_request e (event.Session client seq floor replica key) ≡ bytes_eq (asked e) (4 ∷ key)
 same_session (event.Write command batcher) client seq floor replica key = write_asks_no_session command.op key
 same_session (event.Read other number told another one last) client seq floor replica key = refl
 same_session (event.Session other number told another last) client seq floor replica key = refl
@@ -99,20 +102,23 @@ same_session (event.Restart r) client seq floor replica key = refl
 
 -- the tests on an event, by its client and number where it is a request that was sent
 pub token_alone : (t : Token) (h : Happened) → has_token t h ≡ same_token t (sent_token h)
-token_alone t h =
-    elim (was_sent h) as (λ b. (b && same_token t (token_of h.event)) ≡ same_token t (if b then token_of h.event else None)) [ true ↦ refl | false ↦ refl ]
+token_alone t h = elim (was_sent h) as (λ b.
+    (b && same_token t (token_of h.event)) ≡ same_token t (if b then token_of h.event else None)) [ true ↦ refl | false ↦ refl ]
 
 pub floor_alone : (t : Token) (h : Happened) → has_floor_past t h ≡ is_past t (sent_token h) (floor_in h.event)
-floor_alone t h =
-    elim (was_sent h) as (λ b. (b && is_past t (token_of h.event) (floor_in h.event)) ≡ is_past t (if b then token_of h.event else None) (floor_in h.event)) [
+floor_alone t h = elim (was_sent h) as (λ b.
+    (b && is_past t (token_of h.event) (floor_in h.event)) ≡ is_past t (if b then token_of h.event else None) (floor_in h.event)) [
       | true ↦ refl
       | false ↦ refl
     ]
 
-other_request : (t : Token) (e f : Event) → (same_token t (token_of f) && not (same_request e f)) ≡ (same_token t (token_of f) && not (bytes_eq (asked e) (asked f)))
-other_request t e (event.Write command batcher) = ap (λ b. same_token t (token_of (event.Write command batcher)) && not b) (same_write e command batcher)
+other_request : (t : Token) (e f : Event)
+    → (same_token t (token_of f) && not (same_request e f)) ≡ (same_token t (token_of f) && not (bytes_eq (asked e) (asked f)))
+other_request t e (event.Write command batcher) =
+    ap (λ b. same_token t (token_of (event.Write command batcher)) && not b) (same_write e command batcher)
 other_request t e (event.Read client seq floor reader replica key) =
-    ap (λ b. same_token t (token_of (event.Read client seq floor reader replica key)) && not b) (same_key e client seq floor reader replica key)
+    ap (λ b. same_token t (token_of (event.Read client seq floor reader replica key)) && not b)
+    (same_key e client seq floor reader replica key)
 other_request t e (event.Session client seq floor replica key) =
     ap (λ b. same_token t (token_of (event.Session client seq floor replica key)) && not b) (same_session e client seq floor replica key)
 other_request t e (event.Deliver number cut) = refl
@@ -123,7 +129,8 @@ other_request t e (event.Snap replica cut) = refl
 other_request t e (event.Crash r) = refl
 other_request t e (event.Restart r) = refl
 
-pub other_alone : (t : Token) (e : Event) (h : Happened) → asks_another t e h ≡ (same_token t (sent_token h) && not (bytes_eq (asked e) (asked h.event)))
+pub other_alone : (t : Token) (e : Event) (h : Happened)
+    → asks_another t e h ≡ (same_token t (sent_token h) && not (bytes_eq (asked e) (asked h.event)))
 other_alone t e h =
     elim (was_sent h) as (λ b. (b && same_token t (token_of h.event) && not (same_request e h.event))
     ≡ (same_token t (if b then token_of h.event else None) && not (bytes_eq (asked e) (asked h.event)))) [

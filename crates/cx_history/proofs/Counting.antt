@@ -1,12 +1,16 @@
 -- What passes a test is counted one by one.
-use Rattle.std.proofs.Common.{◌≡◌, ◌≤◌, ◌+◌, ◌∙◌, ℕ, Bool, true, false, if◌then◌else◌, List, [], ◌∷◌, ◌++◌, length, filter, ap, sym, refl, arith, add-zero}
+use Rattle.std.proofs.Common.{◌≡◌, ◌≤◌, ◌+◌, ◌∙◌, ℕ, Bool, true, false, if◌then◌else◌, List, [], ◌∷◌, ◌++◌, length, filter, ap, sym, refl}
+use Rattle.std.proofs.Common.{arith, add-zero}
 use Rattle.std.proofs.lemmas.List.{length-append}
 use Rattle.std.proofs.lemmas.List.Elements.{filter-append}
 
-pub counted_more : {A : Type 0} (q : A → Bool) (xs : List A) (x : A) (n : ℕ) → n ≡ length (filter q xs) → (if q x then n + 1 else n) ≡ length (filter q (xs ++ x ∷ []))
+pub counted_more : {A : Type 0} (q : A → Bool) (xs : List A) (x : A) (n : ℕ) → n ≡ length (filter q xs)
+    → (if q x then n + 1 else n) ≡ length (filter q (xs ++ x ∷ []))
 counted_more q xs x n same =
-    let both : length (filter q (xs ++ x ∷ [])) ≡ length (filter q xs) + length (filter q (x ∷ [])) = ap length (filter-append q xs (x ∷ [])) ∙ length-append (filter q xs) (filter q (x ∷ [])) in
-    rw (both, same) (elim (q x) as (λ b. (if b then length (filter q xs) + 1 else length (filter q xs)) ≡ length (filter q xs) + length (if b then x ∷ [] else [])) [
+    let both : length (filter q (xs ++ x ∷ [])) ≡ length (filter q xs) + length (filter q (x ∷ [])) =
+    ap length (filter-append q xs (x ∷ [])) ∙ length-append (filter q xs) (filter q (x ∷ [])) in
+    rw (both, same) (elim (q x) as (λ b.
+    (if b then length (filter q xs) + 1 else length (filter q xs)) ≡ length (filter q xs) + length (if b then x ∷ [] else [])) [
       | true ↦ refl
       | false ↦ sym (add-zero (length (filter q xs)))
     ])

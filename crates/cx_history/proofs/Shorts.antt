@@ -8,7 +8,8 @@ use Rattle.cx_history.specs.Short.{letters_of}
 use Rattle.cx_history.proofs.Steps.{All-push}
 
 pub letters_more : (d : Letter) (pieces : List (List ℕ)) → fits d ≡ true → letters_of (pieces ++ short d ∷ []) ≡ letters_of pieces ++ d ∷ []
-letters_more d pieces fit = map-append (λ (p : List ℕ). letter_of p) pieces (short d ∷ []) ∙ ap (λ x. letters_of pieces ++ x ∷ []) (letter_again d fit)
+letters_more d pieces fit =
+    map-append (λ (p : List ℕ). letter_of p) pieces (short d ∷ []) ∙ ap (λ x. letters_of pieces ++ x ∷ []) (letter_again d fit)
 
 pub shorts_more : (d : Letter) (pieces : List (List ℕ)) → fits d ≡ true → All IsShort pieces → All IsShort (pieces ++ short d ∷ [])
 shorts_more d pieces fit all = All-push IsShort pieces (short d) all (short_again d fit)

@@ -1,5 +1,6 @@
 -- What is noted of the requests that were sent.
-use Rattle.std.specs.Prelude.{◌≡◌, ◌<◌, ◌==◌, ◌&&◌, ◌||◌, ◌++◌, not, max, nat_eq, ℕ, Bool, false, true, if◌then◌else◌, List, Option, None, Some, is_some, length, slice_get}
+use Rattle.std.specs.Prelude.{◌≡◌, ◌<◌, ◌==◌, ◌&&◌, ◌||◌, ◌++◌, not, max, nat_eq, ℕ, Bool, false, true, if◌then◌else◌, List, Option, None}
+use Rattle.std.specs.Prelude.{Some, is_some, length, slice_get}
 use Rattle.std.specs.List.{list_any}
 use Rattle.std.specs.Map.{lookup}
 use Rattle.std.specs.Str.{bytes_eq}
@@ -63,9 +64,11 @@ pub record IsRequestNoted (u : Token) (floor : ℕ) (asks : List ℕ) (old new :
   pub more : List (List ℕ)
   pub pieces : new.pieces ≡ old.pieces ++ more
   pub place : IsPiecePlace new.pieces (Some one)
-  pub others : (other : List ℕ) → asks_other new.pieces (Some one) other ≡ (asks_other old.pieces (asked_with u old.asked) other || not (bytes_eq other asks))
+  pub others : (other : List ℕ)
+      → asks_other new.pieces (Some one) other ≡ (asks_other old.pieces (asked_with u old.asked) other || not (bytes_eq other asks))
   pub numbers : (t : Token) → asked_with t new.asked ≡ (if same_read u t then Some one else asked_with t old.asked)
-  pub floors : (client : ℕ) → floor_told client new.floors ≡ (if u.client == client then Some (max_floor (floor_told u.client old.floors) floor) else floor_told client old.floors)
+  pub floors : (client : ℕ) → floor_told client new.floors
+      ≡ (if u.client == client then Some (max_floor (floor_told u.client old.floors) floor) else floor_told client old.floors)
 
 -- a request that was sent is noted, and nothing else is
 abbrev pub NotesRequest : Option Token → Event → RequestsState → RequestsState → Type 0
@@ -76,13 +79,14 @@ NotesRequest (Some u) e old new = IsRequestNoted u (floor_in e) (asked e) old ne
 pub record IsRequestsStateOf (events : List Happened) (requests : RequestsState) : Type 0 where
   pub places : ArePlaces requests.pieces requests.asked
   pub numbers : (t : Token) → list_any (has_token t) events ≡ is_some (asked_with t requests.asked)
-  pub others : (t : Token) (e : Event) → list_any (asks_another t e) events ≡ asks_other requests.pieces (asked_with t requests.asked) (asked e)
+  pub others : (t : Token) (e : Event)
+      → list_any (asks_another t e) events ≡ asks_other requests.pieces (asked_with t requests.asked) (asked e)
   pub floors : (t : Token) → list_any (has_floor_past t) events ≡ is_done t.seq (floor_told t.client requests.floors)
 
 -- `is_stale` of the model, by what is noted
 abbrev pub is_stale_by : Token → List ℕ → RequestsState → Bool
-is_stale_by t asks requests =
-    asks_other requests.pieces (asked_with t requests.asked) asks || (not (is_some (asked_with t requests.asked)) && is_done t.seq (floor_told t.client requests.floors))
+is_stale_by t asks requests = asks_other requests.pieces (asked_with t requests.asked) asks
+    || (not (is_some (asked_with t requests.asked)) && is_done t.seq (floor_told t.client requests.floors))
 
 -- how many events there are, and what is noted of the requests among them that were sent
 pub record IsEventsSummary (events : List Happened) (count : ℕ) (requests : RequestsState) : Type 0 where

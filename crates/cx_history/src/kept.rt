@@ -166,7 +166,8 @@ impl Kept {
     /// Notes the last change, of this role's store. Out of memory, it changes nothing.
     pub fn push(&mut self, role: RoleId, what: &Written) -> Result<(), NoMemory>
         requires { IsTrue (change_fits what.now) }
-        ensures ok { OnOk result (self.new ≡ self.old ++ record { role = role; what = what.now } ∷ []) }
+        ensures ok { OnOk result
+            (self.new ≡ self.old ++ record { role = role; what = what.now } ∷ []) }
         ensures err { OnErr result (self.new ≡ self.old) }
     {
         self.roles.reserve(1)?;

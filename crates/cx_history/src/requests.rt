@@ -47,7 +47,8 @@ impl Model for Requests {
 
     ghost Value = { RequestsState };
 
-    ghost view = { λ r. record { asked = r.asked.entries; pieces = r.pieces; floors = r.floors.entries } };
+    ghost view = { λ r.
+        record { asked = r.asked.entries; pieces = r.pieces; floors = r.floors.entries } };
 }
 
 fn token_number(token: Token) -> Number
@@ -224,7 +225,8 @@ impl Requests {
     /// answered as out of memory too.
     pub fn push(&mut self, happened: &Happened) -> Result<(), NoMemory>
         requires { ArePlaces self.old.pieces self.old.asked }
-        ensures ok { OnOk result (NotesRequest (sent_token happened.now) happened.now.event self.old self.new) }
+        ensures ok { OnOk result
+            (NotesRequest (sent_token happened.now) happened.now.event self.old self.new) }
         ensures err { OnErr result (self.new ≡ self.old) }
     {
         match sent_token(happened) {

@@ -85,7 +85,8 @@ impl Sent {
     /// no byte is copied.
     pub fn spelled(&self, number: u64) -> Result<Option<Bytes>, NoMemory>
         ensures short { IfOk result (λ bytes. IfSome bytes IsShort) }
-        ensures letter { IfOk result (λ bytes. option_map letter_of bytes ≡ slice_get self.now number) }
+        ensures letter { IfOk result
+            (λ bytes. option_map letter_of bytes ≡ slice_get self.now number) }
     {
         let number = number as usize;
         if number >= self.pieces.len() {

@@ -25,7 +25,8 @@ pub fn put_datagram(
     bytes: &mut Vec<u8>,
     pieces: &mut Pieces,
 ) -> Result<(), NoMemory>
-    ensures letters { OnOk result (letters_of pieces.new ≡ letters_of pieces.old ++ datagram.now ∷ []) }
+    ensures letters { OnOk result
+        (letters_of pieces.new ≡ letters_of pieces.old ++ datagram.now ∷ []) }
     ensures pieces { All IsShort pieces.old → All IsShort pieces.new }
     ensures err { OnErr result (pieces.new ≡ pieces.old) }
 {
@@ -41,7 +42,8 @@ pub fn shared(pieces: &Pieces, number: usize) -> Result<Bytes, NoMemory>
     requires pieces { All IsShort pieces.now }
     requires number { number < length pieces.now }
     ensures short { IfOk result (λ bytes. IsShort bytes) }
-    ensures letter { IfOk result (λ bytes. slice_get (letters_of pieces.now) number ≡ Some (letter_of bytes)) }
+    ensures letter { IfOk result
+        (λ bytes. slice_get (letters_of pieces.now) number ≡ Some (letter_of bytes)) }
 {
     match pieces.shared(number)? {
         Some(bytes) => Ok(bytes),

@@ -1,5 +1,6 @@
 -- From the fullest replica on each one fetches from the next, round the ring.
-use Rattle.std.proofs.Common.{◌≡◌, ◌≤◌, ◌<◌, ℕ, zero, suc, true, false, List, [], ◌∷◌, ◌++◌, map, Some, None, ap, sym, ◌∙◌, subst, refl, inl, inr, arith}
+use Rattle.std.proofs.Common.{◌≡◌, ◌≤◌, ◌<◌, ℕ, zero, suc, true, false, List, [], ◌∷◌, ◌++◌, map, Some, None, ap, sym, ◌∙◌, subst, refl}
+use Rattle.std.proofs.Common.{inl, inr, arith}
 use Rattle.std.proofs.lemmas.Bool.Decides.{nat_tests}
 use Rattle.std.proofs.lemmas.Nat.{mod-mul-add}
 use Rattle.std.specs.List.{list_all}
@@ -55,23 +56,33 @@ pub record HaveCaughtUp (c : Cluster) (Q : ReplicaDurable → Type 0) (x y : Mom
 -- ROWS
 
 abbrev asks : Cluster → ℕ → ℕ → ReplicaVolatile → Outcome ReplicaVolatile
-asks c p h v = replied why.Resent v (map (held_to (role kind.Replica p) h) (below c.leaders) ++ letter (role kind.Replica p) (role kind.Replica ((p + 1) % c.replicas)) (msg.Fetch h) ∷ [])
+asks c p h v = replied why.Resent v (map (held_to (role kind.Replica p) h) (below c.leaders)
+    ++ letter (role kind.Replica p) (role kind.Replica ((p + 1) % c.replicas)) (msg.Fetch h) ∷ [])
 
 row_tick : (c : Cluster) (p : ℕ) (d : ReplicaDurable) (v : ReplicaVolatile) → nat_lt 1 c.replicas ≡ true
     → replica_row c (role kind.Replica p) d v input.Tick ≡ asks c p (held d) v
 row_tick c p d v h = rw h refl
 
-row_fetch : (c : Cluster) (p n h : ℕ) (d : ReplicaDurable) (v : ReplicaVolatile) (value : Value) → nat_lt p c.replicas ≡ true → nat_lt n c.replicas ≡ true
-    → nat_lt h d.first ≡ false → slice_get d.log (h - d.first) ≡ Some value
+row_fetch : (c : Cluster) (p n h : ℕ) (d : ReplicaDurable) (v : ReplicaVolatile) (value : Value) → nat_lt p c.replicas ≡ true
+    → nat_lt n c.replicas ≡ true → nat_lt h d.first ≡ false → slice_get d.log (h - d.first) ≡ Some value
     → replica_row c (role kind.Replica n) d v (input.Take (letter (role kind.Replica p) (role kind.Replica n) (msg.Fetch h)))
-    ≡ replied why.Fetched (fetched_by c (role kind.Replica n) v (role kind.Replica p) h) (letter (role kind.Replica n) (role kind.Replica p) (msg.Chosen h value) ∷ [])
+    ≡ replied why.Fetched (fetched_by c (role kind.Replica n) v (role kind.Replica p) h)
+    (letter (role kind.Replica n) (role kind.Replica p) (msg.Chosen h value) ∷ [])
 row_fetch c p n h d v value one two low there = rw (one, two, same_role-itself (role kind.Replica n), low, there) refl
 
-row_fetched : (c : Cluster) (p n : ℕ) (d : ReplicaDurable) (v : ReplicaVolatile) (value : Value) → nat_lt p c.replicas ≡ true → nat_lt n c.replicas ≡ true
-    → names_value c value ≡ true
-    → replica_row c (role kind.Replica p) d (record v { early = [] }) (input.Take (letter (role kind.Replica n) (role kind.Replica p) (msg.Chosen (held d) value))) ≡ applies c p d v value
-row_fetched c p n d v value one two named =
-    rw (one, two, named, same_role-itself (role kind.Replica p), not_less (held d), not_far (held d), none_follows (held d + 1) (min 31 (1099511627776 - (held d + 1)))) refl
+row_fetched : (c : Cluster) (p n : ℕ) (d : ReplicaDurable) (v : ReplicaVolatile) (value : Value) → nat_lt p c.replicas ≡ true
+    → nat_lt n c.replicas ≡ true → names_value c value ≡ true
+    → replica_row c (role kind.Replica p) d (record v { early = [] })
+    (input.Take (letter (role kind.Replica n) (role kind.Replica p) (msg.Chosen (held d) value))) ≡ applies c p d v value
+row_fetched c p n d v value one two named = rw (
+  one,
+  two,
+  named,
+  same_role-itself (role kind.Replica p),
+  not_less (held d),
+  not_far (held d),
+  none_follows (held d + 1) (min 31 (1099511627776 - (held d + 1))),
+) refl
 
 -- NUMBERS
 
@@ -113,13 +124,19 @@ fullest f (suc n) =
           record {
             at = suc n;
             there = omega arith;
-            most = λ q l. elim (bool_cases (q == suc n)) [ inl e ↦ subst (λ k. f k ≤ f (suc n)) (sym (same_number q (suc n) e)) (omega arith) | inr e ↦ both (f q) (f b.at) (f (suc n)) (b.most q (lower q (suc n) l e)) t ];
+            most = λ q l. elim (bool_cases (q == suc n)) [
+              | inl e ↦ subst (λ k. f k ≤ f (suc n)) (sym (same_number q (suc n) e)) (omega arith)
+              | inr e ↦ both (f q) (f b.at) (f (suc n)) (b.most q (lower q (suc n) l e)) t
+            ];
           }
       | inr t ↦
           record {
             at = b.at;
             there = up b.at (suc n) b.there;
-            most = λ q l. elim (bool_cases (q == suc n)) [ inl e ↦ subst (λ k. f k ≤ f b.at) (sym (same_number q (suc n) e)) (other (f b.at) (f (suc n)) t) | inr e ↦ b.most q (lower q (suc n) l e) ];
+            most = λ q l. elim (bool_cases (q == suc n)) [
+              | inl e ↦ subst (λ k. f k ≤ f b.at) (sym (same_number q (suc n) e)) (other (f b.at) (f (suc n)) t)
+              | inr e ↦ b.most q (lower q (suc n) l e)
+            ];
           }
     ]
   where
@@ -146,7 +163,8 @@ early_if false v u e f = f
 -- THE STAGE
 
 module _ (goal : World → Type 0) (c : Cluster) (most : ℕ) (P : Value → Bool) (passes : (v : Value) → P v ≡ true → names_value c v ≡ true)
-    (Q : ReplicaDurable → Type 0) (next_q : (d : ReplicaDurable) (v : Value) → P v ≡ true → Q d → Q (replica_after d (kept.Log (v ∷ [])))) where
+    (Q : ReplicaDurable → Type 0)
+    (next_q : (d : ReplicaDurable) (v : Value) → P v ≡ true → Q d → Q (replica_after d (kept.Log (v ∷ [])))) where
   abbrev me : ℕ → RoleId
   me p = role kind.Replica p
 
@@ -181,25 +199,28 @@ module _ (goal : World → Type 0) (c : Cluster) (most : ℕ) (P : Value → Boo
   one_more : (p : ℕ) (value : Value) (x y : Moment) → Gains p value x y → held (stored_at y p) ≡ held (stored_at x p) + 1
   one_more p value x y gains = ap (λ d. held d) gains.own ∙ held_after (stored_at x p) value (held (stored_at x p)) refl
 
-  ring_after : (p : ℕ) (value : Value) (x y : Moment) → Gains p value x y → RingAt x → P value ≡ true → nat_lt p c.replicas ≡ true → nat_lt (held (stored_at x p)) most ≡ true
-      → ((q : ℕ) → nat_lt q c.replicas ≡ true → SteadyAt y q) → RingAt y
+  ring_after : (p : ℕ) (value : Value) (x y : Moment) → Gains p value x y → RingAt x → P value ≡ true → nat_lt p c.replicas ≡ true
+      → nat_lt (held (stored_at x p)) most ≡ true → ((q : ℕ) → nat_lt q c.replicas ≡ true → SteadyAt y q) → RingAt y
   ring_after p value x y gains at pass there lacks steady =
       let d = stored_at x p in
-      let first : (q : ℕ) → (stored_at y q).first ≡ (stored_at x q).first =
-      by_number (λ q. (stored_at y q).first ≡ (stored_at x q).first) p (ap (λ (z : ReplicaDurable). z.first) gains.own) (λ q f. ap (λ (z : ReplicaDurable). z.first) (gains.others q f)) in
+      let first : (q : ℕ) → (stored_at y q).first ≡ (stored_at x q).first = by_number (λ q. (stored_at y q).first ≡ (stored_at x q).first) p
+      (ap (λ (z : ReplicaDurable). z.first) gains.own) (λ q f. ap (λ (z : ReplicaDurable). z.first) (gains.others q f)) in
       let grows : (q : ℕ) → nat_le (held (stored_at x q)) (held (stored_at y q)) ≡ true =
-      by_number (λ q. nat_le (held (stored_at x q)) (held (stored_at y q)) ≡ true) p (up (held d) (held (stored_at y p)) (one_more p value x y gains))
-      (λ q f. subst (λ (z : ReplicaDurable). nat_le (held (stored_at x q)) (held z) ≡ true) (sym (gains.others q f)) (itself (held (stored_at x q)))) in
+      by_number (λ q. nat_le (held (stored_at x q)) (held (stored_at y q)) ≡ true) p
+      (up (held d) (held (stored_at y p)) (one_more p value x y gains))
+      (λ q f. subst (λ (z : ReplicaDurable). nat_le (held (stored_at x q)) (held z) ≡ true) (sym (gains.others q f))
+      (itself (held (stored_at x q)))) in
       record {
         steady = steady;
-        ring = λ q low. grown (stored_at y (nxt q)).first (stored_at x (nxt q)).first (held (stored_at x q)) (held (stored_at y q)) (first (nxt q)) (at.ring q low) (grows q);
+        ring = λ q low. grown (stored_at y (nxt q)).first (stored_at x (nxt q)).first (held (stored_at x q)) (held (stored_at y q))
+            (first (nxt q)) (at.ring q low) (grows q);
         named = by_number (λ q. nat_lt q c.replicas ≡ true → list_all P (stored_at y q).log ≡ true) p
             (λ low.
-            subst (λ (z : ReplicaDurable). list_all P z.log ≡ true) (sym gains.own)
-            (Member-all P (d.log ++ value ∷ []) (Member-both (λ v. P v ≡ true) d.log (value ∷ []) (all-Member P d.log (at.named p there)) (Member-one (λ v. P v ≡ true) value pass))))
+            subst (λ (z : ReplicaDurable). list_all P z.log ≡ true) (sym gains.own) (Member-all P (d.log ++ value ∷ []) (Member-both (λ v.
+            P v ≡ true) d.log (value ∷ []) (all-Member P d.log (at.named p there)) (Member-one (λ v. P v ≡ true) value pass))))
             (λ q f low. subst (λ (z : ReplicaDurable). list_all P z.log ≡ true) (sym (gains.others q f)) (at.named q low));
-        such = by_number (λ q. nat_lt q c.replicas ≡ true → Q (stored_at y q)) p (λ low. subst Q (sym gains.own) (next_q d value pass (at.such p there)))
-            (λ q f low. subst Q (sym (gains.others q f)) (at.such q low));
+        such = by_number (λ q. nat_lt q c.replicas ≡ true → Q (stored_at y q)) p (λ low.
+            subst Q (sym gains.own) (next_q d value pass (at.such p there))) (λ q f low. subst Q (sym (gains.others q f)) (at.such q low));
         within = by_number (λ q. nat_lt q c.replicas ≡ true → nat_le (held (stored_at y q)) most ≡ true) p
             (λ low. subst (λ j. nat_le j most ≡ true) (sym (one_more p value x y gains)) (one_up (held d) most lacks))
             (λ q f low. subst (λ (z : ReplicaDurable). nat_le (held z) most ≡ true) (sym (gains.others q f)) (at.within q low));
@@ -217,8 +238,8 @@ module _ (goal : World → Type 0) (c : Cluster) (most : ℕ) (P : Value → Boo
       itself : (a : ℕ) → nat_le a a ≡ true
       itself a = grind (arith, nat_tests)
 
-  one_fetch : (p : ℕ) (x : Moment) → nat_lt 1 c.replicas ≡ true → nat_lt p c.replicas ≡ true → nat_lt (nxt p) c.replicas ≡ true → (nxt p == p) ≡ false
-      → held (stored_at x (nxt p)) ≡ most → nat_lt (held (stored_at x p)) most ≡ true → RingAt x
+  one_fetch : (p : ℕ) (x : Moment) → nat_lt 1 c.replicas ≡ true → nat_lt p c.replicas ≡ true → nat_lt (nxt p) c.replicas ≡ true
+      → (nxt p == p) ≡ false → held (stored_at x (nxt p)) ≡ most → nat_lt (held (stored_at x p)) most ≡ true → RingAt x
       → ((y : Moment) → Left rep rep x y → RingAt y → held (stored_at y p) ≡ held (stored_at x p) + 1 → Stay x y → Goes goal c y)
       → Goes goal c x
   one_fetch p x many one two differs full lacks at rest =
@@ -245,26 +266,28 @@ module _ (goal : World → Type 0) (c : Cluster) (most : ℕ) (P : Value → Boo
       let x2 = moved (me k) (ReplicaIn after) None (give ∷ []) x1 in
       let x3 = moved (me p) (ReplicaIn done.volatile) done.kept done.sends x2 in
       let back : (p == k) ≡ false = turn k p differs in
-      let early : after.early ≡ [] = early_if (p == (k + c.replicas - 1) % c.replicas) (record n { fetched = max n.fetched h }) n refl refl in
+      let early : after.early ≡ [] =
+      early_if (p == (k + c.replicas - 1) % c.replicas) (record n { fetched = max n.fetched h }) n refl refl in
       let gains : Gains p value x x3 = record {
         own = durable_own replica_rules (me p) (kept.Log (value ∷ [])) x.kept;
         others = λ q f. durable_other replica_rules (me p) (me q) (kept.Log (value ∷ [])) x.kept f;
       } in
-      let steady : (q : ℕ) → nat_lt q c.replicas ≡ true → SteadyAt x3 q =
-      by_number (λ q. nat_lt q c.replicas ≡ true → SteadyAt x3 q) p (λ low. (done.volatile, state_own (me p) (ReplicaIn done.volatile) x2.states))
-      (λ q f low.
+      let steady : (q : ℕ) → nat_lt q c.replicas ≡ true → SteadyAt x3 q = by_number (λ q. nat_lt q c.replicas ≡ true → SteadyAt x3 q) p
+      (λ low. (done.volatile, state_own (me p) (ReplicaIn done.volatile) x2.states)) (λ q f low.
       by_number (λ q. (q == p) ≡ false → nat_lt q c.replicas ≡ true → SteadyAt x3 q) k
       (λ f low. (
         after,
-        state_other (me p) (me k) (ReplicaIn done.volatile) x2.states f ∙ state_own (me k) (ReplicaIn after) x1.states ∙ ap (λ l. ReplicaIn (record after { early = l })) early,
+        state_other (me p) (me k) (ReplicaIn done.volatile) x2.states f ∙ state_own (me k) (ReplicaIn after) x1.states
+            ∙ ap (λ l. ReplicaIn (record after { early = l })) early,
       ))
       (λ q g f low.
       let b = at.steady q low in (
         b.0,
-        state_other (me p) (me q) (ReplicaIn done.volatile) x2.states f ∙ state_other (me k) (me q) (ReplicaIn after) x1.states g ∙ state_other (me p) (me q) (ReplicaIn v) x.states f ∙ b.1,
+        state_other (me p) (me q) (ReplicaIn done.volatile) x2.states f ∙ state_other (me k) (me q) (ReplicaIn after) x1.states g
+            ∙ state_other (me p) (me q) (ReplicaIn v) x.states f ∙ b.1,
       )) q f low) in
-      tick_replica goal c x p v asked mine.1 (row_tick c p d v many)
-      (to_replica goal c x1 k ask (Member-second ask x.sent asked.sends (Member-second ask (map (held_to (me p) h) (below c.leaders)) (ask ∷ []) (inl refl))) n gave refl
+      tick_replica goal c x p v asked mine.1 (row_tick c p d v many) (to_replica goal c x1 k ask (Member-second ask x.sent asked.sends
+      (Member-second ask (map (held_to (me p) h) (below c.leaders)) (ask ∷ []) (inl refl))) n gave refl
       (state_other (me p) (me k) (ReplicaIn v) x.states differs ∙ its.1) (row_fetch c p k h e n value one two low found.1)
       (to_replica goal c x2 p give (Member-second give x1.sent (give ∷ []) (inl refl)) v done refl
       (state_other (me k) (me p) (ReplicaIn after) x1.states back ∙ state_own (me p) (ReplicaIn v) x.states)
@@ -272,8 +295,8 @@ module _ (goal : World → Type 0) (c : Cluster) (most : ℕ) (P : Value → Boo
       (rest x3
       (left_then rep rep x x1 x3 (left_moved rep rep (me p) (ReplicaIn v) asked.sends x refl)
       (left_then rep rep x1 x2 x3 (left_moved rep rep (me k) (ReplicaIn after) (give ∷ []) x1 refl)
-      (left_both rep rep (me p) (ReplicaIn done.volatile) (kept.Log (value ∷ [])) done.sends x2 refl refl)))
-      (ring_after p value x x3 gains at pass one lacks steady) (one_more p value x x3 gains) (λ q all. gains.others q (apart_full q p x all lacks)))))
+      (left_both rep rep (me p) (ReplicaIn done.volatile) (kept.Log (value ∷ [])) done.sends x2 refl refl))) (ring_after p value x x3 gains
+      at pass one lacks steady) (one_more p value x x3 gains) (λ q all. gains.others q (apart_full q p x all lacks)))))
     where
       low_of : (f h : ℕ) → nat_le f h ≡ true → nat_lt h f ≡ false
       low_of f h a = grind (arith, nat_tests, a)
@@ -291,18 +314,19 @@ module _ (goal : World → Type 0) (c : Cluster) (most : ℕ) (P : Value → Boo
           clash a b e l = grind (arith, nat_tests, e, l)
 
   -- one replica has all that the next one holds
-  bring : (count p : ℕ) (x : Moment) → nat_lt 1 c.replicas ≡ true → nat_lt p c.replicas ≡ true → nat_lt (nxt p) c.replicas ≡ true → (nxt p == p) ≡ false
-      → held (stored_at x (nxt p)) ≡ most → held (stored_at x p) + count ≡ most → RingAt x
+  bring : (count p : ℕ) (x : Moment) → nat_lt 1 c.replicas ≡ true → nat_lt p c.replicas ≡ true → nat_lt (nxt p) c.replicas ≡ true
+      → (nxt p == p) ≡ false → held (stored_at x (nxt p)) ≡ most → held (stored_at x p) + count ≡ most → RingAt x
       → ((y : Moment) → Left rep rep x y → RingAt y → held (stored_at y p) ≡ most → Stay x y → Goes goal c y)
       → Goes goal c x
-  bring zero p x many one two differs full sum at rest = rest x (left_same rep rep x) at (sym (plus (held (stored_at x p))) ∙ sum) (λ q e. refl)
+  bring zero p x many one two differs full sum at rest =
+      rest x (left_same rep rep x) at (sym (plus (held (stored_at x p))) ∙ sum) (λ q e. refl)
     where
       plus : (n : ℕ) → n + 0 ≡ n
       plus n = omega arith
   bring (suc count) p x many one two differs full sum at rest =
       one_fetch p x many one two differs full (lacking (held (stored_at x p)) count most sum) at
-      (λ y left at2 more stay.
-      bring count p y many one two differs (ap (λ d. held d) (stay (nxt p) full) ∙ full) (ap (λ n. n + count) more ∙ shift (held (stored_at x p)) count ∙ sum) at2
+      (λ y left at2 more stay. bring count p y many one two differs (ap (λ d. held d) (stay (nxt p) full) ∙ full)
+      (ap (λ n. n + count) more ∙ shift (held (stored_at x p)) count ∙ sum) at2
       (λ z left2 at3 all stay2. rest z (left_then rep rep x y z left left2) at3 all (stay_then x y z stay stay2)))
     where
       lacking : (a n m : ℕ) → a + suc n ≡ m → nat_lt a m ≡ true
@@ -319,7 +343,8 @@ module _ (goal : World → Type 0) (c : Cluster) (most : ℕ) (P : Value → Boo
 
   -- all below one that holds all
   down : (j : ℕ) (x : Moment) → nat_lt j c.replicas ≡ true → RingAt x → held (stored_at x j) ≡ most → Brings j x → Goes goal c x
-  down zero x there at full rest = rest x (left_same rep rep x) at (λ q l. subst (λ n. held (stored_at x n) ≡ most) (sym (only q l)) full) (λ q e. refl)
+  down zero x there at full rest =
+      rest x (left_same rep rep x) at (λ q l. subst (λ n. held (stored_at x n) ≡ most) (sym (only q l)) full) (λ q e. refl)
     where
       only : (q : ℕ) → q ≤ 0 → q ≡ 0
       only q l = omega (arith, l)
@@ -327,13 +352,12 @@ module _ (goal : World → Type 0) (c : Cluster) (most : ℕ) (P : Value → Boo
       let is : nxt j ≡ suc j = ap (λ n. n % c.replicas) (plus j) ∙ small_mod (suc j) c.replicas (less (suc j) c.replicas there) in
       let low : nat_lt j c.replicas ≡ true = lower j c.replicas there in
       bring (most - held (stored_at x j)) j x (many j c.replicas there) low (subst (λ n. nat_lt n c.replicas ≡ true) (sym is) there)
-      (subst (λ n. (n == j) ≡ false) (sym is) (apart j)) (subst (λ n. held (stored_at x n) ≡ most) (sym is) full) (rest_of (held (stored_at x j)) most (at.within j low)) at
-      (λ y left at2 all stay.
-      down j y low at2 all
-      (λ z left2 at3 below_j stay2.
+      (subst (λ n. (n == j) ≡ false) (sym is) (apart j)) (subst (λ n. held (stored_at x n) ≡ most) (sym is) full)
+      (rest_of (held (stored_at x j)) most (at.within j low)) at (λ y left at2 all stay. down j y low at2 all (λ z left2 at3 below_j stay2.
       rest z (left_then rep rep x y z left left2) at3
       (λ q l. elim (bool_cases (q == suc j)) [
-        | inl t ↦ subst (λ n. held (stored_at z n) ≡ most) (sym (same_number q (suc j) t)) (ap (λ d. held d) (stay_then x y z stay stay2 (suc j) full) ∙ full)
+        | inl t ↦ subst (λ n. held (stored_at z n) ≡ most) (sym (same_number q (suc j) t))
+            (ap (λ d. held d) (stay_then x y z stay stay2 (suc j) full) ∙ full)
         | inr f ↦ below_j q (at_most q j l f)
       ])
       (stay_then x y z stay stay2)))
@@ -355,10 +379,10 @@ module _ (goal : World → Type 0) (c : Cluster) (most : ℕ) (P : Value → Boo
 
   -- round the ring
   pub round : (t m : ℕ) (x : Moment) → c.replicas ≡ suc m → nat_lt t c.replicas ≡ true → RingAt x → held (stored_at x t) ≡ most
-      → ((y : Moment) → Left rep rep x y → RingAt y → ((q : ℕ) → nat_lt q c.replicas ≡ true → held (stored_at y q) ≡ most) → Stay x y → Goes goal c y)
-      → Goes goal c x
-  round t zero x is there at full rest =
-      down t x there at full (λ y left at2 all stay. rest y left at2 (λ q low. all q (only q t (subst (λ n. nat_lt q n ≡ true) is low))) stay)
+      → ((y : Moment) → Left rep rep x y → RingAt y → ((q : ℕ) → nat_lt q c.replicas ≡ true → held (stored_at y q) ≡ most) → Stay x y
+      → Goes goal c y) → Goes goal c x
+  round t zero x is there at full rest = down t x there at full
+      (λ y left at2 all stay. rest y left at2 (λ q low. all q (only q t (subst (λ n. nat_lt q n ≡ true) is low))) stay)
     where
       only : (q t : ℕ) → nat_lt q 1 ≡ true → q ≤ t
       only q t l = grind (arith, nat_tests, l)
@@ -367,14 +391,12 @@ module _ (goal : World → Type 0) (c : Cluster) (most : ℕ) (P : Value → Boo
       let none : nat_lt 0 c.replicas ≡ true = subst (λ n. nat_lt 0 n ≡ true) (sym is) (some (suc m)) in
       let wraps : nxt (suc m) ≡ 0 = ap (λ n. n % c.replicas) (plus m ∙ sym is) ∙ mod_itself c.replicas (less 0 c.replicas none) in
       down t x there at full
-      (λ y left at2 all stay.
-      bring (most - held (stored_at y (suc m))) (suc m) y (subst (λ n. nat_lt 1 n ≡ true) (sym is) (two m)) last (subst (λ n. nat_lt n c.replicas ≡ true) (sym wraps) none)
-      (subst (λ n. (n == suc m) ≡ false) (sym wraps) (apart m)) (subst (λ n. held (stored_at y n) ≡ most) (sym wraps) (all 0 (least t))) (rest_of (held (stored_at y (suc m))) most (at2.within (suc m) last)) at2
-      (λ z left2 at3 all2 stay2.
-      down (suc m) z last at3 all2
-      (λ u left3 at4 all3 stay3.
-      rest u (left_then rep rep x y u left (left_then rep rep y z u left2 left3)) at4 (λ q low. all3 q (at_most q (suc m) (subst (λ n. nat_lt q n ≡ true) is low)))
-      (stay_then x y u stay (stay_then y z u stay2 stay3)))))
+      (λ y left at2 all stay. bring (most - held (stored_at y (suc m))) (suc m) y (subst (λ n. nat_lt 1 n ≡ true) (sym is) (two m)) last
+      (subst (λ n. nat_lt n c.replicas ≡ true) (sym wraps) none)
+      (subst (λ n. (n == suc m) ≡ false) (sym wraps) (apart m)) (subst (λ n. held (stored_at y n) ≡ most) (sym wraps) (all 0 (least t)))
+      (rest_of (held (stored_at y (suc m))) most (at2.within (suc m) last)) at2 (λ z left2 at3 all2 stay2. down (suc m) z last at3 all2
+      (λ u left3 at4 all3 stay3. rest u (left_then rep rep x y u left (left_then rep rep y z u left2 left3)) at4
+      (λ q low. all3 q (at_most q (suc m) (subst (λ n. nat_lt q n ≡ true) is low))) (stay_then x y u stay (stay_then y z u stay2 stay3)))))
     where
       itself : (m : ℕ) → nat_lt (suc m) (suc (suc m)) ≡ true
       itself m = grind (arith, nat_tests)
@@ -398,11 +420,11 @@ module _ (goal : World → Type 0) (c : Cluster) (most : ℕ) (P : Value → Boo
       at_most q m l = grind (arith, nat_tests, l)
 
 -- what passes a test in all logs, and is so of all stores and stays so
-pub caught_up : (goal : World → Type 0) (c : Cluster) (P : Value → Bool) (Q : ReplicaDurable → Type 0) (x : Moment) → nat_lt 0 c.replicas ≡ true
-    → ((p : ℕ) → nat_lt p c.replicas ≡ true → SteadyAt x p) → IsRing c x
+pub caught_up : (goal : World → Type 0) (c : Cluster) (P : Value → Bool) (Q : ReplicaDurable → Type 0) (x : Moment)
+    → nat_lt 0 c.replicas ≡ true → ((p : ℕ) → nat_lt p c.replicas ≡ true → SteadyAt x p) → IsRing c x
     → ((v : Value) → P v ≡ true → names_value c v ≡ true) → ((p : ℕ) → nat_lt p c.replicas ≡ true → list_all P (stored_at x p).log ≡ true)
-    → ((d : ReplicaDurable) (v : Value) → P v ≡ true → Q d → Q (replica_after d (kept.Log (v ∷ [])))) → ((p : ℕ) → nat_lt p c.replicas ≡ true → Q (stored_at x p))
-    → ((y : Moment) → HaveCaughtUp c Q x y → Goes goal c y) → Goes goal c x
+    → ((d : ReplicaDurable) (v : Value) → P v ≡ true → Q d → Q (replica_after d (kept.Log (v ∷ []))))
+    → ((p : ℕ) → nat_lt p c.replicas ≡ true → Q (stored_at x p)) → ((y : Moment) → HaveCaughtUp c Q x y → Goes goal c y) → Goes goal c x
 caught_up goal c P Q x some steady ring passes logs next_q such rest = go c.replicas refl
   where
     go : (n : ℕ) → c.replicas ≡ n → Goes goal c x
@@ -416,10 +438,8 @@ caught_up goal c P Q x some steady ring passes logs next_q such rest = go c.repl
         let there : nat_lt top.at c.replicas ≡ true = subst (λ n. nat_lt top.at n ≡ true) (sym is) (less_test top.at (suc m) top.there) in
         let within : (p : ℕ) → nat_lt p c.replicas ≡ true → nat_le (held (stored_at x p)) most ≡ true =
         λ p low. test (held (stored_at x p)) most (top.most p (subst (λ n. p < n) is (less p c.replicas low))) in
-        round goal c most P passes Q next_q top.at m x is there (record { steady = steady; ring = ring; named = logs; such = such; within = within }) refl
-        (λ y left at all stay.
-        rest y
-        (record {
+        round goal c most P passes Q next_q top.at m x is there
+        (record { steady = steady; ring = ring; named = logs; such = such; within = within }) refl (λ y left at all stay. rest y (record {
           left = left;
           steady = at.steady;
           most = most;

@@ -28,7 +28,8 @@ use Rattle.cx_model.specs.Outcome.{Outcome}
 use Rattle.cx_model.specs.Plan.{greatest_cw, votes_told}
 use Rattle.cx_model.specs.World.{World}
 use Rattle.cx_inv_run.proofs.Histories.{durable_own, state_own}
-use Rattle.cx_inv_run.proofs.Members.{Member-cases, Member-second, Member-all, all-Member, filter-older, is_in-Member, map-Member, Member-is_in}
+use Rattle.cx_inv_run.proofs.Members.{Member-cases, Member-second, Member-all, all-Member, filter-older, is_in-Member, map-Member}
+use Rattle.cx_inv_run.proofs.Members.{Member-is_in}
 use Rattle.cx_inv_run.specs.States.{LeaderIn, durable_of}
 use Rattle.cx_inv_alive.proofs.Moments.{Moment, Goes, moved, Left, left_then, left_both, to_order}
 use Rattle.cx_inv_alive.proofs.Stages.{is_role, Apart, lead_round, begun_over, match_answer_of}
@@ -50,7 +51,8 @@ begun l n g v =
       sends = map (match_a_to (role kind.Leader l) (lead_round l n) g) v.set;
     }
 
-row_lead : (c : Cluster) (l : ℕ) (g : Shape) (d : LeaderDurable) (v : LeaderVolatile) → names_grid c g ≡ true → (max (round_of d.own).r v.seen.r == 4294967295) ≡ false
+row_lead : (c : Cluster) (l : ℕ) (g : Shape) (d : LeaderDurable) (v : LeaderVolatile) → names_grid c g ≡ true
+    → (max (round_of d.own).r v.seen.r == 4294967295) ≡ false
     → leader_row c (role kind.Leader l) d v (input.Order (Lead g)) ≡ begun l (max (round_of d.own).r v.seen.r + 1) g v
 row_lead c l g d v named h = rw (named, h) refl
 
@@ -60,7 +62,8 @@ one_up a b n r e = grind (arith, e)
 steps_up : (a b r : ℕ) → nat_lt a r ≡ true → nat_lt b r ≡ true → max a b + suc (r - (max a b + 1)) ≡ r
 steps_up a b r h k = grind (arith, nat_tests, h, k)
 
-module _ (goal : World → Type 0) (c : Cluster) (l r : ℕ) (g : Shape) (named : names_grid c g ≡ true) (most : nat_le r 4294967295 ≡ true) where
+module _ (goal : World → Type 0) (c : Cluster) (l r : ℕ) (g : Shape) (named : names_grid c g ≡ true)
+    (most : nat_le r 4294967295 ≡ true) where
   abbrev me : RoleId
   me = role kind.Leader l
 
@@ -68,24 +71,24 @@ module _ (goal : World → Type 0) (c : Cluster) (l r : ℕ) (g : Shape) (named 
   own_r x = (round_of (durable_of leader_rules me x.kept).own).r
 
   abbrev Asked : Moment → LeaderVolatile → Type 0
-  Asked x v =
-      (y : Moment) → Left (is_role me) (is_role me) x y → y.states me ≡ LeaderIn (asking v) → durable_of leader_rules me y.kept ≡ begun_over l r g
-      → ((m : ℕ) → Member m v.set → Member (match_a_to me (lead_round l r) g m) y.sent) → Goes goal c y
+  Asked x v = (y : Moment) → Left (is_role me) (is_role me) x y → y.states me ≡ LeaderIn (asking v) → durable_of leader_rules me y.kept
+      ≡ begun_over l r g → ((m : ℕ) → Member m v.set → Member (match_a_to me (lead_round l r) g m) y.sent) → Goes goal c y
 
-  one_order : (x : Moment) (v : LeaderVolatile) (n : ℕ) → x.states me ≡ LeaderIn v → max (own_r x) v.seen.r + 1 ≡ n → (max (own_r x) v.seen.r == 4294967295) ≡ false
-      → ((y : Moment) → Left (is_role me) (is_role me) x y → y.states me ≡ LeaderIn (asking v) → durable_of leader_rules me y.kept ≡ begun_over l n g
-      → ((m : ℕ) → Member m v.set → Member (match_a_to me (lead_round l n) g m) y.sent) → Goes goal c y)
-      → Goes goal c x
+  one_order : (x : Moment) (v : LeaderVolatile) (n : ℕ) → x.states me ≡ LeaderIn v → max (own_r x) v.seen.r + 1 ≡ n
+      → (max (own_r x) v.seen.r == 4294967295) ≡ false
+      → ((y : Moment) → Left (is_role me) (is_role me) x y → y.states me ≡ LeaderIn (asking v) → durable_of leader_rules me y.kept
+      ≡ begun_over l n g → ((m : ℕ) → Member m v.set → Member (match_a_to me (lead_round l n) g m) y.sent) → Goes goal c y) → Goes goal c x
   one_order x v n runs is room rest =
       let o = begun l n g v in
       let d = durable_of leader_rules me x.kept in
       to_order goal c x l (Lead g) v o runs (row_lead c l g d v named room ∙ ap (λ k. begun l k g v) is)
-      (rest (moved me (LeaderIn (asking v)) o.kept o.sends x)
-      (left_both (is_role me) (is_role me) me (LeaderIn (asking v)) (kept.Round (lead_round l n) g) o.sends x (same_role-itself me) (same_role-itself me))
+      (rest (moved me (LeaderIn (asking v)) o.kept o.sends x) (left_both (is_role me) (is_role me) me (LeaderIn (asking v))
+      (kept.Round (lead_round l n) g) o.sends x (same_role-itself me) (same_role-itself me))
       (state_own me (LeaderIn (asking v)) x.states) (durable_own leader_rules me (kept.Round (lead_round l n) g) x.kept)
       (λ m there. Member-second _ x.sent o.sends (map-Member (match_a_to me (lead_round l n) g) m v.set there)))
 
-  orders : (n : ℕ) (x : Moment) (v : LeaderVolatile) → x.states me ≡ LeaderIn v → max (own_r x) v.seen.r + suc n ≡ r → Asked x v → Goes goal c x
+  orders : (n : ℕ) (x : Moment) (v : LeaderVolatile) → x.states me ≡ LeaderIn v → max (own_r x) v.seen.r + suc n ≡ r → Asked x v
+      → Goes goal c x
   orders zero x v runs sum rest = one_order x v r runs sum (not_last (max (own_r x) v.seen.r) zero r sum most) rest
   orders (suc n) x v runs sum rest =
       let now = max (own_r x) v.seen.r + 1 in
@@ -94,7 +97,8 @@ module _ (goal : World → Type 0) (c : Cluster) (l r : ℕ) (g : Shape) (named 
       orders n y (asking v) is (ap (λ (d : LeaderDurable). max (round_of d.own).r v.seen.r + suc n) own ∙ one_up (own_r x) v.seen.r n r sum)
       (λ z left2 is2 own2 asked2. rest z (left_then (is_role me) (is_role me) x y z left left2) is2 own2 asked2))
 
-  pub round_asked : (x : Moment) (v : LeaderVolatile) → x.states me ≡ LeaderIn v → nat_lt (own_r x) r ≡ true → nat_lt v.seen.r r ≡ true → Asked x v → Goes goal c x
+  pub round_asked : (x : Moment) (v : LeaderVolatile) → x.states me ≡ LeaderIn v → nat_lt (own_r x) r ≡ true → nat_lt v.seen.r r ≡ true
+      → Asked x v → Goes goal c x
   round_asked x v runs low seen rest = orders (r - (max (own_r x) v.seen.r + 1)) x v runs (steps_up (own_r x) v.seen.r r low seen) rest
 
 -- LISTS
@@ -126,7 +130,8 @@ apart_take (suc n) (x ∷ xs) once = (fewer (bool_cases (is_in x (take n xs))), 
     fewer (inr f) = f
 
 -- what leaders are told stands in the stores
-pub told_entry : (i : Round) (d0 : ℕ → MatchmakerDurable) (ms : List ℕ) (e : Entry) → Member e (entries_told (map (λ m. match_answer_of i (d0 m) m) ms)) → (m : ℕ) × Member m ms × Member e (d0 m).entries
+pub told_entry : (i : Round) (d0 : ℕ → MatchmakerDurable) (ms : List ℕ) (e : Entry)
+    → Member e (entries_told (map (λ m. match_answer_of i (d0 m) m) ms)) → (m : ℕ) × Member m ms × Member e (d0 m).entries
 told_entry i d0 [] e m = absurd m
 told_entry i d0 (k ∷ ms) e m =
     elim (Member-cases e (entries_before i (d0 k).entries) (entries_told (map (λ m. match_answer_of i (d0 m) m) ms)) m) [
@@ -134,7 +139,8 @@ told_entry i d0 (k ∷ ms) e m =
       | inr b ↦ (let q = told_entry i d0 ms e b in (q.0, inr q.1, q.2))
     ]
 
-pub live_entry : (i : Round) (d0 : ℕ → MatchmakerDurable) (ms : List ℕ) (e : Entry) → Member e (live_entries (map (λ m. match_answer_of i (d0 m) m) ms)) → (m : ℕ) × Member m ms × Member e (d0 m).entries
+pub live_entry : (i : Round) (d0 : ℕ → MatchmakerDurable) (ms : List ℕ) (e : Entry)
+    → Member e (live_entries (map (λ m. match_answer_of i (d0 m) m) ms)) → (m : ℕ) × Member m ms × Member e (d0 m).entries
 live_entry i d0 ms e m = told_entry i d0 ms e (filter-older _ e (entries_told (map (λ m. match_answer_of i (d0 m) m) ms)) m)
 
 pub greatest_is : (h : ℕ) (ps : List Promised) → ((p : Promised) → Member p ps → nat_le p.cw h ≡ true) → greatest_cw h ps ≡ h
@@ -144,9 +150,12 @@ greatest_is h (p ∷ ps) all = ap (λ n. max p.cw n) (greatest_is h ps (λ q m. 
     top : (a h : ℕ) → nat_le a h ≡ true → max a h ≡ h
     top a h l = grind (arith, nat_tests, l)
 
-pub votes_all : (P : Vote → Bool) (ps : List Promised) → ((p : Promised) → Member p ps → list_all P p.votes ≡ true) → list_all P (votes_told ps) ≡ true
+pub votes_all : (P : Vote → Bool) (ps : List Promised) → ((p : Promised) → Member p ps → list_all P p.votes ≡ true)
+    → list_all P (votes_told ps) ≡ true
 votes_all P ps all = Member-all P (votes_told ps) (λ v m. go ps all v m)
   where
-    go : (ps : List Promised) → ((p : Promised) → Member p ps → list_all P p.votes ≡ true) → (v : Vote) → Member v (votes_told ps) → P v ≡ true
+    go : (ps : List Promised) → ((p : Promised) → Member p ps → list_all P p.votes ≡ true) → (v : Vote) → Member v (votes_told ps)
+        → P v ≡ true
     go [] all v m = absurd m
-    go (p ∷ ps) all v m = elim (Member-cases v p.votes (votes_told ps) m) [ inl a ↦ all-Member P p.votes (all p (inl refl)) v a | inr b ↦ go ps (λ q i. all q (inr i)) v b ]
+    go (p ∷ ps) all v m = elim (Member-cases v p.votes (votes_told ps)
+        m) [ inl a ↦ all-Member P p.votes (all p (inl refl)) v a | inr b ↦ go ps (λ q i. all q (inr i)) v b ]

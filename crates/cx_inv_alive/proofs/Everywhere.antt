@@ -35,19 +35,20 @@ use Rattle.cx_inv_alive.proofs.Moments.{Goes, moment_of}
 use Rattle.cx_inv_run.proofs.Histories.{durable_by_time}
 use Rattle.cx_base.specs.declared.role.RoleId.{RoleId}
 
--- What stores are in every run: names lie in the cluster; an acceptor knows of no more slots than some replica holds; each replica has all values
--- from where the next one forgot; and no value that one has tells that the client is done with the number.
+-- What stores are in every run: names lie in the cluster; an acceptor knows of no more slots than some replica holds; each replica has all
+-- values from where the next one forgot; and no value that one has tells that the client is done with the number.
 pub record AreSound (w : World) (command : Command) : Type 0 where
   pub named : AreNamed w
   pub within : (a : ℕ) → nat_lt a w.cluster.acceptors ≡ true
       → (p : ℕ) × (nat_lt p w.cluster.replicas ≡ true) × (nat_le (acceptor_store w a).cw (held (stored_at (moment_of w) p)) ≡ true)
   pub ring : IsRing w.cluster (moment_of w)
   pub logs : (p : ℕ) → nat_lt p w.cluster.replicas ≡ true → list_all (λ v. names_value w.cluster v) (stored_at (moment_of w) p).log ≡ true
-  pub waits : (p : ℕ) → nat_lt p w.cluster.replicas ≡ true → list_all (tell_less command.client command.seq) (stored_at (moment_of w) p).log ≡ true
+  pub waits : (p : ℕ) → nat_lt p w.cluster.replicas ≡ true
+      → list_all (tell_less command.client command.seq) (stored_at (moment_of w) p).log ≡ true
 
 module _ (w : World) (batcher : ℕ) (command : Command) (counts : HasCounts w.cluster) (sound : AreSound w command)
-    (known : nat_lt command.client w.cluster.clients ≡ true) (batched : nat_lt batcher w.cluster.batchers ≡ true) (submit : Member (submitted command batcher) w.sent)
-    (room : IsRoomy w.cluster w command) where
+    (known : nat_lt command.client w.cluster.clients ≡ true) (batched : nat_lt batcher w.cluster.batchers ≡ true)
+    (submit : Member (submitted command batcher) w.sent) (room : IsRoomy w.cluster w command) where
   abbrev c : Cluster
   c = w.cluster
 
@@ -68,45 +69,48 @@ module _ (w : World) (batcher : ℕ) (command : Command) (counts : HasCounts w.c
   all_pass : (p : ℕ) → nat_lt p c.replicas ≡ true → list_all Passes (stored_at (moment_of w) p).log ≡ true
   all_pass p low =
       let log = (stored_at (moment_of w) p).log in
-      Member-all Passes log
-      (λ v m. and_from (names_value c v) (tell_less command.client command.seq v) (all-Member (λ v. names_value c v) log (sound.logs p low) v m) (all-Member (tell_less command.client command.seq) log (sound.waits p low) v m))
+      Member-all Passes log (λ v m. and_from (names_value c v) (tell_less command.client command.seq v) (all-Member (λ v. names_value c v)
+      log (sound.logs p low) v m) (all-Member (tell_less command.client command.seq) log (sound.waits p low) v m))
 
   all_free : (p : ℕ) → nat_lt p c.replicas ≡ true → Free (stored_at (moment_of w) p)
   all_free p low =
       subst Free (stored_is p)
-      (not_true (is_done command.seq (floor_of command.client (replica_store w p).machine.table.floors))
-      (in_replicas (λ p. not (is_done command.seq (floor_of command.client (replica_store w p).machine.table.floors))) room.waits.replicas p low))
+      (not_true (is_done command.seq (floor_of command.client (replica_store w p).machine.table.floors)) (in_replicas (λ p.
+      not (is_done command.seq (floor_of command.client (replica_store w p).machine.table.floors))) room.waits.replicas p low))
 
   still_free : (d : ReplicaDurable) (v : Value) → Passes v ≡ true → Free d → Free (replica_after d (kept.Log (v ∷ [])))
   still_free d v t free =
-      free_from command.client command.seq (held d) d.machine (v ∷ []) free
-      (and_from (tell_less command.client command.seq v) true ((and_parts (names_value c v) (tell_less command.client command.seq v) t).1) refl)
+      free_from command.client command.seq (held d) d.machine (v ∷ []) free (and_from (tell_less command.client command.seq v) true
+      ((and_parts (names_value c v) (tell_less command.client command.seq v) t).1) refl)
 
   few : (p : ℕ) (most : ℕ) → nat_lt p c.replicas ≡ true → held (stored_at (moment_of w) p) ≡ most → nat_lt most 1099511627776 ≡ true
-  few p most low is =
-      subst (λ n. nat_lt n 1099511627776 ≡ true) (ap (λ d. held d) (stored_is p) ∙ is) (in_replicas (λ p. nat_lt (held (replica_store w p)) 1099511627776) room.slots.replicas p low)
+  few p most low is = subst (λ n. nat_lt n 1099511627776 ≡ true) (ap (λ d. held d) (stored_is p) ∙ is)
+      (in_replicas (λ p. nat_lt (held (replica_store w p)) 1099511627776) room.slots.replicas p low)
 
   -- once all roles were opened
-  from_opened : (states : RoleId → State) → ((k : Kind) → Member k planned → (j : ℕ) → nat_lt j (count_of c k) ≡ true → states (role k j) ≡ fresh_state c k)
+  from_opened : (states : RoleId → State)
+      → ((k : Kind) → Member k planned → (j : ℕ) → nat_lt j (count_of c k) ≡ true → states (role k j) ≡ fresh_state c k)
       → Goes (IsAnswered command) c (record { kept = reverse w.kept; sent = w.sent; states = states })
-  from_opened states fresh =
-      caught_up (IsAnswered command) c Passes Free (record { kept = reverse w.kept; sent = w.sent; states = states }) (positive c.f c.replicas counts.replicas)
+  from_opened states fresh = caught_up (IsAnswered command) c Passes Free (record { kept = reverse w.kept; sent = w.sent; states = states })
+      (positive c.f c.replicas counts.replicas)
       (λ p low. (replica_rules.fresh c, fresh kind.Replica (inr (inr (inr (inr (inr (inl refl)))))) p low)) sound.ring
       (λ v t. (and_parts (names_value c v) (tell_less command.client command.seq v) t).0) all_pass still_free all_free
       (λ y up.
       let left = up.left in
-      let low : (p : ℕ) → Member p (below c.replicas) → nat_lt p c.replicas ≡ true = λ p m. less_test p c.replicas (below-Member p c.replicas m) in
-      answered_from_level w up.most batcher command counts sound.named
-      (λ a there. let s = sound.within a there in le_then (acceptor_store w a).cw (held (stored_at (moment_of w) s.0)) up.most s.2 (up.top s.0 s.1))
-      known batched room (λ p. stored_at y p) (λ p m. up.full p (low p m)) (few up.fullest up.most up.there up.is_full) (λ p m. up.such p (low p m)) y
-      (record {
+      let low : (p : ℕ) → Member p (below c.replicas) → nat_lt p c.replicas ≡ true =
+      λ p m. less_test p c.replicas (below-Member p c.replicas m) in
+      answered_from_level w up.most batcher command counts sound.named (λ a there.
+      let s = sound.within a there in le_then (acceptor_store w a).cw (held (stored_at (moment_of w) s.0)) up.most s.2 (up.top s.0 s.1))
+      known batched room (λ p. stored_at y p) (λ p m. up.full p (low p m)) (few up.fullest up.most up.there up.is_full)
+      (λ p m. up.such p (low p m)) y (record {
         base = record {
           steady = λ p m. up.steady p (low p m);
           store = λ p m. refl;
           proxies = λ q l. (proxy_rules.fresh c, left.states (role kind.Proxy q) refl ∙ fresh kind.Proxy (inr (inr (inl refl))) q l);
           acceptors = λ q l. left.states (role kind.Acceptor q) refl ∙ fresh kind.Acceptor (inr (inr (inr (inl refl)))) q l;
           matchmakers = λ q l. left.states (role kind.Matchmaker q) refl ∙ fresh kind.Matchmaker (inr (inr (inr (inr (inl refl))))) q l;
-          unbatchers = λ q l. left.states (role kind.Unbatcher q) refl ∙ fresh kind.Unbatcher (inr (inr (inr (inr (inr (inr (inl refl))))))) q l;
+          unbatchers =
+              λ q l. left.states (role kind.Unbatcher q) refl ∙ fresh kind.Unbatcher (inr (inr (inr (inr (inr (inr (inl refl))))))) q l;
           batcher = left.states (role kind.Batcher batcher) refl ∙ fresh kind.Batcher (inr (inl refl)) batcher batched;
           handed = left.sent (submitted command batcher) submit;
         };

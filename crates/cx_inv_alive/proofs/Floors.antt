@@ -14,8 +14,8 @@ use Rattle.cx_model.specs.Lists.{bool_cases}
 use Rattle.cx_model.specs.Replica.{Machine, execute, execute_all, execute_value, machine_from}
 use Rattle.cx_inv_alive.specs.Alive.{tells_less, tell_less}
 
-free_with : (k seq client floor : ℕ) (floors : List Floor) → is_done seq (floor_of k floors) ≡ false → (not (client == k) || nat_lt floor seq) ≡ true
-    → is_done seq (floor_of k (with_floor client floor floors)) ≡ false
+free_with : (k seq client floor : ℕ) (floors : List Floor) → is_done seq (floor_of k floors) ≡ false
+    → (not (client == k) || nat_lt floor seq) ≡ true → is_done seq (floor_of k (with_floor client floor floors)) ≡ false
 free_with k seq client floor [] is less = go (bool_cases (client == k))
   where
     go : ((client == k) ≡ true) ⊎ ((client == k) ≡ false) → is_done seq (if client == k then Some floor else None) ≡ false
@@ -24,8 +24,8 @@ free_with k seq client floor [] is less = go (bool_cases (client == k))
         up : nat_lt floor seq ≡ true → nat_le seq floor ≡ false
         up h = grind (arith, nat_tests, h)
     go (inr f) = rw f refl
-free_with k seq client floor (f ∷ floors) is less =
-    go (bool_cases (f.client == client)) (bool_cases (nat_lt client f.client)) (bool_cases (client == k)) (bool_cases (f.client == k)) (free_with k seq client floor floors)
+free_with k seq client floor (f ∷ floors) is less = go (bool_cases (f.client == client)) (bool_cases (nat_lt client f.client))
+    (bool_cases (client == k)) (bool_cases (f.client == k)) (free_with k seq client floor floors)
   where
     same : (f.client == client) ≡ true → (client == k) ≡ true → (f.client == k) ≡ true
     same h l = grind (arith, nat_tests, h, l)
@@ -42,8 +42,8 @@ free_with k seq client floor (f ∷ floors) is less =
     go : ((f.client == client) ≡ true) ⊎ ((f.client == client) ≡ false)
         → (nat_lt client f.client ≡ true) ⊎ (nat_lt client f.client ≡ false)
         → ((client == k) ≡ true) ⊎ ((client == k) ≡ false)
-        → ((f.client == k) ≡ true) ⊎ ((f.client == k) ≡ false)
-        → (is_done seq (floor_of k floors) ≡ false → (not (client == k) || nat_lt floor seq) ≡ true → is_done seq (floor_of k (with_floor client floor floors)) ≡ false)
+        → ((f.client == k) ≡ true) ⊎ ((f.client == k) ≡ false) → (is_done seq (floor_of k floors) ≡ false
+        → (not (client == k) || nat_lt floor seq) ≡ true → is_done seq (floor_of k (with_floor client floor floors)) ≡ false)
         → is_done seq (floor_of k (with_floor client floor (f ∷ floors))) ≡ false
     go (inl s) b (inl t) u rest =
         let own : nat_le seq f.floor ≡ false = rw (same s t) at is in
@@ -59,7 +59,8 @@ pub floors_told : (at : ℕ) (m : Machine) (x : Command) → (execute at m x).ma
 floors_told at m x = go (bool_cases (is_done x.seq (floor_of x.client m.table.floors))) (noted_for x.client x.seq m.table.notes) refl
   where
     go : (is_done x.seq (floor_of x.client m.table.floors) ≡ true) ⊎ (is_done x.seq (floor_of x.client m.table.floors) ≡ false)
-        → (o : Option Answered) → noted_for x.client x.seq m.table.notes ≡ o → (execute at m x).machine.table.floors ≡ with_floor x.client x.floor m.table.floors
+        → (o : Option Answered) → noted_for x.client x.seq m.table.notes ≡ o
+        → (execute at m x).machine.table.floors ≡ with_floor x.client x.floor m.table.floors
     go (inl t) o e = rw t refl
     go (inr f) None e = rw (f, e) refl
     go (inr f) (Some a) e = rw (f, e) refl
@@ -69,15 +70,15 @@ free_one : (k seq at : ℕ) (m : Machine) (x : Command) → is_done seq (floor_o
 free_one k seq at m x free less =
     subst (λ l. is_done seq (floor_of k l) ≡ false) (sym (floors_told at m x)) (free_with k seq x.client x.floor m.table.floors free less)
 
-free_all : (k seq at : ℕ) (m : Machine) (xs : List Command) → is_done seq (floor_of k m.table.floors) ≡ false → list_all (tells_less k seq) xs ≡ true
-    → is_done seq (floor_of k (execute_all at m xs).machine.table.floors) ≡ false
+free_all : (k seq at : ℕ) (m : Machine) (xs : List Command) → is_done seq (floor_of k m.table.floors) ≡ false
+    → list_all (tells_less k seq) xs ≡ true → is_done seq (floor_of k (execute_all at m xs).machine.table.floors) ≡ false
 free_all k seq at m [] free less = free
 free_all k seq at m (x ∷ xs) free less =
     let parts = and_parts (tells_less k seq x) (list_all (tells_less k seq) xs) less in
     free_all k seq at (execute at m x).machine xs (free_one k seq at m x free parts.0) parts.1
 
-pub free_from : (k seq slot : ℕ) (m : Machine) (values : List Value) → is_done seq (floor_of k m.table.floors) ≡ false → list_all (tell_less k seq) values ≡ true
-    → is_done seq (floor_of k (machine_from slot m values).table.floors) ≡ false
+pub free_from : (k seq slot : ℕ) (m : Machine) (values : List Value) → is_done seq (floor_of k m.table.floors) ≡ false
+    → list_all (tell_less k seq) values ≡ true → is_done seq (floor_of k (machine_from slot m values).table.floors) ≡ false
 free_from k seq slot m [] free less = free
 free_from k seq slot m (v ∷ values) free less =
     let parts = and_parts (tell_less k seq v) (list_all (tell_less k seq) values) less in

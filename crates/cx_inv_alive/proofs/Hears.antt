@@ -1,5 +1,6 @@
 -- All replicas tick, and the leader is told.
-use Rattle.std.proofs.Common.{◌≡◌, ◌<◌, ◌⊎◌, ℕ, zero, suc, true, false, List, [], ◌∷◌, ◌++◌, map, None, ap, sym, ◌∙◌, subst, refl, inl, inr, arith}
+use Rattle.std.proofs.Common.{◌≡◌, ◌<◌, ◌⊎◌, ℕ, zero, suc, true, false, List, [], ◌∷◌, ◌++◌, map, None, ap, sym, ◌∙◌, subst, refl, inl, inr}
+use Rattle.std.proofs.Common.{arith}
 use Rattle.std.proofs.lemmas.Bool.{cond-true}
 use Rattle.std.proofs.lemmas.Bool.Decides.{nat_tests}
 use Rattle.std.specs.Prelude.{◌+◌, ◌==◌, Bool, filter, max, nat_le, nat_lt, length, slice_index_or, slice_set}
@@ -46,17 +47,19 @@ greatest_above (x ∷ xs) k (inr m) = second k x (greatest_of xs) (greatest_abov
 
 all_pass : (p : ℕ → Bool) (xs : List ℕ) → ((k : ℕ) → Member k xs → p k ≡ true) → filter p xs ≡ xs
 all_pass p [] all = refl
-all_pass p (x ∷ xs) all = cond-true (p x) (x ∷ filter p xs) (filter p xs) (all x (inl refl)) ∙ ap (λ l. x ∷ l) (all_pass p xs (λ k m. all k (inr m)))
+all_pass p (x ∷ xs) all =
+    cond-true (p x) (x ∷ filter p xs) (filter p xs) (all x (inl refl)) ∙ ap (λ l. x ∷ l) (all_pass p xs (λ k m. all k (inr m)))
 
 pub held_least : (count most : ℕ) (xs : List ℕ) → ((k : ℕ) → Member k xs → nat_le k most ≡ true) → nat_le (held_by count xs) most ≡ true
-held_least count most xs all =
-    greatest_least (filter (λ n. nat_le count (count_reaching n xs)) xs) most (λ k m. all k (filter-older (λ n. nat_le count (count_reaching n xs)) k xs m))
+held_least count most xs all = greatest_least (filter (λ n. nat_le count (count_reaching n xs)) xs) most
+    (λ k m. all k (filter-older (λ n. nat_le count (count_reaching n xs)) k xs m))
 
 same_both : (a b : ℕ) → nat_le a b ≡ true → nat_le b a ≡ true → a ≡ b
 same_both a b h k = grind (arith, nat_tests, h, k)
 
 -- what all of them reach, and none is above, is what enough of them reach
-held_most : (count most : ℕ) (xs : List ℕ) → nat_lt 0 count ≡ true → nat_le count (length xs) ≡ true → ((k : ℕ) → Member k xs → nat_le k most ≡ true) → ((k : ℕ) → Member k xs → nat_le most k ≡ true)
+held_most : (count most : ℕ) (xs : List ℕ) → nat_lt 0 count ≡ true → nat_le count (length xs) ≡ true
+    → ((k : ℕ) → Member k xs → nat_le k most ≡ true) → ((k : ℕ) → Member k xs → nat_le most k ≡ true)
     → nat_le most (held_by count xs) ≡ true
 held_most count most [] some enough low high = absurd (none count some enough)
   where
@@ -99,7 +102,8 @@ set_there (x ∷ xs) (suc p) n (suc k) e = set_there xs p n k (back k p e)
     back : (a b : ℕ) → (suc a == suc b) ≡ false → (a == b) ≡ false
     back a b h = grind (arith, nat_tests, h)
 
-each_at : (most : ℕ) (xs : List ℕ) → ((p : ℕ) → p < length xs → nat_le most (slice_index_or xs p 0) ≡ true) → (k : ℕ) → Member k xs → nat_le most k ≡ true
+each_at : (most : ℕ) (xs : List ℕ) → ((p : ℕ) → p < length xs → nat_le most (slice_index_or xs p 0) ≡ true) → (k : ℕ) → Member k xs
+    → nat_le most k ≡ true
 each_at most [] all k m = absurd m
 each_at most (x ∷ xs) all k (inl e) = subst (λ n. nat_le most n ≡ true) (sym e) (all 0 (some (length xs)))
   where
@@ -126,8 +130,8 @@ module _ (goal : World → Type 0) (c : Cluster) (l most : ℕ) (led : nat_lt l 
   abbrev noted : LeaderVolatile → ℕ → LeaderVolatile
   noted v p = raised_to (held_by (enough c) (slice_set v.held p most)) (record v { held = slice_set v.held p most })
 
-  row_noted : (p : ℕ) (d : LeaderDurable) (v : LeaderVolatile) → nat_lt p c.replicas ≡ true → nat_le most (slice_index_or v.held p 0) ≡ false
-      → leader_row c me d v (input.Take (held_to (role kind.Replica p) most l)) ≡ only_word why.Held (noted v p)
+  row_noted : (p : ℕ) (d : LeaderDurable) (v : LeaderVolatile) → nat_lt p c.replicas ≡ true → nat_le most (slice_index_or v.held p 0)
+      ≡ false → leader_row c me d v (input.Take (held_to (role kind.Replica p) most l)) ≡ only_word why.Held (noted v p)
   row_noted p d v there h = rw (led, there, same_role-itself me, h) refl
 
   pub record TellsAt (p : ℕ) (x : Moment) : Type 0 where
@@ -143,8 +147,8 @@ module _ (goal : World → Type 0) (c : Cluster) (l most : ℕ) (led : nat_lt l 
   grown_more : (v u : LeaderVolatile) (p : ℕ) → Grown c most v u → Grown c most v (noted u p)
   grown_more v u p g =
       let xs = slice_set u.held p most in
-      let each : (k : ℕ) → Member k xs → nat_le k most ≡ true =
-      λ k m. elim (set_Member u.held p most k m) [ inl e ↦ subst (λ n. nat_le n most ≡ true) (sym e) (itself most) | inr q ↦ g.hearing.told k q ] in
+      let each : (k : ℕ) → Member k xs → nat_le k most ≡ true = λ k m. elim (set_Member u.held p most k
+      m) [ inl e ↦ subst (λ n. nat_le n most ≡ true) (sym e) (itself most) | inr q ↦ g.hearing.told k q ] in
       let n = held_by (enough c) xs in
       record {
         hearing = record {
@@ -173,10 +177,11 @@ module _ (goal : World → Type 0) (c : Cluster) (l most : ℕ) (led : nat_lt l 
       next_is a b n = grind (arith)
 
   abbrev Rest : Moment → LeaderVolatile → Type 0
-  Rest x v = (y : Moment) (u : LeaderVolatile) → Left none (is_role me) x y → y.states me ≡ LeaderIn u → Grown c most v u → ((p : ℕ) → p < c.replicas → Knows u p) → Goes goal c y
+  Rest x v = (y : Moment) (u : LeaderVolatile) → Left none (is_role me) x y → y.states me ≡ LeaderIn u → Grown c most v u
+      → ((p : ℕ) → p < c.replicas → Knows u p) → Goes goal c y
 
-  heard : (ps : List ℕ) (x : Moment) (v u : LeaderVolatile) → x.states me ≡ LeaderIn u → Grown c most v u → ((p : ℕ) → Member p ps → TellsAt p x)
-      → ((p : ℕ) → p < c.replicas → Member p ps ⊎ Knows u p) → Rest x v → Goes goal c x
+  heard : (ps : List ℕ) (x : Moment) (v u : LeaderVolatile) → x.states me ≡ LeaderIn u → Grown c most v u
+      → ((p : ℕ) → Member p ps → TellsAt p x) → ((p : ℕ) → p < c.replicas → Member p ps ⊎ Knows u p) → Rest x v → Goes goal c x
   heard [] x v u runs g tells known rest =
       rest x u (left_same none (is_role me) x) runs g (λ p low. elim (known p low) [ inl m ↦ absurd m | inr k ↦ k ])
   heard (p ∷ ps) x v u runs g tells known rest =
@@ -187,7 +192,8 @@ module _ (goal : World → Type 0) (c : Cluster) (l most : ℕ) (led : nat_lt l 
       let asked : Outcome ReplicaVolatile = replied why.Resent now.volatile sends in
       let y = moved it (ReplicaIn now.volatile) None sends x in
       let same_y : Left none (is_role me) x y = left_still none (is_role me) it (ReplicaIn now.volatile) sends x now.runs in
-      let m : Member d y.sent = Member-second d x.sent sends (Member-first d (map (held_to it most) (below c.leaders)) _ (map-Member (held_to it most) l (below c.leaders) (Member-below l c.leaders (less l c.leaders led)))) in
+      let m : Member d y.sent = Member-second d x.sent sends (Member-first d (map (held_to it most) (below c.leaders))
+      _ (map-Member (held_to it most) l (below c.leaders) (Member-below l c.leaders (less l c.leaders led)))) in
       let runs_y : y.states me ≡ LeaderIn u = state_other it me (ReplicaIn now.volatile) x.states refl ∙ runs in
       let later : (q : ℕ) → Member q ps → (t : LeaderVolatile) → TellsAt q (moved me (LeaderIn t) None [] y) =
       λ q in_it t.
@@ -198,30 +204,31 @@ module _ (goal : World → Type 0) (c : Cluster) (l most : ℕ) (led : nat_lt l 
         count = b.count;
         there = b.there;
       } in
-      let left : (t : LeaderVolatile) → Left none (is_role me) x (moved me (LeaderIn t) None [] y) =
-      λ t. left_then none (is_role me) x y (moved me (LeaderIn t) None [] y) same_y (left_moved none (is_role me) me (LeaderIn t) [] y (same_role-itself me)) in
-      tick_replica goal c x p now.volatile asked now.runs (ap (λ n. replied why.Resent now.volatile (map (held_to it n) (below c.leaders) ++ fetch_to c it n)) now.count)
+      let left : (t : LeaderVolatile) → Left none (is_role me) x (moved me (LeaderIn t) None [] y) = λ t. left_then none (is_role me) x y
+      (moved me (LeaderIn t) None [] y) same_y (left_moved none (is_role me) me (LeaderIn t) [] y (same_role-itself me)) in
+      tick_replica goal c x p now.volatile asked now.runs
+      (ap (λ n. replied why.Resent now.volatile (map (held_to it n) (below c.leaders) ++ fetch_to c it n)) now.count)
       (elim (bool_cases (nat_le most (slice_index_or u.held p 0))) [
         | inl t ↦
             to_leader goal c y l d m u (only_word why.Same u) refl runs_y (row_same p (durable_of leader_rules me y.kept) u now.there t)
             (heard ps (moved me (LeaderIn u) None [] y) v u (state_own me (LeaderIn u) y.states) g (λ q in_it. later q in_it u)
             (λ q low. elim (known q low) [ inl (inl e) ↦ inr (subst (λ n. Knows u n) (sym e) t) | inl (inr k) ↦ inl k | inr k ↦ inr k ])
             (λ z t2 left2. rest z t2 (left_then none (is_role me) x (moved me (LeaderIn u) None [] y) z (left u) left2)))
-        | inr f ↦
-            to_leader goal c y l d m u (only_word why.Held (noted u p)) refl runs_y (row_noted p (durable_of leader_rules me y.kept) u now.there f)
-            (heard ps (moved me (LeaderIn (noted u p)) None [] y) v (noted u p) (state_own me (LeaderIn (noted u p)) y.states) (grown_more v u p g) (λ q in_it. later q in_it (noted u p))
-            (λ q low. elim (bool_cases (q == p)) [
+        | inr f ↦ to_leader goal c y l d m u (only_word why.Held (noted u p)) refl runs_y
+            (row_noted p (durable_of leader_rules me y.kept) u now.there f)
+            (heard ps (moved me (LeaderIn (noted u p)) None [] y) v (noted u p) (state_own me (LeaderIn (noted u p)) y.states)
+            (grown_more v u p g) (λ q in_it. later q in_it (noted u p)) (λ q low. elim (bool_cases (q == p)) [
               | inl t ↦
-                  inr (subst (λ n. Knows (noted u p) n) (sym (same_number q p t))
-                  (subst (λ n. nat_le most n ≡ true) (sym (set_here u.held p most (subst (λ n. p < n) (sym g.hearing.count) (less p c.replicas now.there)))) (itself most)))
+                  inr (subst (λ n. Knows (noted u p) n) (sym (same_number q p t)) (subst (λ n. nat_le most n ≡ true)
+                  (sym (set_here u.held p most (subst (λ n. p < n) (sym g.hearing.count) (less p c.replicas now.there)))) (itself most)))
               | inr e ↦
                   elim (known q low) [
                     | inl (inl k) ↦ absurd (not_there q p e k)
                     | inl (inr k) ↦ inl k
                     | inr k ↦ inr (subst (λ n. nat_le most n ≡ true) (sym (set_there u.held p most q e)) k)
                   ]
-            ])
-            (λ z t2 left2. rest z t2 (left_then none (is_role me) x (moved me (LeaderIn (noted u p)) None [] y) z (left (noted u p)) left2)))
+            ]) (λ z t2 left2.
+            rest z t2 (left_then none (is_role me) x (moved me (LeaderIn (noted u p)) None [] y) z (left (noted u p)) left2)))
       ])
     where
       itself : (n : ℕ) → nat_le n n ≡ true
@@ -231,9 +238,8 @@ module _ (goal : World → Type 0) (c : Cluster) (l most : ℕ) (led : nat_lt l 
       not_there q p f e = grind (arith, nat_tests, f, e)
 
   pub heard_all : (x : Moment) (v : LeaderVolatile) → nat_le (enough c) c.replicas ≡ true → x.states me ≡ LeaderIn v → IsHearing c most v
-      → ((p : ℕ) → Member p (below c.replicas) → TellsAt p x)
-      → ((y : Moment) (u : LeaderVolatile) → Left none (is_role me) x y → y.states me ≡ LeaderIn u → Grown c most v u → nat_le most u.cw ≡ true → Goes goal c y)
-      → Goes goal c x
+      → ((p : ℕ) → Member p (below c.replicas) → TellsAt p x) → ((y : Moment) (u : LeaderVolatile) → Left none (is_role me) x y
+      → y.states me ≡ LeaderIn u → Grown c most v u → nat_le most u.cw ≡ true → Goes goal c y) → Goes goal c x
   heard_all x v some runs hearing tells rest =
       heard (below c.replicas) x v v runs
       (record {

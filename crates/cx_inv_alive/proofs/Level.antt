@@ -1,5 +1,6 @@
 -- The stages together.
-use Rattle.std.proofs.Common.{◌≡◌, ◌<◌, ℕ, suc, true, false, List, [], ◌∷◌, map, Option, Some, None, ap, sym, ◌∙◌, subst, refl, inl, inr, arith}
+use Rattle.std.proofs.Common.{◌≡◌, ◌<◌, ℕ, suc, true, false, List, [], ◌∷◌, map, Option, Some, None, ap, sym, ◌∙◌, subst, refl, inl, inr}
+use Rattle.std.proofs.Common.{arith}
 use Rattle.std.proofs.lemmas.Bool.{and_parts}
 use Rattle.std.proofs.lemmas.Bool.Decides.{nat_tests}
 use Rattle.std.specs.List.{list_all}
@@ -23,7 +24,8 @@ use Rattle.cx_model.specs.Batcher.{batcher_rules}
 use Rattle.cx_model.specs.declared.states.MatchAnswer.{MatchAnswer}
 use Rattle.cx_model.specs.declared.states.Mode.TheVariants.{Leading}
 use Rattle.cx_model.specs.declared.states.Promised.{Promised}
-use Rattle.cx_model.specs.Leader.{LeaderDurable, LeaderVolatile, held_by, idle_leader, lead_with, leader_rules, leads_to, match_a_to, matched_by, phase1a_to, propose_to, round_of}
+use Rattle.cx_model.specs.Leader.{LeaderDurable, LeaderVolatile, held_by, idle_leader, lead_with, leader_rules, leads_to, match_a_to}
+use Rattle.cx_model.specs.Leader.{matched_by, phase1a_to, propose_to, round_of}
 use Rattle.cx_model.specs.Matched.{enough, first_set, is_member_of, live_entries, members_of}
 use Rattle.cx_model.specs.Matchmaker.{MatchmakerDurable, entry, has_set, is_stopped, matchmaker_rules, set_of}
 use Rattle.cx_model.specs.Member.{Member}
@@ -33,7 +35,8 @@ use Rattle.cx_model.specs.Plan.{placed_from, plan, votes_told}
 use Rattle.cx_model.specs.Proxy.{ProxyVolatile}
 use Rattle.cx_model.specs.Replica.{ReplicaDurable, ReplicaVolatile, execute_value, held, machine_from, replica_after, replica_rules}
 use Rattle.cx_model.specs.World.{World}
-use Rattle.cx_inv_run.proofs.Members.{Member-first, Member-filter, Member-is_in, Member-all, all-Member, below-Member, Member-below, map-Member}
+use Rattle.cx_inv_run.proofs.Members.{Member-first, Member-filter, Member-is_in, Member-all, all-Member, below-Member, Member-below}
+use Rattle.cx_inv_run.proofs.Members.{map-Member}
 use Rattle.cx_inv_run.proofs.Quorums.{length-below}
 use Rattle.cx_inv_run.specs.States.{BatcherIn, LeaderIn, Plain, ProxyIn, ReplicaIn, durable_of}
 use Rattle.cx_inv_alive.proofs.Answered.{answered}
@@ -45,14 +48,19 @@ use Rattle.cx_inv_alive.proofs.Moments.{Moment, Goes, Left}
 use Rattle.cx_inv_alive.proofs.Phase.{apart_below, less, less_test, phase_all}
 use Rattle.cx_inv_alive.proofs.Plans.{values_for, plan_of, end_is, plan_is, end_below, votes_such}
 use Rattle.cx_inv_alive.proofs.Serve.{not_before_itself, held_after, all_served, not_less}
-use Rattle.cx_inv_alive.proofs.Stages.{HasCounts, is_of, is_role, Apart, lead_round, begun_over, matching, goes_on_with, phasing, settled_at, IsHearing, Grown, CanMatch, match_answer_of, reported_by, MayHavePromised, MayVote, single_grid, proposed_over, with_values}
-use Rattle.cx_inv_alive.specs.Alive.{submitted, IsAnswered, acceptor_store, matchmaker_store, takes_a_round, tell_less, IsRoomy, leader_store}
+use Rattle.cx_inv_alive.proofs.Stages.{HasCounts, is_of, is_role, Apart, lead_round, begun_over, matching, goes_on_with, phasing}
+use Rattle.cx_inv_alive.proofs.Stages.{settled_at, IsHearing, Grown, CanMatch, match_answer_of, reported_by, MayHavePromised, MayVote}
+use Rattle.cx_inv_alive.proofs.Stages.{single_grid, proposed_over, with_values}
+use Rattle.cx_inv_alive.specs.Alive.{submitted, IsAnswered, acceptor_store, matchmaker_store, takes_a_round, tell_less, IsRoomy}
+use Rattle.cx_inv_alive.specs.Alive.{leader_store}
 
 -- What the stores of acceptors and matchmakers are in every run: names lie in the cluster.
 pub record AreNamed (w : World) : Type 0 where
-  pub votes : (a : ℕ) → nat_lt a w.cluster.acceptors ≡ true → list_all (λ (v : Vote). names_vote w.cluster v) (acceptor_store w a).votes ≡ true
+  pub votes : (a : ℕ) → nat_lt a w.cluster.acceptors ≡ true
+      → list_all (λ (v : Vote). names_vote w.cluster v) (acceptor_store w a).votes ≡ true
   pub watermarks : (m : ℕ) → Member m (first_set w.cluster) → names_round w.cluster (matchmaker_store w m).watermark ≡ true
-  pub entries : (m : ℕ) → Member m (first_set w.cluster) → list_all (λ (e : Entry). names_entry w.cluster e) (matchmaker_store w m).entries ≡ true
+  pub entries : (m : ℕ) → Member m (first_set w.cluster)
+      → list_all (λ (e : Entry). names_entry w.cluster e) (matchmaker_store w m).entries ≡ true
 
 pub not_true : (b : Bool) → not b ≡ true → b ≡ false
 not_true true h = cc
@@ -111,20 +119,26 @@ first_count : (n e : ℕ) → suc n ≡ e → 0 + suc n ≡ e
 first_count n e h = omega (arith, h)
 
 at_ready : (v : LeaderVolatile) (e : ℕ) → v.mode ≡ Leading → v.cw ≡ e → v.next ≡ e → v ≡ settled_at v e
-at_ready v e mode cw next = ap (λ x. record v { mode = x }) mode ∙ ap (λ x. record v { mode = Leading; cw = x }) cw ∙ ap (λ x. record v { mode = Leading; cw = e; next = x }) next
+at_ready v e mode cw next = ap (λ x. record v { mode = x }) mode ∙ ap (λ x. record v { mode = Leading; cw = x }) cw
+    ∙ ap (λ x. record v { mode = Leading; cw = e; next = x }) next
 
 -- what a replica's machine is after values more
-machine_with : (vs : List Value) (d : ReplicaDurable) (slot : ℕ) → held d ≡ slot → (with_values d vs).machine ≡ machine_from slot d.machine vs
+machine_with : (vs : List Value) (d : ReplicaDurable) (slot : ℕ) → held d ≡ slot
+    → (with_values d vs).machine ≡ machine_from slot d.machine vs
 machine_with [] d slot is = refl
 machine_with (v ∷ vs) d slot is =
     machine_with vs (replica_after d (kept.Log (v ∷ []))) (slot + 1) (held_after d v slot is)
     ∙ ap (λ n. machine_from (slot + 1) (execute_value n d.machine v).machine vs) is
 
 -- the conditions are those of a world; replicas have fetched since then, and hold as much
-module _ (w : World) (h b : ℕ) (command : Command) (counts : HasCounts w.cluster) (named : AreNamed w) (within : (a : ℕ) → nat_lt a w.cluster.acceptors ≡ true → nat_le (acceptor_store w a).cw h ≡ true)
-    (known : nat_lt command.client w.cluster.clients ≡ true) (batched : nat_lt b w.cluster.batchers ≡ true) (room : IsRoomy w.cluster w command)
-    (stored : ℕ → ReplicaDurable) (holds : (p : ℕ) → Member p (below w.cluster.replicas) → held (stored p) ≡ h) (few : nat_lt h 1099511627776 ≡ true)
-    (free : (p : ℕ) → Member p (below w.cluster.replicas) → is_done command.seq (floor_of command.client (stored p).machine.table.floors) ≡ false) where
+module _ (w : World) (h b : ℕ) (command : Command) (counts : HasCounts w.cluster) (named : AreNamed w)
+    (within : (a : ℕ) → nat_lt a w.cluster.acceptors ≡ true → nat_le (acceptor_store w a).cw h ≡ true)
+    (known : nat_lt command.client w.cluster.clients ≡ true) (batched : nat_lt b w.cluster.batchers ≡ true)
+    (room : IsRoomy w.cluster w command)
+    (stored : ℕ → ReplicaDurable) (holds : (p : ℕ) → Member p (below w.cluster.replicas) → held (stored p) ≡ h)
+    (few : nat_lt h 1099511627776 ≡ true)
+    (free : (p : ℕ) → Member p (below w.cluster.replicas)
+    → is_done command.seq (floor_of command.client (stored p).machine.table.floors) ≡ false) where
   abbrev c : Cluster
   c = w.cluster
 
@@ -172,7 +186,8 @@ module _ (w : World) (h b : ℕ) (command : Command) (counts : HasCounts w.clust
     pub own : durable_of leader_rules me x.kept ≡ leader_store w 0
     pub idle : x.states me ≡ LeaderIn (idle_leader c)
 
-  base_then : (keeps : RoleId → Bool) (x y : Moment) → ((p : ℕ) → keeps (role kind.Replica p) ≡ false) → Left keeps (is_role me) x y → Base x → Base y
+  base_then : (keeps : RoleId → Bool) (x y : Moment) → ((p : ℕ) → keeps (role kind.Replica p) ≡ false) → Left keeps (is_role me) x y
+      → Base x → Base y
   base_then keeps x y none left base =
       record {
         steady = λ p m. let s = base.steady p m in (s.0, left.states (role kind.Replica p) refl ∙ s.1);
@@ -191,11 +206,13 @@ module _ (w : World) (h b : ℕ) (command : Command) (counts : HasCounts w.clust
   -- THE VALUES
 
   abbrev Told : List Promised → Type 0
-  Told ps = (p : Promised) → Member p ps → (p ≡ reported_by (acceptor_store w p.acceptor) p.acceptor) × (nat_lt p.acceptor c.acceptors ≡ true)
+  Told ps =
+      (p : Promised) → Member p ps → (p ≡ reported_by (acceptor_store w p.acceptor) p.acceptor) × (nat_lt p.acceptor c.acceptors ≡ true)
 
-  told_votes : (P : Vote → Bool) (ps : List Promised) → Told ps → ((a : ℕ) → nat_lt a c.acceptors ≡ true → list_all P (acceptor_store w a).votes ≡ true) → list_all P (votes_told ps) ≡ true
-  told_votes P ps told every =
-      votes_all P ps (λ p m. let t = told p m in subst (λ (vs : List Vote). list_all P vs ≡ true) (sym (ap (λ (q : Promised). q.votes) t.0)) (every p.acceptor t.1))
+  told_votes : (P : Vote → Bool) (ps : List Promised) → Told ps
+      → ((a : ℕ) → nat_lt a c.acceptors ≡ true → list_all P (acceptor_store w a).votes ≡ true) → list_all P (votes_told ps) ≡ true
+  told_votes P ps told every = votes_all P ps (λ p m. let t = told p m in subst (λ (vs : List Vote). list_all P vs ≡ true)
+      (sym (ap (λ (q : Promised). q.votes) t.0)) (every p.acceptor t.1))
 
   abbrev values : List Promised → List Value
   values ps = values_for h (votes_told ps)
@@ -205,9 +222,8 @@ module _ (w : World) (h b : ℕ) (command : Command) (counts : HasCounts w.clust
       votes_such (λ v. names_value c v) refl (votes_told ps)
       (told_votes (λ (v : Vote). names_value c v.value) ps told
       (λ a l.
-      Member-all (λ (v : Vote). names_value c v.value) (acceptor_store w a).votes
-      (λ v m. (and_parts (names_round c v.round) (names_value c v.value) (all-Member (λ (v : Vote). names_vote c v) (acceptor_store w a).votes (named.votes a l) v m)).1)))
-      h
+      Member-all (λ (v : Vote). names_value c v.value) (acceptor_store w a).votes (λ v m. (and_parts (names_round c v.round)
+      (names_value c v.value) (all-Member (λ (v : Vote). names_vote c v) (acceptor_store w a).votes (named.votes a l) v m)).1))) h
 
   in_acceptors : (P : ℕ → Bool) → list_all P (below c.acceptors) ≡ true → (a : ℕ) → nat_lt a c.acceptors ≡ true → P a ≡ true
   in_acceptors P every a l = all-Member P (below c.acceptors) every a (Member-below a c.acceptors (less a c.acceptors l))
@@ -226,8 +242,8 @@ module _ (w : World) (h b : ℕ) (command : Command) (counts : HasCounts w.clust
       free_from command.client command.seq h (stored p).machine (values ps)
       (free p m)
       (votes_such (tell_less command.client command.seq) refl (votes_told ps)
-      (told_votes (λ (v : Vote). tell_less command.client command.seq v.value) ps told
-      (in_acceptors (λ a. list_all (λ (v : Vote). tell_less command.client command.seq v.value) (acceptor_store w a).votes) room.waits.votes)) h)
+      (told_votes (λ (v : Vote). tell_less command.client command.seq v.value) ps told (in_acceptors (λ a.
+      list_all (λ (v : Vote). tell_less command.client command.seq v.value) (acceptor_store w a).votes) room.waits.votes)) h)
 
   -- ONCE IT LEADS
 
@@ -247,9 +263,8 @@ module _ (w : World) (h b : ℕ) (command : Command) (counts : HasCounts w.clust
         voter = may;
         holds = λ p m. let s = base.steady p m in record { volatile = s.0; runs = s.1; count = holds_h x base p m };
         proxies = base.proxies;
-      })
-      (λ p m. sends (proposed_over c 0 r 0 h p) (Member-first _ (map (propose_to c me (entry i g) h) (placed_from h vs)) (map (leads_to me i) (below c.batchers)) (map-Member (propose_to c me (entry i g) h) p (placed_from h vs) m)))
-      (λ y s.
+      }) (λ p m. sends (proposed_over c 0 r 0 h p) (Member-first _ (map (propose_to c me (entry i g) h) (placed_from h vs))
+      (map (leads_to me i) (below c.batchers)) (map-Member (propose_to c me (entry i g) h) p (placed_from h vs) m))) (λ y s.
       heard_all goal c 0 e counts.leaders y u counts.replicas (s.left.states me refl ∙ runs)
       (record {
         count = hearing.count;
@@ -259,12 +274,16 @@ module _ (w : World) (h b : ℕ) (command : Command) (counts : HasCounts w.clust
       })
       (λ p m.
       let q = s.holds p m in
-      record { volatile = record q.volatile { early = [] }; runs = q.runs; count = q.count; there = less_test p c.replicas (below-Member p c.replicas m) })
-      (λ z t left is grown reached.
+      record {
+        volatile = record q.volatile { early = [] };
+        runs = q.runs;
+        count = q.count;
+        there = less_test p c.replicas (below-Member p c.replicas m);
+      }) (λ z t left is grown reached.
       let at_end : t.cw ≡ e = exact_end t.cw h e (le_plus h (length vs)) reached grown.top in
       let same : t ≡ settled_at t e = at_ready t e grown.mode at_end (grown.next ∙ ap (λ n. max e n) at_end ∙ max_same e) in
-      answered c 0 r 0 e b command counts.leaders counts.acceptors counts.proxies replicated counts.unbatchers batched (values_end ps told) known z t (batcher_rules.fresh c)
-      (left.sent (submitted command b) (s.left.sent (submitted command b) base.handed))
+      answered c 0 r 0 e b command counts.leaders counts.acceptors counts.proxies replicated counts.unbatchers batched (values_end ps told)
+      known z t (batcher_rules.fresh c) (left.sent (submitted command b) (s.left.sent (submitted command b) base.handed))
       (left.leaders 0 refl ∙ s.left.leaders 0 refl ∙ own)
       (is ∙ ap (λ (q : LeaderVolatile). LeaderIn q) same)
       (left.states (role kind.Batcher b) refl ∙ s.left.states (role kind.Batcher b) refl ∙ base.batcher)
@@ -274,14 +293,18 @@ module _ (w : World) (h b : ℕ) (command : Command) (counts : HasCounts w.clust
         voter = subst (λ d. MayVote 0 r e d) (sym (left.acceptors 0 refl)) s.voter;
         holds = λ p m.
             let q = s.holds p m in
-            record { volatile = q.volatile; runs = left.states (role kind.Replica p) refl ∙ q.runs; count = ap (λ (d : ReplicaDurable). held d) (left.replicas p refl) ∙ q.count };
+            record {
+              volatile = q.volatile;
+              runs = left.states (role kind.Replica p) refl ∙ q.runs;
+              count = ap (λ (d : ReplicaDurable). held d) (left.replicas p refl) ∙ q.count;
+            };
         proxies = λ q l. let k = s.proxies q l in (k.0, left.states (role kind.Proxy q) refl ∙ k.1);
       })
       (λ n l. left.states (role kind.Unbatcher n) refl ∙ s.left.states (role kind.Unbatcher n) refl ∙ base.unbatchers n l)
       (λ p m.
       subst (λ (d : ReplicaDurable). is_done command.seq (floor_of command.client d.machine.table.floors) ≡ false)
-      (sym (left.replicas p refl ∙ s.stores p m ∙ ap (λ d. with_values d vs) (base.store p m)))
-      (subst (λ k. is_done command.seq (floor_of command.client k.table.floors) ≡ false) (sym (machine_with vs (stored p) h (holds p m))) (undone ps told p m)))))
+      (sym (left.replicas p refl ∙ s.stores p m ∙ ap (λ d. with_values d vs) (base.store p m))) (subst (λ k. is_done command.seq
+      (floor_of command.client k.table.floors) ≡ false) (sym (machine_with vs (stored p) h (holds p m))) (undone ps told p m)))))
 
   -- ITS MATCHMAKERS
 
@@ -298,7 +321,8 @@ module _ (w : World) (h b : ℕ) (command : Command) (counts : HasCounts w.clust
         works = not_true (is_stopped d) parts.0;
         room = under (length d.entries) parts.1;
         watermark = all-Member (λ m. nat_lt (matchmaker_store w m).watermark.r r) (first_set c) room.rounds.watermarks m f.0;
-        lower = all-Member (λ m. list_all (λ (e : Entry). nat_lt e.round.r r) (matchmaker_store w m).entries) (first_set c) room.rounds.entries m f.0;
+        lower = all-Member (λ m. list_all (λ (e : Entry). nat_lt e.round.r r) (matchmaker_store w m).entries) (first_set c)
+            room.rounds.entries m f.0;
         named_watermark = named.watermarks m f.0;
         named_entries = named.entries m f.0;
       }
@@ -315,25 +339,28 @@ module _ (w : World) (h b : ℕ) (command : Command) (counts : HasCounts w.clust
 
   plan_now : (v : LeaderVolatile) (ps : List Promised) → v.cw ≡ h → Told ps → plan v.cw ps ≡ plan_of h (values ps)
   plan_now v ps cw told =
-      ap (λ n. plan n ps) cw
-      ∙ plan_is h ps (greatest_is h ps (λ p m. let t = told p m in subst (λ n. nat_le n h ≡ true) (sym (ap (λ (q : Promised). q.cw) t.0)) (within p.acceptor t.1)))
+      ap (λ n. plan n ps) cw ∙ plan_is h ps (greatest_is h ps
+      (λ p m. let t = told p m in subst (λ n. nat_le n h ≡ true) (sym (ap (λ (q : Promised). q.cw) t.0)) (within p.acceptor t.1)))
 
   promised_low : (a : ℕ) → nat_lt a c.acceptors ≡ true → nat_lt (votes_at a).promise.r r ≡ true
   promised_low = in_acceptors (λ a. nat_lt (acceptor_store w a).promise.r r) room.rounds.acceptors
 
   may_vote : (d : AcceptorDurable) → MayHavePromised 0 r (votes_at 0) d → MayVote 0 r h d
   may_vote d (inl e) =
-      subst (λ x. MayVote 0 r h x) (sym e)
-      (record { promised = not_above 0 r (votes_at 0).promise (promised_low 0 counts.acceptors); within = low_enough (votes_at 0).cw h (within 0 counts.acceptors) })
-  may_vote d (inr e) =
-      subst (λ x. MayVote 0 r h x) (sym e) (record { promised = not_before_itself 0 r; within = low_enough (votes_at 0).cw h (within 0 counts.acceptors) })
+      subst (λ x. MayVote 0 r h x) (sym e) (record {
+        promised = not_above 0 r (votes_at 0).promise (promised_low 0 counts.acceptors);
+        within = low_enough (votes_at 0).cw h (within 0 counts.acceptors);
+      })
+  may_vote d (inr e) = subst (λ x. MayVote 0 r h x) (sym e)
+      (record { promised = not_before_itself 0 r; within = low_enough (votes_at 0).cw h (within 0 counts.acceptors) })
 
   module _ (v : LeaderVolatile) (cw : v.cw ≡ h) (hearing : IsHearing c h v) (set : v.set ≡ first_set c) where
     hears_still : (t : LeaderVolatile) → t.held ≡ v.held → t.cw ≡ v.cw → t.next ≡ v.next → IsHearing c h t
     hears_still t e f k =
         record {
           count = ap (λ (l : List ℕ). length l) e ∙ hearing.count;
-          noted = subst (λ n. nat_le (held_by (enough c) t.held) n ≡ true) (sym f) (subst (λ l. nat_le (held_by (enough c) l) v.cw ≡ true) (sym e) hearing.noted);
+          noted = subst (λ n. nat_le (held_by (enough c) t.held) n ≡ true) (sym f)
+              (subst (λ l. nat_le (held_by (enough c) l) v.cw ≡ true) (sym e) hearing.noted);
           told = λ n m. hearing.told n (subst (λ l. Member n l) e m);
           ahead = subst (λ n. nat_le n t.next ≡ true) (sym f) (subst (λ n. nat_le v.cw n ≡ true) (sym k) hearing.ahead);
         }
@@ -343,8 +370,8 @@ module _ (w : World) (h b : ℕ) (command : Command) (counts : HasCounts w.clust
 
     -- enough have answered
     went_on : (ms : List ℕ) → ((m : ℕ) → Member m ms → Member m (first_set c)) → (x : Moment) → Base x
-        → ((a : ℕ) → durable_of acceptor_rules (role kind.Acceptor a) x.kept ≡ votes_at a) → durable_of leader_rules me x.kept ≡ begun_over 0 r g
-        → x.states me ≡ LeaderIn (goes_on_with c 0 r g (asking v) (map tells ms)).volatile
+        → ((a : ℕ) → durable_of acceptor_rules (role kind.Acceptor a) x.kept ≡ votes_at a) → durable_of leader_rules me x.kept
+        ≡ begun_over 0 r g → x.states me ≡ LeaderIn (goes_on_with c 0 r g (asking v) (map tells ms)).volatile
         → ((d : Letter) → Member d (goes_on_with c 0 r g (asking v) (map tells ms)).sends → Member d x.sent) → Goes goal c x
     went_on ms firsts x base votes own runs sends = go (live_entries (map tells ms)) refl
       where
@@ -352,8 +379,8 @@ module _ (w : World) (h b : ℕ) (command : Command) (counts : HasCounts w.clust
         go [] e =
             let told = map tells ms in
             let before = matching (asking v) told in
-            let same : goes_on_with c 0 r g (asking v) told ≡ led_by before [] =
-            ap (λ l. matched_by c me (entry i g) before l) e ∙ ap (λ p. lead_with c me (entry i g) before p) (plan_now before [] cw (λ p m. absurd m)) in
+            let same : goes_on_with c 0 r g (asking v) told ≡ led_by before [] = ap (λ l. matched_by c me (entry i g) before l) e
+            ∙ ap (λ p. lead_with c me (entry i g) before p) (plan_now before [] cw (λ p m. absurd m)) in
             served_on [] before x cw (hears_still before refl refl refl) base (λ p m. absurd m) (may_vote _ (inl (votes 0))) own
             (runs ∙ ap (λ (o : Outcome LeaderVolatile). LeaderIn o.volatile) same)
             (λ d m. sends d (subst (λ (o : Outcome LeaderVolatile). Member d o.sends) (sym same) m))
@@ -366,7 +393,8 @@ module _ (w : World) (h b : ℕ) (command : Command) (counts : HasCounts w.clust
             let q = live_entry i rounds_at ms k m in
             let first = firsts q.0 q.1 in (
               room.grids q.0 k first q.2,
-              (and_parts (names_round c k.round) (names_grid c k.grid) (all-Member (λ (e : Entry). names_entry c e) (rounds_at q.0).entries (named.entries q.0 first) k q.2)).1,
+              (and_parts (names_round c k.round) (names_grid c k.grid)
+                  (all-Member (λ (e : Entry). names_entry c e) (rounds_at q.0).entries (named.entries q.0 first) k q.2)).1,
             ) in
             phase_all goal c 0 r g (asking v) told votes_at counts.leaders is_live x some (subst (λ l. Member some l) (sym e) (inl refl))
             (runs ∙ ap (λ (o : Outcome LeaderVolatile). LeaderIn o.volatile) same) own
@@ -402,20 +430,24 @@ module _ (w : World) (h b : ℕ) (command : Command) (counts : HasCounts w.clust
 
     -- it has asked
     asked_on : (x : Moment) → Base x → ((a : ℕ) → durable_of acceptor_rules (role kind.Acceptor a) x.kept ≡ votes_at a)
-        → ((m : ℕ) → durable_of matchmaker_rules (role kind.Matchmaker m) x.kept ≡ rounds_at m) → durable_of leader_rules me x.kept ≡ begun_over 0 r g
+        → ((m : ℕ) → durable_of matchmaker_rules (role kind.Matchmaker m) x.kept ≡ rounds_at m)
+        → durable_of leader_rules me x.kept ≡ begun_over 0 r g
         → x.states me ≡ LeaderIn (asking v) → ((m : ℕ) → Member m v.set → Member (match_a_to me i g m) x.sent) → Goes goal c x
     asked_on x base votes rounds own runs asked = go picked refl
       where
         go : (l : List ℕ) → picked ≡ l → Goes goal c x
-        go [] e = absurd (none c.f (ap (λ (l : List ℕ). length l) (sym e) ∙ take_length (enough c) (filter works (first_set c)) room.matchmakers))
+        go [] e =
+            absurd (none c.f (ap (λ (l : List ℕ). length l) (sym e) ∙ take_length (enough c) (filter works (first_set c)) room.matchmakers))
           where
             none : (f : ℕ) → 0 ≡ f + 1 → ⊥
             none f e = omega (arith, e)
         go (m ∷ ms) e =
-            let passes : (k : ℕ) → Member k (m ∷ ms) → Member k (filter works (first_set c)) = λ k there. take_Member (enough c) (filter works (first_set c)) k (subst (λ l. Member k l) (sym e) there) in
-            let first : (k : ℕ) → Member k (m ∷ ms) → Member k (first_set c) = λ k there. (Member-filter works k (first_set c) (passes k there)).0 in
-            matched goal c 0 r g (asking v) rounds_at counts.leaders named_grid ms m [] x
-            (first_count (length ms) (enough c) (ap (λ (l : List ℕ). length l) (sym e) ∙ take_length (enough c) (filter works (first_set c)) room.matchmakers))
+            let passes : (k : ℕ) → Member k (m ∷ ms) → Member k (filter works (first_set c)) =
+            λ k there. take_Member (enough c) (filter works (first_set c)) k (subst (λ l. Member k l) (sym e) there) in
+            let first : (k : ℕ) → Member k (m ∷ ms) → Member k (first_set c) =
+            λ k there. (Member-filter works k (first_set c) (passes k there)).0 in
+            matched goal c 0 r g (asking v) rounds_at counts.leaders named_grid ms m [] x (first_count (length ms) (enough c)
+            (ap (λ (l : List ℕ). length l) (sym e) ∙ take_length (enough c) (filter works (first_set c)) room.matchmakers))
             (subst (λ l. Apart l) e (apart_take (enough c) (filter works (first_set c)) (apart_below works (2 * c.f + 1)))) runs own
             (λ k there.
             let pool = below_pool k (2 * c.f + 1) c.pool (below-Member k (2 * c.f + 1) (first k there)) counts.pool in
@@ -428,14 +460,16 @@ module _ (w : World) (h b : ℕ) (command : Command) (counts : HasCounts w.clust
               new = refl;
               can = can_match k (passes k there);
             })
-            (λ y left fin.
-            went_on (m ∷ ms) first y (base_then (is_of kind.Matchmaker) x y (λ p. refl) left base) (λ a. left.acceptors a refl ∙ votes a) (left.leaders 0 refl ∙ own) fin.runs fin.sends)
+            (λ y left fin. went_on (m ∷ ms) first y (base_then (is_of kind.Matchmaker) x y (λ p. refl) left base)
+            (λ a. left.acceptors a refl ∙ votes a) (left.leaders 0 refl ∙ own) fin.runs fin.sends)
 
-  begun_on : (x y : Moment) (v : LeaderVolatile) → Start x → Left (λ a. false) (is_role me) x y → y.states me ≡ LeaderIn v → Grown c h (idle_leader c) v → nat_le h v.cw ≡ true → Goes goal c y
+  begun_on : (x y : Moment) (v : LeaderVolatile) → Start x → Left (λ a. false) (is_role me) x y → y.states me ≡ LeaderIn v
+      → Grown c h (idle_leader c) v → nat_le h v.cw ≡ true → Goes goal c y
   begun_on x y v start left runs grown reached =
       round_asked goal c 0 r g named_grid room.rounds.reachable y v runs
       (subst (λ (d : LeaderDurable). nat_lt (round_of d.own).r r ≡ true) (sym (left.leaders 0 refl ∙ start.own))
-      (all-Member (λ l. nat_lt (round_of (leader_store w l).own).r r) (below c.leaders) room.rounds.leaders 0 (Member-below 0 c.leaders (less 0 c.leaders counts.leaders))))
+      (all-Member (λ l. nat_lt (round_of (leader_store w l).own).r r) (below c.leaders) room.rounds.leaders 0
+      (Member-below 0 c.leaders (less 0 c.leaders counts.leaders))))
       (subst (λ (n : Round). nat_lt n.r r ≡ true) (sym grown.seen) (above_none (votes_at 0).promise.r r (promised_low 0 counts.acceptors)))
       (λ z left2 runs2 own2 asked2.
       asked_on v (exact v.cw h reached grown.top) grown.hearing grown.set z
@@ -449,7 +483,15 @@ module _ (w : World) (h b : ℕ) (command : Command) (counts : HasCounts w.clust
 
   pub answered_from_level : (x : Moment) → Start x → Goes goal c x
   answered_from_level x start =
-      heard_all goal c 0 h counts.leaders x (idle_leader c) counts.replicas start.idle
-      (record { count = zeros_length (below c.replicas) ∙ length-below c.replicas; noted = zeros_noted (enough c) (below c.replicas); told = zeros_told h (below c.replicas); ahead = refl })
-      (λ p m. let s = start.base.steady p m in record { volatile = record s.0 { early = [] }; runs = s.1; count = holds_h x start.base p m; there = less_test p c.replicas (below-Member p c.replicas m) })
-      (λ y v left is grown reached. begun_on x y v start left is grown reached)
+      heard_all goal c 0 h counts.leaders x (idle_leader c) counts.replicas start.idle (record {
+        count = zeros_length (below c.replicas) ∙ length-below c.replicas;
+        noted = zeros_noted (enough c) (below c.replicas);
+        told = zeros_told h (below c.replicas);
+        ahead = refl;
+      })
+      (λ p m. let s = start.base.steady p m in record {
+        volatile = record s.0 { early = [] };
+        runs = s.1;
+        count = holds_h x start.base p m;
+        there = less_test p c.replicas (below-Member p c.replicas m);
+      }) (λ y v left is grown reached. begun_on x y v start left is grown reached)

@@ -42,7 +42,8 @@ not_same l r j h = grind (arith, nat_tests, h)
 not_same_back : (l r : ℕ) (j : Round) → nat_lt j.r r ≡ true → same_round j (lead_round l r) ≡ false
 not_same_back l r j h = grind (arith, nat_tests, h)
 
-none_later : (l r : ℕ) (es : List Entry) → list_all (λ (e : Entry). nat_lt e.round.r r) es ≡ true → list_any (λ (e : Entry). is_before (lead_round l r) e.round) es ≡ false
+none_later : (l r : ℕ) (es : List Entry) → list_all (λ (e : Entry). nat_lt e.round.r r) es ≡ true
+    → list_any (λ (e : Entry). is_before (lead_round l r) e.round) es ≡ false
 none_later l r [] all = refl
 none_later l r (e ∷ es) all =
     let parts = and_parts (nat_lt e.round.r r) (list_all (λ (x : Entry). nat_lt x.round.r r) es) all in
@@ -56,7 +57,8 @@ none_same l r (e ∷ es) all =
 
 -- ROWS
 
-row_match : (c : Cluster) (l r m : ℕ) (g : Shape) (d : MatchmakerDurable) → nat_lt l c.leaders ≡ true → nat_lt m c.pool ≡ true → names_grid c g ≡ true → CanMatch c m r d
+row_match : (c : Cluster) (l r m : ℕ) (g : Shape) (d : MatchmakerDurable) → nat_lt l c.leaders ≡ true → nat_lt m c.pool ≡ true
+    → names_grid c g ≡ true → CanMatch c m r d
     → matchmaker_row c (role kind.Matchmaker m) d tt (input.Take (match_a_to (role kind.Leader l) (lead_round l r) g m))
     ≡ record {
       why = why.Matched;
@@ -64,28 +66,40 @@ row_match : (c : Cluster) (l r m : ℕ) (g : Shape) (d : MatchmakerDurable) → 
       volatile = tt {0};
       sends = match_b_to (role kind.Matchmaker m) (role kind.Leader l) (lead_round l r) d ∷ [];
     }
-row_match c l r m g d led there named can =
-    rw (led, there, named, same_role-itself (role kind.Matchmaker m), can.member, can.works, not_above l r d.watermark can.watermark, none_later l r d.entries can.lower, none_same l r d.entries can.lower, can.room) refl
+row_match c l r m g d led there named can = rw (
+  led,
+  there,
+  named,
+  same_role-itself (role kind.Matchmaker m),
+  can.member,
+  can.works,
+  not_above l r d.watermark can.watermark,
+  none_later l r d.entries can.lower,
+  none_same l r d.entries can.lower,
+  can.room,
+) refl
 
 module _ (c : Cluster) (l r m : ℕ) (g : Shape) (v : LeaderVolatile) (d : MatchmakerDurable) (told : List MatchAnswer)
-    (led : nat_lt l c.leaders ≡ true) (there : nat_lt m c.pool ≡ true) (can : CanMatch c m r d) (knows : is_in m v.set ≡ true) (new : is_counted m told ≡ false) where
+    (led : nat_lt l c.leaders ≡ true) (there : nat_lt m c.pool ≡ true) (can : CanMatch c m r d) (knows : is_in m v.set ≡ true)
+    (new : is_counted m told ≡ false) where
   abbrev more : List MatchAnswer
   more = told ++ match_answer_of (lead_round l r) d m ∷ []
 
   named_before : list_all (λ (e : Entry). names_entry c e) (entries_before (lead_round l r) d.entries) ≡ true
   named_before =
       Member-all (λ (e : Entry). names_entry c e) (entries_before (lead_round l r) d.entries)
-      (λ e m. all-Member (λ (e : Entry). names_entry c e) d.entries can.named_entries e (filter-older (λ (e : Entry). is_before e.round (lead_round l r)) e d.entries m))
+      (λ e m. all-Member (λ (e : Entry). names_entry c e) d.entries can.named_entries e
+      (filter-older (λ (e : Entry). is_before e.round (lead_round l r)) e d.entries m))
 
-  row_counted : nat_lt (length more) (enough c) ≡ true
-      → leader_row c (role kind.Leader l) (begun_over l r g) (matching v told) (input.Take (match_b_to (role kind.Matchmaker m) (role kind.Leader l) (lead_round l r) d))
-      ≡ only_word why.Counted (matching v more)
-  row_counted h = rw (led, there, can.named_watermark, named_before, same_role-itself (role kind.Leader l), number_itself r, knows, new, h) refl
+  row_counted : nat_lt (length more) (enough c) ≡ true → leader_row c (role kind.Leader l) (begun_over l r g) (matching v told)
+      (input.Take (match_b_to (role kind.Matchmaker m) (role kind.Leader l) (lead_round l r) d)) ≡ only_word why.Counted (matching v more)
+  row_counted h =
+      rw (led, there, can.named_watermark, named_before, same_role-itself (role kind.Leader l), number_itself r, knows, new, h) refl
 
-  row_enough : nat_lt (length more) (enough c) ≡ false
-      → leader_row c (role kind.Leader l) (begun_over l r g) (matching v told) (input.Take (match_b_to (role kind.Matchmaker m) (role kind.Leader l) (lead_round l r) d))
-      ≡ goes_on_with c l r g v more
-  row_enough h = rw (led, there, can.named_watermark, named_before, same_role-itself (role kind.Leader l), number_itself r, knows, new, h) refl
+  row_enough : nat_lt (length more) (enough c) ≡ false → leader_row c (role kind.Leader l) (begun_over l r g) (matching v told)
+      (input.Take (match_b_to (role kind.Matchmaker m) (role kind.Leader l) (lead_round l r) d)) ≡ goes_on_with c l r g v more
+  row_enough h =
+      rw (led, there, can.named_watermark, named_before, same_role-itself (role kind.Leader l), number_itself r, knows, new, h) refl
 
 -- LISTS
 
@@ -97,7 +111,8 @@ pub append_one : {X : Type 0} (xs : List X) (x : X) (ys : List X) → (xs ++ x �
 append_one [] x ys = refl
 append_one (y ∷ xs) x ys = ap (λ l. y ∷ l) (append_one xs x ys)
 
-counted_more : (k : ℕ) (a : MatchAnswer) (told : List MatchAnswer) → is_counted k told ≡ false → (a.matchmaker == k) ≡ false → is_counted k (told ++ a ∷ []) ≡ false
+counted_more : (k : ℕ) (a : MatchAnswer) (told : List MatchAnswer) → is_counted k told ≡ false → (a.matchmaker == k) ≡ false
+    → is_counted k (told ++ a ∷ []) ≡ false
 counted_more k a [] none h = rw h refl
 counted_more k a (t ∷ told) none h = go (t.matchmaker == k) (λ n. counted_more k a told n h) none
   where
@@ -164,7 +179,8 @@ module _ (goal : World → Type 0) (c : Cluster) (l r : ℕ) (g : Shape) (v : Le
   abbrev asked_at : ℕ → Moment → Moment
   asked_at m x = moved (role kind.Matchmaker m) Plain (Some (kept.Match i g)) (reply m ∷ []) x
 
-  own_after : (m : ℕ) (x : Moment) → durable_of leader_rules me x.kept ≡ begun_over l r g → durable_of leader_rules me (asked_at m x).kept ≡ begun_over l r g
+  own_after : (m : ℕ) (x : Moment) → durable_of leader_rules me x.kept ≡ begun_over l r g
+      → durable_of leader_rules me (asked_at m x).kept ≡ begun_over l r g
   own_after m x own = durable_other leader_rules (role kind.Matchmaker m) me (kept.Match i g) x.kept refl ∙ own
 
   left_two : (m : ℕ) (x : Moment) (s : LeaderVolatile) (sends : List Letter) → x.states (role kind.Matchmaker m) ≡ Plain
@@ -185,8 +201,8 @@ module _ (goal : World → Type 0) (c : Cluster) (l r : ℕ) (g : Shape) (v : Le
       let o = goes_on_with c l r g v (told ++ tells m ∷ []) in
       let z = moved me (LeaderIn o.volatile) None o.sends y in
       to_matchmaker goal c x m (ask m) now.asked _ refl now.runs
-      (ap (λ d. matchmaker_row c (role kind.Matchmaker m) d tt (input.Take (ask m))) now.store ∙ row_match c l r m g (d0 m) led now.there named now.can)
-      (to_leader goal c y l (reply m) (Member-second _ x.sent (reply m ∷ []) (inl refl)) (matching v told) o refl
+      (ap (λ d. matchmaker_row c (role kind.Matchmaker m) d tt (input.Take (ask m))) now.store ∙ row_match c l r m g (d0 m) led now.there
+      named now.can) (to_leader goal c y l (reply m) (Member-second _ x.sent (reply m ∷ []) (inl refl)) (matching v told) o refl
       (state_other (role kind.Matchmaker m) me Plain x.states refl ∙ runs)
       (ap (λ d. leader_row c me d (matching v told) (input.Take (reply m))) (own_after m x own)
       ∙ row_enough c l r m g v (d0 m) told led now.there now.can now.knows now.new
@@ -200,9 +216,10 @@ module _ (goal : World → Type 0) (c : Cluster) (l r : ℕ) (g : Shape) (v : Le
       let more = told ++ tells m ∷ [] in
       let z = moved me (LeaderIn (matching v more)) None [] y in
       to_matchmaker goal c x m (ask m) now.asked _ refl now.runs
-      (ap (λ d. matchmaker_row c (role kind.Matchmaker m) d tt (input.Take (ask m))) now.store ∙ row_match c l r m g (d0 m) led now.there named now.can)
-      (to_leader goal c y l (reply m) (Member-second _ x.sent (reply m ∷ []) (inl refl)) (matching v told) (only_word why.Counted (matching v more)) refl
-      (state_other (role kind.Matchmaker m) me Plain x.states refl ∙ runs)
+      (ap (λ d. matchmaker_row c (role kind.Matchmaker m) d tt (input.Take (ask m))) now.store
+      ∙ row_match c l r m g (d0 m) led now.there named now.can)
+      (to_leader goal c y l (reply m) (Member-second _ x.sent (reply m ∷ []) (inl refl)) (matching v told)
+      (only_word why.Counted (matching v more)) refl (state_other (role kind.Matchmaker m) me Plain x.states refl ∙ runs)
       (ap (λ d. leader_row c me d (matching v told) (input.Take (reply m))) (own_after m x own)
       ∙ row_counted c l r m g v (d0 m) told led now.there now.can now.knows now.new
       (not_yet (length more) (length told) (length ms) (enough c) (one_longer told (tells m)) count))
@@ -212,7 +229,8 @@ module _ (goal : World → Type 0) (c : Cluster) (l r : ℕ) (g : Shape) (v : Le
       let b = ready j (inr there) in
       let differs : (j == m) ≡ false = none-Member (λ q. q == m) (k ∷ ms) once.0 j there in
       record {
-        runs = state_other me (role kind.Matchmaker j) (LeaderIn (matching v more)) y.states refl ∙ state_other (role kind.Matchmaker m) (role kind.Matchmaker j) Plain x.states differs ∙ b.runs;
+        runs = state_other me (role kind.Matchmaker j) (LeaderIn (matching v more)) y.states refl
+            ∙ state_other (role kind.Matchmaker m) (role kind.Matchmaker j) Plain x.states differs ∙ b.runs;
         store = durable_other matchmaker_rules (role kind.Matchmaker m) (role kind.Matchmaker j) (kept.Match i g) x.kept differs ∙ b.store;
         asked = Member-first (ask j) y.sent [] (Member-first (ask j) x.sent (reply m ∷ []) b.asked);
         there = b.there;

@@ -26,7 +26,8 @@ use Rattle.cx_model.specs.World.{World}
 use Rattle.cx_inv_run.proofs.Histories.{durable_other, set_same, state_other}
 use Rattle.cx_inv_run.proofs.Members.{Member-first}
 use Rattle.cx_inv_run.specs.States.{State, BatcherIn, LeaderIn, ProxyIn, ReplicaIn, plain, durable_of, set_state, with_record}
-use Rattle.cx_inv_alive.proofs.Views.{CanReach, acceptors, batchers, delivered, given, leaders, matchmakers, proxies, reopened, replicas, unbatchers}
+use Rattle.cx_inv_alive.proofs.Views.{CanReach, acceptors, batchers, delivered, given, leaders, matchmakers, proxies, reopened, replicas}
+use Rattle.cx_inv_alive.proofs.Views.{unbatchers}
 
 pub record Moment : Type 0 where
   pub kept : List KeptRecord
@@ -45,16 +46,26 @@ moment_of w = record { kept = reverse w.kept; sent = w.sent; states = w.roles }
 -- WHAT IS LEFT
 
 pub record Left (keeps moves : RoleId → Bool) (x y : Moment) : Type 0 where
-  pub leaders : (l : ℕ) → keeps (role kind.Leader l) ≡ false → durable_of leader_rules (role kind.Leader l) y.kept ≡ durable_of leader_rules (role kind.Leader l) x.kept
-  pub acceptors : (a : ℕ) → keeps (role kind.Acceptor a) ≡ false → durable_of acceptor_rules (role kind.Acceptor a) y.kept ≡ durable_of acceptor_rules (role kind.Acceptor a) x.kept
-  pub matchmakers : (m : ℕ) → keeps (role kind.Matchmaker m) ≡ false → durable_of matchmaker_rules (role kind.Matchmaker m) y.kept ≡ durable_of matchmaker_rules (role kind.Matchmaker m) x.kept
-  pub replicas : (p : ℕ) → keeps (role kind.Replica p) ≡ false → durable_of replica_rules (role kind.Replica p) y.kept ≡ durable_of replica_rules (role kind.Replica p) x.kept
+  pub leaders : (l : ℕ) → keeps (role kind.Leader l) ≡ false
+      → durable_of leader_rules (role kind.Leader l) y.kept ≡ durable_of leader_rules (role kind.Leader l) x.kept
+  pub acceptors : (a : ℕ) → keeps (role kind.Acceptor a) ≡ false
+      → durable_of acceptor_rules (role kind.Acceptor a) y.kept ≡ durable_of acceptor_rules (role kind.Acceptor a) x.kept
+  pub matchmakers : (m : ℕ) → keeps (role kind.Matchmaker m) ≡ false
+      → durable_of matchmaker_rules (role kind.Matchmaker m) y.kept ≡ durable_of matchmaker_rules (role kind.Matchmaker m) x.kept
+  pub replicas : (p : ℕ) → keeps (role kind.Replica p) ≡ false
+      → durable_of replica_rules (role kind.Replica p) y.kept ≡ durable_of replica_rules (role kind.Replica p) x.kept
   pub states : (a : RoleId) → moves a ≡ false → y.states a ≡ x.states a
   pub sent : (d : Letter) → Member d x.sent → Member d y.sent
 
 pub left_same : (keeps moves : RoleId → Bool) (x : Moment) → Left keeps moves x x
-left_same keeps moves x =
-    record { leaders = λ l e. refl; acceptors = λ l e. refl; matchmakers = λ l e. refl; replicas = λ l e. refl; states = λ a e. refl; sent = λ d m. m }
+left_same keeps moves x = record {
+  leaders = λ l e. refl;
+  acceptors = λ l e. refl;
+  matchmakers = λ l e. refl;
+  replicas = λ l e. refl;
+  states = λ a e. refl;
+  sent = λ d m. m;
+}
 
 pub left_then : (keeps moves : RoleId → Bool) (x y z : Moment) → Left keeps moves x y → Left keeps moves y z → Left keeps moves x z
 left_then keeps moves x y z a b =
@@ -71,7 +82,8 @@ pub apart : (touched : RoleId → Bool) (me a : RoleId) → touched me ≡ true 
 apart touched me a t f = differ_role a me (λ e. not_both (touched me) t (subst (λ x. touched x ≡ false) e f))
 
 -- a step that keeps nothing
-pub left_moved : (keeps moves : RoleId → Bool) (me : RoleId) (s : State) (sends : List Letter) (x : Moment) → moves me ≡ true → Left keeps moves x (moved me s None sends x)
+pub left_moved : (keeps moves : RoleId → Bool) (me : RoleId) (s : State) (sends : List Letter) (x : Moment) → moves me ≡ true
+    → Left keeps moves x (moved me s None sends x)
 left_moved keeps moves me s sends x moves_me =
     record {
       leaders = λ l e. refl;
@@ -83,20 +95,22 @@ left_moved keeps moves me s sends x moves_me =
     }
 
 -- a step of a role that keeps a record, and whose state stays
-pub left_kept : (keeps moves : RoleId → Bool) (me : RoleId) (s : State) (r : Record) (sends : List Letter) (x : Moment) → keeps me ≡ true → x.states me ≡ s
-    → Left keeps moves x (moved me s (Some r) sends x)
+pub left_kept : (keeps moves : RoleId → Bool) (me : RoleId) (s : State) (r : Record) (sends : List Letter) (x : Moment) → keeps me ≡ true
+    → x.states me ≡ s → Left keeps moves x (moved me s (Some r) sends x)
 left_kept keeps moves me s r sends x keeps_me is =
     record {
       leaders = λ l e. durable_other leader_rules me (role kind.Leader l) r x.kept (apart keeps me (role kind.Leader l) keeps_me e);
       acceptors = λ l e. durable_other acceptor_rules me (role kind.Acceptor l) r x.kept (apart keeps me (role kind.Acceptor l) keeps_me e);
-      matchmakers = λ l e. durable_other matchmaker_rules me (role kind.Matchmaker l) r x.kept (apart keeps me (role kind.Matchmaker l) keeps_me e);
+      matchmakers =
+          λ l e. durable_other matchmaker_rules me (role kind.Matchmaker l) r x.kept (apart keeps me (role kind.Matchmaker l) keeps_me e);
       replicas = λ l e. durable_other replica_rules me (role kind.Replica l) r x.kept (apart keeps me (role kind.Replica l) keeps_me e);
       states = λ a e. sym (set_same me s x.states is a);
       sent = λ d m. Member-first d x.sent sends m;
     }
 
 -- a step of a role that keeps nothing, and whose state stays
-pub left_still : (keeps moves : RoleId → Bool) (me : RoleId) (s : State) (sends : List Letter) (x : Moment) → x.states me ≡ s → Left keeps moves x (moved me s None sends x)
+pub left_still : (keeps moves : RoleId → Bool) (me : RoleId) (s : State) (sends : List Letter) (x : Moment) → x.states me ≡ s
+    → Left keeps moves x (moved me s None sends x)
 left_still keeps moves me s sends x is =
     record {
       leaders = λ l e. refl;
@@ -108,21 +122,22 @@ left_still keeps moves me s sends x is =
     }
 
 -- a step of a role that keeps a record
-pub left_both : (keeps moves : RoleId → Bool) (me : RoleId) (s : State) (r : Record) (sends : List Letter) (x : Moment) → keeps me ≡ true → moves me ≡ true
-    → Left keeps moves x (moved me s (Some r) sends x)
+pub left_both : (keeps moves : RoleId → Bool) (me : RoleId) (s : State) (r : Record) (sends : List Letter) (x : Moment) → keeps me ≡ true
+    → moves me ≡ true → Left keeps moves x (moved me s (Some r) sends x)
 left_both keeps moves me s r sends x keeps_me moves_me =
     record {
       leaders = λ l e. durable_other leader_rules me (role kind.Leader l) r x.kept (apart keeps me (role kind.Leader l) keeps_me e);
       acceptors = λ l e. durable_other acceptor_rules me (role kind.Acceptor l) r x.kept (apart keeps me (role kind.Acceptor l) keeps_me e);
-      matchmakers = λ l e. durable_other matchmaker_rules me (role kind.Matchmaker l) r x.kept (apart keeps me (role kind.Matchmaker l) keeps_me e);
+      matchmakers =
+          λ l e. durable_other matchmaker_rules me (role kind.Matchmaker l) r x.kept (apart keeps me (role kind.Matchmaker l) keeps_me e);
       replicas = λ l e. durable_other replica_rules me (role kind.Replica l) r x.kept (apart keeps me (role kind.Replica l) keeps_me e);
       states = λ a e. state_other me a s x.states (apart moves me a moves_me e);
       sent = λ d m. Member-first d x.sent sends m;
     }
 
 -- less may be said of what was left
-pub left_weaker : (keeps moves keeps2 moves2 : RoleId → Bool) (x y : Moment) → ((a : RoleId) → keeps2 a ≡ false → keeps a ≡ false) → ((a : RoleId) → moves2 a ≡ false → moves a ≡ false)
-    → Left keeps moves x y → Left keeps2 moves2 x y
+pub left_weaker : (keeps moves keeps2 moves2 : RoleId → Bool) (x y : Moment) → ((a : RoleId) → keeps2 a ≡ false → keeps a ≡ false)
+    → ((a : RoleId) → moves2 a ≡ false → moves a ≡ false) → Left keeps moves x y → Left keeps2 moves2 x y
 left_weaker keeps moves keeps2 moves2 x y k m left =
     record {
       leaders = λ l e. left.leaders l (k (role kind.Leader l) e);
@@ -136,8 +151,8 @@ left_weaker keeps moves keeps2 moves2 x y k m left =
 -- EVENTS
 
 module _ (goal : World → Type 0) (c : Cluster) (x : Moment) (j : ℕ) (d : Letter) (m : Member d x.sent) where
-  pub to_batcher : (v : BatcherVolatile) (o : Outcome BatcherVolatile) → d.to ≡ role kind.Batcher j → x.states (role kind.Batcher j) ≡ BatcherIn v
-      → batcher_rules.row c (role kind.Batcher j) tt v (input.Take d) ≡ o
+  pub to_batcher : (v : BatcherVolatile) (o : Outcome BatcherVolatile) → d.to ≡ role kind.Batcher j
+      → x.states (role kind.Batcher j) ≡ BatcherIn v → batcher_rules.row c (role kind.Batcher j) tt v (input.Take d) ≡ o
       → Goes goal c (moved (role kind.Batcher j) (BatcherIn o.volatile) o.kept o.sends x) → Goes goal c x
   to_batcher v o to is row next = delivered c x.kept x.sent kind.Batcher batchers goal j x.states v o is next d m to row
 
@@ -161,8 +176,8 @@ module _ (goal : World → Type 0) (c : Cluster) (x : Moment) (j : ℕ) (d : Let
       → Goes goal c (moved (role kind.Proxy j) (ProxyIn o.volatile) o.kept o.sends x) → Goes goal c x
   to_proxy v o to is row next = delivered c x.kept x.sent kind.Proxy proxies goal j x.states v o is next d m to row
 
-  pub to_replica : (v : ReplicaVolatile) (o : Outcome ReplicaVolatile) → d.to ≡ role kind.Replica j → x.states (role kind.Replica j) ≡ ReplicaIn v
-      → replica_rules.row c (role kind.Replica j) (durable_of replica_rules (role kind.Replica j) x.kept) v (input.Take d) ≡ o
+  pub to_replica : (v : ReplicaVolatile) (o : Outcome ReplicaVolatile) → d.to ≡ role kind.Replica j → x.states (role kind.Replica j)
+      ≡ ReplicaIn v → replica_rules.row c (role kind.Replica j) (durable_of replica_rules (role kind.Replica j) x.kept) v (input.Take d) ≡ o
       → Goes goal c (moved (role kind.Replica j) (ReplicaIn o.volatile) o.kept o.sends x) → Goes goal c x
   to_replica v o to is row next = delivered c x.kept x.sent kind.Replica replicas goal j x.states v o is next d m to row
 
@@ -175,21 +190,26 @@ module _ (goal : World → Type 0) (c : Cluster) (x : Moment) (j : ℕ) where
   pub tick_replica : (v : ReplicaVolatile) (o : Outcome ReplicaVolatile) → x.states (role kind.Replica j) ≡ ReplicaIn v
       → replica_rules.row c (role kind.Replica j) (durable_of replica_rules (role kind.Replica j) x.kept) v input.Tick ≡ o
       → Goes goal c (moved (role kind.Replica j) (ReplicaIn o.volatile) o.kept o.sends x) → Goes goal c x
-  tick_replica v o is row next = given c x.kept x.sent kind.Replica replicas goal j x.states v o is next (event.Tick (role kind.Replica j)) input.Tick (λ w. refl) row
+  tick_replica v o is row next =
+      given c x.kept x.sent kind.Replica replicas goal j x.states v o is next (event.Tick (role kind.Replica j)) input.Tick (λ w. refl) row
 
   pub tick_batcher : (v : BatcherVolatile) (o : Outcome BatcherVolatile) → x.states (role kind.Batcher j) ≡ BatcherIn v
       → batcher_rules.row c (role kind.Batcher j) tt v input.Tick ≡ o
       → Goes goal c (moved (role kind.Batcher j) (BatcherIn o.volatile) o.kept o.sends x) → Goes goal c x
-  tick_batcher v o is row next = given c x.kept x.sent kind.Batcher batchers goal j x.states v o is next (event.Tick (role kind.Batcher j)) input.Tick (λ w. refl) row
+  tick_batcher v o is row next =
+      given c x.kept x.sent kind.Batcher batchers goal j x.states v o is next (event.Tick (role kind.Batcher j)) input.Tick (λ w. refl) row
 
   -- a leader is given an order
   pub to_order : (order : Order) (v : LeaderVolatile) (o : Outcome LeaderVolatile) → x.states (role kind.Leader j) ≡ LeaderIn v
       → leader_rules.row c (role kind.Leader j) (durable_of leader_rules (role kind.Leader j) x.kept) v (input.Order order) ≡ o
       → Goes goal c (moved (role kind.Leader j) (LeaderIn o.volatile) o.kept o.sends x) → Goes goal c x
-  to_order order v o is row next = given c x.kept x.sent kind.Leader leaders goal j x.states v o is next (event.Order j order Whole) (input.Order order) (λ w. refl) row
+  to_order order v o is row next =
+      given c x.kept x.sent kind.Leader leaders goal j x.states v o is next (event.Order j order Whole) (input.Order order) (λ w. refl) row
 
   -- a proxy is stopped and opened again
-  pub fresh_proxy : nat_lt j c.proxies ≡ true → Goes goal c (moved (role kind.Proxy j) (ProxyIn (proxy_rules.fresh c)) None [] x) → Goes goal c x
+  pub fresh_proxy : nat_lt j c.proxies ≡ true → Goes goal c (moved (role kind.Proxy j) (ProxyIn (proxy_rules.fresh c)) None [] x)
+      → Goes goal c x
   fresh_proxy there next =
       reopened c x.kept x.sent kind.Proxy proxies goal j x.states there
-      (subst (λ l. CanReach goal c x.kept l (set_state (role kind.Proxy j) (ProxyIn (proxy_rules.fresh c)) x.states)) (append-nil x.sent) next)
+      (subst (λ l. CanReach goal c x.kept l (set_state (role kind.Proxy j) (ProxyIn (proxy_rules.fresh c)) x.states))
+      (append-nil x.sent) next)

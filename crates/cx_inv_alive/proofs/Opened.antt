@@ -35,12 +35,14 @@ abbrev opened : Cluster → List RoleId → (RoleId → State) → RoleId → St
 opened c [] states = states
 opened c (a ∷ others) states = set_state a (fresh_state c a.kind) (opened c others states)
 
-opened_is : (c : Cluster) (states : RoleId → State) (all : List RoleId) (a : RoleId) → Member a all → opened c all states a ≡ fresh_state c a.kind
+opened_is : (c : Cluster) (states : RoleId → State) (all : List RoleId) (a : RoleId) → Member a all
+    → opened c all states a ≡ fresh_state c a.kind
 opened_is c states [] a m = absurd m
 opened_is c states (b ∷ others) a m = elim (bool_cases (same_role a b)) [
-  | inl t ↦
-      subst (λ x. opened c (b ∷ others) states x ≡ fresh_state c x.kind) (sym (same_role-true a b t)) (state_own b (fresh_state c b.kind) (opened c others states))
-  | inr f ↦ state_other b a (fresh_state c b.kind) (opened c others states) f ∙ opened_is c states others a (older a b others (other_role a b f) m)
+  | inl t ↦ subst (λ x. opened c (b ∷ others) states x ≡ fresh_state c x.kind) (sym (same_role-true a b t))
+      (state_own b (fresh_state c b.kind) (opened c others states))
+  | inr f ↦ state_other b a (fresh_state c b.kind) (opened c others states) f
+      ∙ opened_is c states others a (older a b others (other_role a b f) m)
 ]
 
 module _ (goal : World → Type 0) (c : Cluster) (kept : List KeptRecord) (sent : List Letter) where
@@ -57,8 +59,8 @@ module _ (goal : World → Type 0) (c : Cluster) (kept : List KeptRecord) (sent 
   one kind.Reader p j named states next = absurd cc
   one kind.Replacer p j named states next = absurd cc
 
-  each : (all : List RoleId) → ((a : RoleId) → Member a all → (is_planned a.kind ≡ true) × (names_role c a ≡ true)) → (states : RoleId → State)
-      → CanReach goal c kept sent (opened c all states) → CanReach goal c kept sent states
+  each : (all : List RoleId) → ((a : RoleId) → Member a all → (is_planned a.kind ≡ true) × (names_role c a ≡ true))
+      → (states : RoleId → State) → CanReach goal c kept sent (opened c all states) → CanReach goal c kept sent states
   each [] can states next = next
   each (a ∷ others) can states next =
       let now = can a (inl refl) in
@@ -70,28 +72,32 @@ abbrev roles_of : Cluster → List Kind → List RoleId
 roles_of c [] = []
 roles_of c (k ∷ ks) = map (λ j. role k j) (below (count_of c k)) ++ roles_of c ks
 
-role_there : (c : Cluster) (ks : List Kind) (k : Kind) (j : ℕ) → Member k ks → nat_lt j (count_of c k) ≡ true → Member (role k j) (roles_of c ks)
+role_there : (c : Cluster) (ks : List Kind) (k : Kind) (j : ℕ) → Member k ks → nat_lt j (count_of c k) ≡ true
+    → Member (role k j) (roles_of c ks)
 role_there c [] k j m l = absurd m
 role_there c (i ∷ ks) k j (inl e) l =
     Member-first (role k j) (map (λ n. role i n) (below (count_of c i))) (roles_of c ks)
     (subst (λ q. Member (role k j) (map (λ n. role q n) (below (count_of c q)))) e
     (map-Member (λ n. role k n) j (below (count_of c k)) (Member-below j (count_of c k) (less j (count_of c k) l))))
-role_there c (i ∷ ks) k j (inr m) l = Member-second (role k j) (map (λ n. role i n) (below (count_of c i))) (roles_of c ks) (role_there c ks k j m l)
+role_there c (i ∷ ks) k j (inr m) l =
+    Member-second (role k j) (map (λ n. role i n) (below (count_of c i))) (roles_of c ks) (role_there c ks k j m l)
 
-each_planned : (c : Cluster) (ks : List Kind) → list_all is_planned ks ≡ true → (a : RoleId) → Member a (roles_of c ks) → (is_planned a.kind ≡ true) × (names_role c a ≡ true)
+each_planned : (c : Cluster) (ks : List Kind) → list_all is_planned ks ≡ true → (a : RoleId) → Member a (roles_of c ks)
+    → (is_planned a.kind ≡ true) × (names_role c a ≡ true)
 each_planned c [] p a m = absurd m
 each_planned c (k ∷ ks) p a m =
     let parts = and_parts (is_planned k) (list_all is_planned ks) p in
     elim (Member-cases a (map (λ j. role k j) (below (count_of c k))) (roles_of c ks) m) [
       | inl i ↦
           (let q = Member-map (λ j. role k j) a (below (count_of c k)) i in
-          subst (λ x. (is_planned x.kind ≡ true) × (names_role c x ≡ true)) (sym q.2) (parts.0, less_test q.0 (count_of c k) (below-Member q.0 (count_of c k) q.1)))
+          subst (λ x. (is_planned x.kind ≡ true) × (names_role c x ≡ true)) (sym q.2)
+          (parts.0, less_test q.0 (count_of c k) (below-Member q.0 (count_of c k) q.1)))
       | inr i ↦ each_planned c ks parts.1 a i
     ]
 
 -- all that a plan needs
-pub all_opened : (goal : World → Type 0) (c : Cluster) (x : Moment)
-    → ((states : RoleId → State) → ((k : Kind) → Member k planned → (j : ℕ) → nat_lt j (count_of c k) ≡ true → states (role k j) ≡ fresh_state c k)
+pub all_opened : (goal : World → Type 0) (c : Cluster) (x : Moment) → ((states : RoleId → State)
+    → ((k : Kind) → Member k planned → (j : ℕ) → nat_lt j (count_of c k) ≡ true → states (role k j) ≡ fresh_state c k)
     → Goes goal c (record { kept = x.kept; sent = x.sent; states = states }))
     → Goes goal c x
 all_opened goal c x rest =

@@ -1,5 +1,6 @@
 -- The members of all live grids are asked, one after the other, until each of these grids has a whole row.
-use Rattle.std.proofs.Common.{◌≡◌, ◌≤◌, ◌<◌, ℕ, zero, suc, true, false, List, [], ◌∷◌, ◌++◌, Some, None, ap, sym, ◌∙◌, subst, refl, inl, inr, arith}
+use Rattle.std.proofs.Common.{◌≡◌, ◌≤◌, ◌<◌, ℕ, zero, suc, true, false, List, [], ◌∷◌, ◌++◌, Some, None, ap, sym, ◌∙◌, subst, refl, inl}
+use Rattle.std.proofs.Common.{inr, arith}
 use Rattle.std.proofs.lemmas.Bool.{and_from}
 use Rattle.std.proofs.lemmas.Bool.Decides.{nat_tests}
 use Rattle.std.specs.List.{list_all, list_any}
@@ -30,7 +31,9 @@ use Rattle.cx_model.specs.Outcome.{only_word}
 use Rattle.cx_model.specs.Plan.{has_promised, promised_by}
 use Rattle.cx_model.specs.World.{World}
 use Rattle.cx_inv_run.proofs.Histories.{durable_other, durable_own, state_other, state_own}
-use Rattle.cx_inv_run.proofs.Members.{Member-first, Member-second, Member-both, Member-one, Member-all, Member-any, Member-below, Member-is_in, Member-map, all-Member, below-Member, filter-Member, filter-older, is_in-Member, none-Member}
+use Rattle.cx_inv_run.proofs.Members.{Member-first, Member-second, Member-both, Member-one, Member-all, Member-any, Member-below}
+use Rattle.cx_inv_run.proofs.Members.{Member-is_in, Member-map, all-Member, below-Member, filter-Member, filter-older, is_in-Member}
+use Rattle.cx_inv_run.proofs.Members.{none-Member}
 use Rattle.cx_inv_run.proofs.Quorums.{row-Member}
 use Rattle.cx_inv_run.specs.States.{LeaderIn, Plain, durable_of}
 use Rattle.cx_inv_alive.proofs.Matched.{not_above, not_same, append_one, other_way}
@@ -49,7 +52,8 @@ too_low first (suc count) n l (inr m) = too_low (first + 1) count n (omega (arit
 
 pub apart_numbers : (first count : ℕ) → Apart (numbers first count)
 apart_numbers first zero = tt
-apart_numbers first (suc count) = (not_there first (numbers (first + 1) count) (too_low (first + 1) count first (omega arith)), apart_numbers (first + 1) count)
+apart_numbers first (suc count) =
+    (not_there first (numbers (first + 1) count) (too_low (first + 1) count first (omega arith)), apart_numbers (first + 1) count)
 
 apart_if : (p : ℕ → Bool) (b : Bool) (x : ℕ) (xs : List ℕ) → p x ≡ b → is_in x xs ≡ false → Apart (filter p xs) → Apart (filter p (x ∷ xs))
 apart_if p true x xs e none once =
@@ -101,10 +105,11 @@ row_of_all g marks grid all =
     (λ id m.
     let b = Member-map (λ k. member_at g 0 k) id (below g.cols) m in
     Member-is_in id marks
-    (all id (subst (λ n. Member n g.members) (sym b.2)
-    (at_place g.members (0 * g.cols + b.0) (subst (λ n. 0 * g.cols + b.0 < n) (sym grid.count) (inside g.rows g.cols b.0 grid.some_row (below-Member b.0 g.cols b.1)))))))))
+    (all id (subst (λ n. Member n g.members) (sym b.2) (at_place g.members (0 * g.cols + b.0)
+    (subst (λ n. 0 * g.cols + b.0 < n) (sym grid.count) (inside g.rows g.cols b.0 grid.some_row (below-Member b.0 g.cols b.1)))))))))
 
-pub rows_of_members : (c : Cluster) (es : List Entry) → ((e : Entry) → Member e es → IsGrid e.grid × (names_grid c e.grid ≡ true)) → rows_whole es (members_of c es) ≡ true
+pub rows_of_members : (c : Cluster) (es : List Entry) → ((e : Entry) → Member e es → IsGrid e.grid × (names_grid c e.grid ≡ true))
+    → rows_whole es (members_of c es) ≡ true
 rows_of_members c es grids =
     Member-all (λ (e : Entry). row_whole e.grid (members_of c es)) es
     (λ e there.
@@ -120,17 +125,20 @@ promised_more : (ps : List Promised) (p : Promised) → promised_by (ps ++ p ∷
 promised_more [] p = refl
 promised_more (q ∷ ps) p = ap (λ l. q.acceptor ∷ l) (promised_more ps p)
 
-new_more : (k : ℕ) (p : Promised) (ps : List Promised) → has_promised k ps ≡ false → (p.acceptor == k) ≡ false → has_promised k (ps ++ p ∷ []) ≡ false
+new_more : (k : ℕ) (p : Promised) (ps : List Promised) → has_promised k ps ≡ false → (p.acceptor == k) ≡ false
+    → has_promised k (ps ++ p ∷ []) ≡ false
 new_more k p [] none h = rw h refl
 new_more k p (t ∷ ps) none h = go (t.acceptor == k) (λ n. new_more k p ps n h) none
   where
-    go : (b : Bool) → (has_promised k ps ≡ false → has_promised k (ps ++ p ∷ []) ≡ false) → (b || has_promised k ps) ≡ false → (b || has_promised k (ps ++ p ∷ [])) ≡ false
+    go : (b : Bool) → (has_promised k ps ≡ false → has_promised k (ps ++ p ∷ []) ≡ false) → (b || has_promised k ps) ≡ false
+        → (b || has_promised k (ps ++ p ∷ [])) ≡ false
     go true f n = cc
     go false f n = f n
 
 -- ROWS
 
-row_phase1a : (c : Cluster) (l r a : ℕ) (d : AcceptorDurable) → nat_lt l c.leaders ≡ true → nat_lt a c.acceptors ≡ true → nat_lt d.promise.r r ≡ true
+row_phase1a : (c : Cluster) (l r a : ℕ) (d : AcceptorDurable) → nat_lt l c.leaders ≡ true → nat_lt a c.acceptors ≡ true
+    → nat_lt d.promise.r r ≡ true
     → acceptor_row c (role kind.Acceptor a) d tt (input.Take (phase1a_to (role kind.Leader l) (lead_round l r) a))
     ≡ record {
       why = why.Promised;
@@ -138,25 +146,28 @@ row_phase1a : (c : Cluster) (l r a : ℕ) (d : AcceptorDurable) → nat_lt l c.l
       volatile = tt {0};
       sends = phase1b_to (role kind.Acceptor a) (role kind.Leader l) (lead_round l r) d ∷ [];
     }
-row_phase1a c l r a d led there h = rw (led, there, same_role-itself (role kind.Acceptor a), not_above l r d.promise h, not_same l r d.promise h) refl
+row_phase1a c l r a d led there h =
+    rw (led, there, same_role-itself (role kind.Acceptor a), not_above l r d.promise h, not_same l r d.promise h) refl
 
 module _ (c : Cluster) (l r a : ℕ) (g : Shape) (v : LeaderVolatile) (told : List MatchAnswer) (d : AcceptorDurable) (ps : List Promised)
     (led : nat_lt l c.leaders ≡ true) (there : nat_lt a c.acceptors ≡ true) (named : list_all (λ (x : Vote). names_vote c x) d.votes ≡ true)
     (member : is_member_of (live_entries told) a ≡ true) (new : has_promised a ps ≡ false) where
-  row_whole_now : rows_whole (live_entries told) (promised_by (ps ++ reported_by d a ∷ [])) ≡ true
-      → leader_row c (role kind.Leader l) (begun_over l r g) (phasing v told ps) (input.Take (phase1b_to (role kind.Acceptor a) (role kind.Leader l) (lead_round l r) d))
+  row_whole_now : rows_whole (live_entries told) (promised_by (ps ++ reported_by d a ∷ [])) ≡ true → leader_row c (role kind.Leader l)
+      (begun_over l r g) (phasing v told ps) (input.Take (phase1b_to (role kind.Acceptor a) (role kind.Leader l) (lead_round l r) d))
       ≡ finishes c l r g v told (ps ++ reported_by d a ∷ [])
   row_whole_now h = rw (led, there, named, same_role-itself (role kind.Leader l), number_itself r, member, new, h) refl
 
-  row_not_yet : rows_whole (live_entries told) (promised_by (ps ++ reported_by d a ∷ [])) ≡ false
-      → leader_row c (role kind.Leader l) (begun_over l r g) (phasing v told ps) (input.Take (phase1b_to (role kind.Acceptor a) (role kind.Leader l) (lead_round l r) d))
+  row_not_yet : rows_whole (live_entries told) (promised_by (ps ++ reported_by d a ∷ [])) ≡ false → leader_row c (role kind.Leader l)
+      (begun_over l r g) (phasing v told ps) (input.Take (phase1b_to (role kind.Acceptor a) (role kind.Leader l) (lead_round l r) d))
       ≡ only_word why.Counted (phasing v told (ps ++ reported_by d a ∷ []))
   row_not_yet h = rw (led, there, named, same_role-itself (role kind.Leader l), number_itself r, member, new, h) refl
 
 -- THE STAGE
 
-module _ (goal : World → Type 0) (c : Cluster) (l r : ℕ) (g : Shape) (v : LeaderVolatile) (told : List MatchAnswer) (d0 : ℕ → AcceptorDurable)
-    (led : nat_lt l c.leaders ≡ true) (grids : (e : Entry) → Member e (live_entries told) → IsGrid e.grid × (names_grid c e.grid ≡ true)) where
+module _ (goal : World → Type 0) (c : Cluster) (l r : ℕ) (g : Shape) (v : LeaderVolatile) (told : List MatchAnswer)
+    (d0 : ℕ → AcceptorDurable)
+    (led : nat_lt l c.leaders ≡ true)
+    (grids : (e : Entry) → Member e (live_entries told) → IsGrid e.grid × (names_grid c e.grid ≡ true)) where
   abbrev me : RoleId
   me = role kind.Leader l
 
@@ -187,7 +198,8 @@ module _ (goal : World → Type 0) (c : Cluster) (l r : ℕ) (g : Shape) (v : Le
   Told ps = (p : Promised) → Member p ps → (p ≡ reported_by (d0 p.acceptor) p.acceptor) × Member p.acceptor (members_of c live)
 
   abbrev pub Stores : Moment → Moment → Type 0
-  Stores x y = (a : ℕ) → MayHavePromised l r (durable_of acceptor_rules (role kind.Acceptor a) x.kept) (durable_of acceptor_rules (role kind.Acceptor a) y.kept)
+  Stores x y = (a : ℕ) → MayHavePromised l r (durable_of acceptor_rules (role kind.Acceptor a) x.kept)
+      (durable_of acceptor_rules (role kind.Acceptor a) y.kept)
 
   pub record IsPromised (ps : List Promised) (x : Moment) : Type 0 where
     pub known : Told ps
@@ -206,7 +218,8 @@ module _ (goal : World → Type 0) (c : Cluster) (l r : ℕ) (g : Shape) (v : Le
   abbrev asked_at : ℕ → Moment → Moment
   asked_at a x = moved (role kind.Acceptor a) Plain (Some (kept.Promise i)) (reply a ∷ []) x
 
-  own_after : (a : ℕ) (x : Moment) → durable_of leader_rules me x.kept ≡ begun_over l r g → durable_of leader_rules me (asked_at a x).kept ≡ begun_over l r g
+  own_after : (a : ℕ) (x : Moment) → durable_of leader_rules me x.kept ≡ begun_over l r g
+      → durable_of leader_rules me (asked_at a x).kept ≡ begun_over l r g
   own_after a x own = durable_other leader_rules (role kind.Acceptor a) me (kept.Promise i) x.kept refl ∙ own
 
   left_two : (a : ℕ) (x : Moment) (s : LeaderVolatile) (sends : List Letter) → x.states (role kind.Acceptor a) ≡ Plain
@@ -218,8 +231,8 @@ module _ (goal : World → Type 0) (c : Cluster) (l r : ℕ) (g : Shape) (v : Le
 
   stores_at : (a : ℕ) (x : Moment) → Stores x (asked_at a x)
   stores_at a x b = elim (bool_cases (b == a)) [
-    | inl t ↦
-        subst (λ n. MayHavePromised l r (durable_of acceptor_rules (role kind.Acceptor n) x.kept) (durable_of acceptor_rules (role kind.Acceptor n) (asked_at a x).kept))
+    | inl t ↦ subst (λ n. MayHavePromised l r (durable_of acceptor_rules (role kind.Acceptor n) x.kept)
+        (durable_of acceptor_rules (role kind.Acceptor n) (asked_at a x).kept))
         (sym (same_number b a t)) (inr (durable_own acceptor_rules (role kind.Acceptor a) (kept.Promise i) x.kept))
     | inr f ↦ inl (durable_other acceptor_rules (role kind.Acceptor a) (role kind.Acceptor b) (kept.Promise i) x.kept f)
   ]
@@ -231,20 +244,23 @@ module _ (goal : World → Type 0) (c : Cluster) (l r : ℕ) (g : Shape) (v : Le
   stores_then d e f (inr p) (inr q) = (let f : AcceptorDurable → AcceptorDurable = λ x. record x { promise = i } in inr (q ∙ ap f p))
 
   told_more : (a : ℕ) (ps : List Promised) → Member a (members_of c live) → Told ps → Told (ps ++ reported_by (d0 a) a ∷ [])
-  told_more a ps there known =
-      Member-both (λ p. (p ≡ reported_by (d0 p.acceptor) p.acceptor) × Member p.acceptor (members_of c live)) ps (reported_by (d0 a) a ∷ []) known
-      (Member-one (λ p. (p ≡ reported_by (d0 p.acceptor) p.acceptor) × Member p.acceptor (members_of c live)) (reported_by (d0 a) a) (refl, there))
+  told_more a ps there known = Member-both (λ p. (p ≡ reported_by (d0 p.acceptor) p.acceptor) × Member p.acceptor (members_of c live)) ps
+      (reported_by (d0 a) a ∷ []) known
+      (Member-one (λ p. (p ≡ reported_by (d0 p.acceptor) p.acceptor) × Member p.acceptor (members_of c live)) (reported_by (d0 a) a)
+      (refl, there))
 
   -- the last one that is needed
-  ends : (a : ℕ) (ps : List Promised) (x : Moment) → x.states me ≡ LeaderIn (phasing v told ps) → durable_of leader_rules me x.kept ≡ begun_over l r g
-      → Ready ps a x → Told (ps ++ reported_by (d0 a) a ∷ []) → rows_whole live (promised_by (ps ++ reported_by (d0 a) a ∷ [])) ≡ true → Rest x → Goes goal c x
+  ends : (a : ℕ) (ps : List Promised) (x : Moment) → x.states me ≡ LeaderIn (phasing v told ps)
+      → durable_of leader_rules me x.kept ≡ begun_over l r g
+      → Ready ps a x → Told (ps ++ reported_by (d0 a) a ∷ []) → rows_whole live (promised_by (ps ++ reported_by (d0 a) a ∷ [])) ≡ true
+      → Rest x → Goes goal c x
   ends a ps x runs own now known whole rest =
       let y = asked_at a x in
       let more = ps ++ reported_by (d0 a) a ∷ [] in
       let o = finishes c l r g v told more in
       let z = moved me (LeaderIn o.volatile) None o.sends y in
-      to_acceptor goal c x a (ask a) now.asked _ refl now.runs
-      (ap (λ d. acceptor_row c (role kind.Acceptor a) d tt (input.Take (ask a))) now.store ∙ row_phase1a c l r a (d0 a) led now.there now.promised)
+      to_acceptor goal c x a (ask a) now.asked _ refl now.runs (ap (λ d. acceptor_row c (role kind.Acceptor a) d tt (input.Take (ask a)))
+      now.store ∙ row_phase1a c l r a (d0 a) led now.there now.promised)
       (to_leader goal c y l (reply a) (Member-second _ x.sent (reply a ∷ []) (inl refl)) (phasing v told ps) o refl
       (state_other (role kind.Acceptor a) me Plain x.states refl ∙ runs)
       (ap (λ d. leader_row c me d (phasing v told ps) (input.Take (reply a))) (own_after a x own)
@@ -252,11 +268,11 @@ module _ (goal : World → Type 0) (c : Cluster) (l r : ℕ) (g : Shape) (v : Le
       (rest more z (left_two a x o.volatile o.sends now.runs) (stores_at a x)
       (record { known = known; runs = state_own me (LeaderIn o.volatile) y.states; sends = λ d m. Member-second d y.sent o.sends m })))
 
-  pub phase : (others : List ℕ) (a : ℕ) (ps : List Promised) (x : Moment) → promised_by ps ++ a ∷ others ≡ members_of c live → Apart (a ∷ others)
-      → x.states me ≡ LeaderIn (phasing v told ps) → durable_of leader_rules me x.kept ≡ begun_over l r g
+  pub phase : (others : List ℕ) (a : ℕ) (ps : List Promised) (x : Moment) → promised_by ps ++ a ∷ others ≡ members_of c live
+      → Apart (a ∷ others) → x.states me ≡ LeaderIn (phasing v told ps) → durable_of leader_rules me x.kept ≡ begun_over l r g
       → ((k : ℕ) → Member k (a ∷ others) → Ready ps k x) → Told ps → Rest x → Goes goal c x
-  phase [] a ps x all once runs own ready known rest =
-      ends a ps x runs own (ready a (inl refl)) (told_more a ps (subst (λ l. Member a l) all (Member-second a (promised_by ps) (a ∷ []) (inl refl))) known)
+  phase [] a ps x all once runs own ready known rest = ends a ps x runs own (ready a (inl refl))
+      (told_more a ps (subst (λ l. Member a l) all (Member-second a (promised_by ps) (a ∷ []) (inl refl))) known)
       (subst (λ l. rows_whole live l ≡ true) (sym (promised_more ps (reported_by (d0 a) a) ∙ all)) (rows_of_members c live grids)) rest
   phase (k ∷ others) a ps x all once runs own ready known rest =
       let now = ready a (inl refl) in
@@ -268,9 +284,10 @@ module _ (goal : World → Type 0) (c : Cluster) (l r : ℕ) (g : Shape) (v : Le
         | inl t ↦ ends a ps x runs own now known2 t rest
         | inr f ↦
             to_acceptor goal c x a (ask a) now.asked _ refl now.runs
-            (ap (λ d. acceptor_row c (role kind.Acceptor a) d tt (input.Take (ask a))) now.store ∙ row_phase1a c l r a (d0 a) led now.there now.promised)
-            (to_leader goal c y l (reply a) (Member-second _ x.sent (reply a ∷ []) (inl refl)) (phasing v told ps) (only_word why.Counted (phasing v told more)) refl
-            (state_other (role kind.Acceptor a) me Plain x.states refl ∙ runs)
+            (ap (λ d. acceptor_row c (role kind.Acceptor a) d tt (input.Take (ask a))) now.store
+            ∙ row_phase1a c l r a (d0 a) led now.there now.promised)
+            (to_leader goal c y l (reply a) (Member-second _ x.sent (reply a ∷ []) (inl refl)) (phasing v told ps)
+            (only_word why.Counted (phasing v told more)) refl (state_other (role kind.Acceptor a) me Plain x.states refl ∙ runs)
             (ap (λ d. leader_row c me d (phasing v told ps) (input.Take (reply a))) (own_after a x own)
             ∙ row_not_yet c l r a g v told (d0 a) ps led now.there now.named now.member now.new f)
             (phase others k more z
@@ -280,7 +297,8 @@ module _ (goal : World → Type 0) (c : Cluster) (l r : ℕ) (g : Shape) (v : Le
             let b = ready j (inr there) in
             let differs : (j == a) ≡ false = none-Member (λ q. q == a) (k ∷ others) once.0 j there in
             record {
-              runs = state_other me (role kind.Acceptor j) (LeaderIn (phasing v told more)) y.states refl ∙ state_other (role kind.Acceptor a) (role kind.Acceptor j) Plain x.states differs ∙ b.runs;
+              runs = state_other me (role kind.Acceptor j) (LeaderIn (phasing v told more)) y.states refl
+                  ∙ state_other (role kind.Acceptor a) (role kind.Acceptor j) Plain x.states differs ∙ b.runs;
               store = durable_other acceptor_rules (role kind.Acceptor a) (role kind.Acceptor j) (kept.Promise i) x.kept differs ∙ b.store;
               asked = Member-first (ask j) y.sent [] (Member-first (ask j) x.sent (reply a ∷ []) b.asked);
               there = b.there;
@@ -296,14 +314,15 @@ module _ (goal : World → Type 0) (c : Cluster) (l r : ℕ) (g : Shape) (v : Le
       ]
 
   -- all members of the live grids can promise
-  pub phase_all : (x : Moment) (some : Entry) → Member some live → x.states me ≡ LeaderIn (phasing v told []) → durable_of leader_rules me x.kept ≡ begun_over l r g
+  pub phase_all : (x : Moment) (some : Entry) → Member some live → x.states me ≡ LeaderIn (phasing v told [])
+      → durable_of leader_rules me x.kept ≡ begun_over l r g
       → ((k : ℕ) → Member k (members_of c live) → Ready [] k x) → Rest x → Goes goal c x
   phase_all x some is_some runs own ready rest = go (members_of c live) refl
     where
       go : (who : List ℕ) → members_of c live ≡ who → Goes goal c x
       go [] e =
-          let row : row_whole some.grid [] ≡ true =
-          all-Member (λ (x : Entry). row_whole x.grid []) live (subst (λ l. rows_whole live l ≡ true) e (rows_of_members c live grids)) some is_some in
+          let row : row_whole some.grid [] ≡ true = all-Member (λ (x : Entry). row_whole x.grid []) live
+          (subst (λ l. rows_whole live l ≡ true) e (rows_of_members c live grids)) some is_some in
           let q = row-Member some.grid [] row in
           absurd (q.3 0 q.2)
       go (a ∷ others) e =

@@ -1,5 +1,6 @@
 -- What a leader proposes when its first phase is done, where it knows the chosen watermark already.
-use Rattle.std.proofs.Common.{◌≡◌, ◌⊎◌, ◌≤◌, ℕ, zero, suc, Bool, true, false, List, [], ◌∷◌, Option, None, Some, ap, sym, ◌∙◌, refl, inl, inr, arith}
+use Rattle.std.proofs.Common.{◌≡◌, ◌⊎◌, ◌≤◌, ℕ, zero, suc, Bool, true, false, List, [], ◌∷◌, Option, None, Some, ap, sym, ◌∙◌, refl, inl}
+use Rattle.std.proofs.Common.{inr, arith}
 use Rattle.std.proofs.lemmas.Bool.{and_parts, and_from}
 use Rattle.std.proofs.lemmas.Bool.Decides.{nat_tests}
 use Rattle.std.specs.List.{list_all}
@@ -39,14 +40,16 @@ end_is h votes =
     back_up h (end_told h votes) (end_above h votes)
     ∙ ap (λ n. h + n) (sym (counted (λ s. voted_value (best_vote s votes)) h (end_told h votes - h)))
 
-pub plan_is : (h : ℕ) (promises : List Promised) → greatest_cw h promises ≡ h → plan h promises ≡ plan_of h (values_for h (votes_told promises))
+pub plan_is : (h : ℕ) (promises : List Promised) → greatest_cw h promises ≡ h
+    → plan h promises ≡ plan_of h (values_for h (votes_told promises))
 plan_is h promises e =
     ap (λ w. plan_between w (end_told w (votes_told promises)) (votes_told promises)) e
     ∙ ap (λ n. record { cw = h; end = n; values = values_for h (votes_told promises) }) (end_is h (votes_told promises))
 
 -- WHAT HOLDS OF A NOOP AND OF EACH VOTE'S VALUE HOLDS OF ALL THAT IS PROPOSED
 
-pub votes_such : (P : Value → Bool) → P Noop ≡ true → (votes : List Vote) → list_all (λ v. P v.value) votes ≡ true → (h : ℕ) → list_all P (values_for h votes) ≡ true
+pub votes_such : (P : Value → Bool) → P Noop ≡ true → (votes : List Vote) → list_all (λ v. P v.value) votes ≡ true → (h : ℕ)
+    → list_all P (values_for h votes) ≡ true
 votes_such P none votes all h = every h (end_told h votes - h)
   where
     pick : (b : Bool) (x y : Vote) → P x.value ≡ true → P y.value ≡ true → P (if b then x else y).value ≡ true
@@ -57,8 +60,8 @@ votes_such P none votes all h = every h (end_told h votes - h)
     greater v None own rest = own
     greater v (Some later) own rest = pick (is_before v.round later.round) later v rest own
 
-    go : (s : ℕ) (v : Vote) → ((v.slot == s) ≡ true) ⊎ ((v.slot == s) ≡ false) → (o : Option Vote) → P v.value ≡ true → P (voted_value o) ≡ true
-        → P (voted_value (if v.slot == s then Some (greater_vote v o) else o)) ≡ true
+    go : (s : ℕ) (v : Vote) → ((v.slot == s) ≡ true) ⊎ ((v.slot == s) ≡ false) → (o : Option Vote) → P v.value ≡ true
+        → P (voted_value o) ≡ true → P (voted_value (if v.slot == s then Some (greater_vote v o) else o)) ≡ true
     go s v (inl t) o own rest = rw t (greater v o own rest)
     go s v (inr f) o own rest = rw f rest
 
@@ -70,12 +73,12 @@ votes_such P none votes all h = every h (end_told h votes - h)
 
     every : (first count : ℕ) → list_all P (map (λ s. voted_value (best_vote s votes)) (numbers first count)) ≡ true
     every first zero = refl
-    every first (suc count) =
-        and_from (P (voted_value (best_vote first votes))) (list_all P (map (λ s. voted_value (best_vote s votes)) (numbers (first + 1) count)))
-        (best first votes all) (every (first + 1) count)
+    every first (suc count) = and_from (P (voted_value (best_vote first votes))) (list_all P
+        (map (λ s. voted_value (best_vote s votes)) (numbers (first + 1) count))) (best first votes all) (every (first + 1) count)
 
 -- the end is below a number that is above the chosen watermark and all slots voted at
-pub end_below : (most h : ℕ) (votes : List Vote) → nat_lt h most ≡ true → list_all (λ v. nat_lt (v.slot + 1) most) votes ≡ true → nat_lt (end_told h votes) most ≡ true
+pub end_below : (most h : ℕ) (votes : List Vote) → nat_lt h most ≡ true → list_all (λ v. nat_lt (v.slot + 1) most) votes ≡ true
+    → nat_lt (end_told h votes) most ≡ true
 end_below most h [] low all = low
 end_below most h (v ∷ votes) low all =
     let parts = and_parts (nat_lt (v.slot + 1) most) (list_all (λ x. nat_lt (x.slot + 1) most) votes) all in

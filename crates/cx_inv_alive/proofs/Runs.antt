@@ -1,6 +1,8 @@
--- In every run an acceptor knows of no more slots than some replica holds, and each replica has all from where the next one forgot. So the theorem.
+-- In every run an acceptor knows of no more slots than some replica holds, and each replica has all from where the next one forgot. So the
+-- theorem.
 use Rattle.cx_model.specs.Promises.{OfEveryRun}
-use Rattle.std.proofs.Common.{◌≡◌, ◌⊎◌, ◌≤◌, ◌<◌, ℕ, zero, suc, true, false, List, [], ◌∷◌, reverse, ap, sym, ◌∙◌, subst, refl, inl, inr, arith}
+use Rattle.std.proofs.Common.{◌≡◌, ◌⊎◌, ◌≤◌, ◌<◌, ℕ, zero, suc, true, false, List, [], ◌∷◌, reverse, ap, sym, ◌∙◌, subst, refl, inl, inr}
+use Rattle.std.proofs.Common.{arith}
 use Rattle.std.proofs.lemmas.Bool.Decides.{nat_tests}
 use Rattle.std.proofs.lemmas.List.{length-drop}
 use Rattle.std.proofs.lemmas.Nat.{mod_below, mod-mul-add}
@@ -49,7 +51,8 @@ drop_Member (suc n) [] x m = m
 drop_Member (suc n) (y ∷ xs) x m = inr (drop_Member n xs x m)
 
 holds_all : (d : ReplicaDurable) (values : List Value) → IsTied d values → length values ≡ held d
-holds_all d values tie = count d.first (length values) tie.within ∙ ap (λ n. d.first + n) (sym (ap length tie.log ∙ length-drop d.first values))
+holds_all d values tie =
+    count d.first (length values) tie.within ∙ ap (λ n. d.first + n) (sym (ap length tie.log ∙ length-drop d.first values))
   where
     count : (n m : ℕ) → n ≤ m → m ≡ n + (m - n)
     count n m le = omega (arith, le)
@@ -90,8 +93,8 @@ before_next p n l = go (bool_cases (p + 1 == n))
     some p n l = omega (arith, l)
 
     go : ((p + 1 == n) ≡ true) ⊎ ((p + 1 == n) ≡ false) → ((p + 1) % n + n - 1) % n ≡ p
-    go (inl t) =
-        ap (λ k. (k + n - 1) % n) (ap (λ j. j % n) (same_number (p + 1) n t) ∙ mod_itself n (some p n l)) ∙ ap (λ k. k % n) (last p n (same_number (p + 1) n t)) ∙ small_mod p n l
+    go (inl t) = ap (λ k. (k + n - 1) % n) (ap (λ j. j % n) (same_number (p + 1) n t) ∙ mod_itself n (some p n l))
+        ∙ ap (λ k. k % n) (last p n (same_number (p + 1) n t)) ∙ small_mod p n l
     go (inr f) =
         ap (λ k. (k + n - 1) % n) (small_mod (p + 1) n (lower p n l f)) ∙ ap (λ k. k % n) (inner p n l) ∙ mod-mul-add 1 n p l
 
@@ -107,42 +110,54 @@ logs_wait c es command waits p low =
     let values = log_in (reverse w.kept) p in
     let free : is_done command.seq (floor_of command.client (replica_store w p).machine.table.floors) ≡ false =
     not_true (is_done command.seq (floor_of command.client (replica_store w p).machine.table.floors))
-    (all-Member (λ p. not (is_done command.seq (floor_of command.client (replica_store w p).machine.table.floors))) (below c.replicas) waits.replicas p (Member-below p c.replicas (less p c.replicas low))) in
+    (all-Member (λ p. not (is_done command.seq (floor_of command.client (replica_store w p).machine.table.floors))) (below c.replicas)
+    waits.replicas p (Member-below p c.replicas (less p c.replicas low))) in
     let free_of : is_done command.seq (floor_of command.client (machine_from 0 new_machine values).table.floors) ≡ false =
     subst (λ (m : Machine). is_done command.seq (floor_of command.client m.table.floors) ≡ false)
     (ap (λ (x : ReplicaDurable). x.machine) (durable_by_time replica_rules (role kind.Replica p) w.kept) ∙ tie.machine) free in
     let all = (back_from command.client command.seq 0 new_machine values refl free_of).1 in
-    subst (λ l. list_all (tell_less command.client command.seq) l ≡ true) (sym tie.log)
-    (Member-all (tell_less command.client command.seq) (drop d.first values) (λ v m. all-Member (tell_less command.client command.seq) values all v (drop_Member d.first values v m)))
+    subst (λ l. list_all (tell_less command.client command.seq) l ≡ true) (sym tie.log) (Member-all (tell_less command.client command.seq)
+    (drop d.first values) (λ v m. all-Member (tell_less command.client command.seq) values all v (drop_Member d.first values v m)))
 
 -- what stores are in every run
-sound : (c : Cluster) (es : List Event) (command : Command) → HasCounts c → StillWaits c (run c es) command → AreSound (record (run c es) { cluster = c }) command
+sound : (c : Cluster) (es : List Event) (command : Command) → HasCounts c → StillWaits c (run c es) command
+    → AreSound (record (run c es) { cluster = c }) command
 sound c es command counts waits =
     let w = run c es in
     let past = reverse w.kept in
     let fit = (fitting c es).fit in
-    let all_held : (p : ℕ) → slots_held past p ≡ held (stored_at (moment_of w) p) = λ p. holds_all (stored_at (moment_of w) p) (log_in past p) ((ties_hold c es).tied p) in
+    let all_held : (p : ℕ) → slots_held past p ≡ held (stored_at (moment_of w) p) =
+    λ p. holds_all (stored_at (moment_of w) p) (log_in past p) ((ties_hold c es).tied p) in
     record {
       named = record {
-        votes = λ a low. subst (λ (d : AcceptorDurable). list_all (λ (v : Vote). names_vote c v) d.votes ≡ true) (sym (durable_by_time acceptor_rules (role kind.Acceptor a) w.kept)) (all_votes c a counts.leaders past fit);
-        watermarks = λ m i. subst (λ (d : MatchmakerDurable). names_round c d.watermark ≡ true) (sym (durable_by_time matchmaker_rules (role kind.Matchmaker m) w.kept)) ((all_rounds c m counts.leaders past fit).watermark);
-        entries = λ m i. subst (λ (d : MatchmakerDurable). list_all (λ (e : Entry). names_entry c e) d.entries ≡ true) (sym (durable_by_time matchmaker_rules (role kind.Matchmaker m) w.kept)) ((all_rounds c m counts.leaders past fit).entries);
+        votes = λ a low. subst (λ (d : AcceptorDurable). list_all (λ (v : Vote). names_vote c v) d.votes ≡ true)
+            (sym (durable_by_time acceptor_rules (role kind.Acceptor a) w.kept)) (all_votes c a counts.leaders past fit);
+        watermarks = λ m i. subst (λ (d : MatchmakerDurable). names_round c d.watermark ≡ true)
+            (sym (durable_by_time matchmaker_rules (role kind.Matchmaker m) w.kept)) ((all_rounds c m counts.leaders past fit).watermark);
+        entries = λ m i. subst (λ (d : MatchmakerDurable). list_all (λ (e : Entry). names_entry c e) d.entries ≡ true)
+            (sym (durable_by_time matchmaker_rules (role kind.Matchmaker m) w.kept)) ((all_rounds c m counts.leaders past fit).entries);
       };
       within = λ a low.
           let d = durable_of acceptor_rules (role kind.Acceptor a) past in
-          let some = some_passes c (below c.replicas) (λ p. nat_le d.cw (slots_held past p)) (more_than c.f (length (filter (λ p. nat_le d.cw (slots_held past p)) (below c.replicas))) (acceptor_stored c past (role kind.Acceptor a) past (low_facts c es).records)) in (
+          let some = some_passes c (below c.replicas) (λ p. nat_le d.cw (slots_held past p))
+          (more_than c.f (length (filter (λ p. nat_le d.cw (slots_held past p)) (below c.replicas)))
+          (acceptor_stored c past (role kind.Acceptor a) past (low_facts c es).records)) in (
             some.0,
             less_test some.0 c.replicas (below-Member some.0 c.replicas some.1),
-            subst (λ (x : AcceptorDurable). nat_le x.cw (held (stored_at (moment_of w) some.0)) ≡ true) (sym (durable_by_time acceptor_rules (role kind.Acceptor a) w.kept))
+            subst (λ (x : AcceptorDurable). nat_le x.cw (held (stored_at (moment_of w) some.0)) ≡ true)
+                (sym (durable_by_time acceptor_rules (role kind.Acceptor a) w.kept))
                 (subst (λ n. nat_le d.cw n ≡ true) (all_held some.0) some.2),
           );
       ring = λ p low.
           let l = less p c.replicas low in
           let q = (p + 1) % c.replicas in
           let kept_so = safe_snapshots.forgotten_is_kept c es q (mod_below (p + 1) c.replicas (some_of p c.replicas l)) in
-          subst (λ (d : ReplicaDurable). nat_le d.first (held (stored_at (moment_of w) p)) ≡ true) (durable_by_time replica_rules (role kind.Replica q) w.kept)
-          (at_most (replica_store w q).first (length (log_of (before c (role kind.Replica q)) w.kept)) (held (stored_at (moment_of w) p)) kept_so
-          (ap (λ n. length (log_of n w.kept)) (before_next p c.replicas l) ∙ ap (λ (v : List Value). length v) (log_by_time p w.kept) ∙ all_held p));
+          subst (λ (d : ReplicaDurable). nat_le d.first (held (stored_at (moment_of w) p)) ≡ true)
+          (durable_by_time replica_rules (role kind.Replica q) w.kept)
+          (at_most (replica_store w q).first (length (log_of (before c (role kind.Replica q)) w.kept))
+          (held (stored_at (moment_of w) p)) kept_so
+          (ap (λ n. length (log_of n w.kept)) (before_next p c.replicas l) ∙ ap (λ (v : List Value). length v) (log_by_time p w.kept)
+          ∙ all_held p));
       logs = λ p low.
           let d = stored_at (moment_of w) p in
           subst (λ l. list_all (λ v. names_value c v) l ≡ true) (sym ((ties_hold c es).tied p).log)
@@ -169,5 +184,5 @@ no_dead_ends c es command batcher known batched submit room =
     let w = run c es in
     let counts = all_counts c in
     let same = same_cluster w c (run_cluster c es) in
-    subst (λ u. CanBeAnswered u command) (sym same)
-    (answered_anywhere (record w { cluster = c }) batcher command counts (sound c es command counts room.waits) known batched submit (subst (λ u. IsRoomy c u command) same room))
+    subst (λ u. CanBeAnswered u command) (sym same) (answered_anywhere (record w { cluster = c }) batcher command counts
+    (sound c es command counts room.waits) known batched submit (subst (λ u. IsRoomy c u command) same room))

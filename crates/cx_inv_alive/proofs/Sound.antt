@@ -17,7 +17,8 @@ use Rattle.cx_letter.specs.declared.kept.Record.{Record}
 use Rattle.cx_letter.specs.declared.kept.Record.TheVariants as kept
 use Rattle.cx_model.specs.Acceptor.{AcceptorDurable, acceptor_after, acceptor_fits, acceptor_rules, votes_from_slot, with_vote}
 use Rattle.cx_model.specs.Lists.{bool_cases, same_role-true}
-use Rattle.cx_model.specs.Matchmaker.{MatchmakerDurable, matchmaker_after, matchmaker_fits, matchmaker_rules, entries_since, entry, has_round}
+use Rattle.cx_model.specs.Matchmaker.{MatchmakerDurable, matchmaker_after, matchmaker_fits, matchmaker_rules, entries_since, entry}
+use Rattle.cx_model.specs.Matchmaker.{has_round}
 use Rattle.cx_model.specs.Names.{names_entry, names_grid, names_round, names_value, names_vote}
 use Rattle.cx_model.specs.Outcome.{either_way}
 use Rattle.cx_model.specs.Replica.{ReplicaDurable, replica_fits, replica_rules}
@@ -64,17 +65,19 @@ module _ (c : Cluster) (n : ℕ) (led : nat_lt 0 c.leaders ≡ true) where
       let p2 = and_parts _ _ p1.0 in
       let p3 = and_parts _ _ p2.0 in
       let p4 = and_parts _ _ p3.0 in
-      with_vote_named (λ (x : Vote). names_vote c x) _ (votes_from_slot _ d.votes) p4.0 (all_left (λ (x : Vote). names_vote c x) _ d.votes all)
+      with_vote_named (λ (x : Vote). names_vote c x) _ (votes_from_slot _ d.votes) p4.0
+      (all_left (λ (x : Vote). names_vote c x) _ d.votes all)
   votes_named d (kept.Water i cw) all fits = all_left (λ (x : Vote). names_vote c x) _ d.votes all
   votes_named d other all fits = all
 
-  votes_step : (d : AcceptorDurable) (ks : List KeptRecord) → durable_of acceptor_rules A0 ks ≡ d → (what : Written) → FitsAs c A0 what ks kind.Acceptor
-      → list_all (λ (v : Vote). names_vote c v) d.votes ≡ true
+  votes_step : (d : AcceptorDurable) (ks : List KeptRecord) → durable_of acceptor_rules A0 ks ≡ d → (what : Written)
+      → FitsAs c A0 what ks kind.Acceptor → list_all (λ (v : Vote). names_vote c v) d.votes ≡ true
       → list_all (λ (v : Vote). names_vote c v) (written_after acceptor_rules d what).votes ≡ true
   votes_step d ks is (written.Record r) fits all = votes_named d r all (subst (λ x. acceptor_fits c A0 x r ≡ true) is fits.0)
   votes_step d ks is (written.Snap first) fits all = absurd fits
 
-  pub all_votes : (history : List KeptRecord) → AllFit c history → list_all (λ (v : Vote). names_vote c v) (durable_of acceptor_rules A0 history).votes ≡ true
+  pub all_votes : (history : List KeptRecord) → AllFit c history
+      → list_all (λ (v : Vote). names_vote c v) (durable_of acceptor_rules A0 history).votes ≡ true
   unfolding durable_of
   all_votes [] fit = refl
   all_votes (k ∷ ks) fit = go (bool_cases (same_role A0 k.role)) (all_votes ks fit.1)
@@ -82,8 +85,8 @@ module _ (c : Cluster) (n : ℕ) (led : nat_lt 0 c.leaders ≡ true) where
       go : (same_role A0 k.role ≡ true) ⊎ (same_role A0 k.role ≡ false)
           → list_all (λ (v : Vote). names_vote c v) (durable_of acceptor_rules A0 ks).votes ≡ true
           → list_all (λ (v : Vote). names_vote c v) (durable_of acceptor_rules A0 (k ∷ ks)).votes ≡ true
-      go (inl t) all =
-          rw t (votes_step (durable_of acceptor_rules A0 ks) ks refl k.what (subst (λ (x : RoleId). FitsAs c x k.what ks x.kind) (sym (same_role-true A0 k.role t)) fit.0) all)
+      go (inl t) all = rw t (votes_step (durable_of acceptor_rules A0 ks) ks refl k.what
+          (subst (λ (x : RoleId). FitsAs c x k.what ks x.kind) (sym (same_role-true A0 k.role t)) fit.0) all)
       go (inr f) all = rw f all
 
   -- ROUNDS
@@ -99,7 +102,11 @@ module _ (c : Cluster) (n : ℕ) (led : nat_lt 0 c.leaders ≡ true) where
       let p3 = and_parts _ _ p2.0 in
       let p4 = and_parts _ _ p3.0 in
       let p5 = and_parts _ _ p4.0 in
-      record { watermark = h.watermark; entries = all_with (λ (e : Entry). names_entry c e) d.entries (entry i g) h.entries (and_from (names_round c i) (names_grid c g) p5.1 p4.1) }
+      record {
+        watermark = h.watermark;
+        entries = all_with (λ (e : Entry). names_entry c e) d.entries (entry i g) h.entries
+            (and_from (names_round c i) (names_grid c g) p5.1 p4.1);
+      }
   rounds_named d (kept.Garbage i g) h fits =
       let p1 = and_parts _ _ fits in
       let p2 = and_parts _ _ p1.0 in
@@ -107,8 +114,8 @@ module _ (c : Cluster) (n : ℕ) (led : nat_lt 0 c.leaders ≡ true) where
       let left = all_left (λ (e : Entry). names_entry c e) _ d.entries h.entries in
       record {
         watermark = p3.1;
-        entries =
-            either_way (λ l. list_all (λ (e : Entry). names_entry c e) l ≡ true) (has_round i (entries_since i d.entries)) (entries_since i d.entries) (entry i g ∷ entries_since i d.entries)
+        entries = either_way (λ l. list_all (λ (e : Entry). names_entry c e) l ≡ true) (has_round i (entries_since i d.entries))
+            (entries_since i d.entries) (entry i g ∷ entries_since i d.entries)
             left (and_from (names_entry c (entry i g)) _ (and_from (names_round c i) (names_grid c g) p3.1 p2.1) left);
       }
   rounds_named d (kept.Boot s w es) h fits =
@@ -119,8 +126,8 @@ module _ (c : Cluster) (n : ℕ) (led : nat_lt 0 c.leaders ≡ true) where
   rounds_named d (kept.Next b s) h fits = record { watermark = h.watermark; entries = h.entries }
   rounds_named d other h fits = h
 
-  rounds_step : (d : MatchmakerDurable) (ks : List KeptRecord) → durable_of matchmaker_rules M0 ks ≡ d → (what : Written) → FitsAs c M0 what ks kind.Matchmaker
-      → AreNamed d → AreNamed (written_after matchmaker_rules d what)
+  rounds_step : (d : MatchmakerDurable) (ks : List KeptRecord) → durable_of matchmaker_rules M0 ks ≡ d → (what : Written)
+      → FitsAs c M0 what ks kind.Matchmaker → AreNamed d → AreNamed (written_after matchmaker_rules d what)
   rounds_step d ks is (written.Record r) fits h = rounds_named d r h (subst (λ x. matchmaker_fits c M0 x r ≡ true) is fits.0)
   rounds_step d ks is (written.Snap first) fits h = absurd fits
 
@@ -129,27 +136,32 @@ module _ (c : Cluster) (n : ℕ) (led : nat_lt 0 c.leaders ≡ true) where
   all_rounds [] fit = record { watermark = led; entries = refl }
   all_rounds (k ∷ ks) fit = go (bool_cases (same_role M0 k.role)) (all_rounds ks fit.1)
     where
-      go : (same_role M0 k.role ≡ true) ⊎ (same_role M0 k.role ≡ false) → AreNamed (durable_of matchmaker_rules M0 ks) → AreNamed (durable_of matchmaker_rules M0 (k ∷ ks))
-      go (inl t) h =
-          rw t (rounds_step (durable_of matchmaker_rules M0 ks) ks refl k.what (subst (λ (x : RoleId). FitsAs c x k.what ks x.kind) (sym (same_role-true M0 k.role t)) fit.0) h)
+      go : (same_role M0 k.role ≡ true) ⊎ (same_role M0 k.role ≡ false) → AreNamed (durable_of matchmaker_rules M0 ks)
+          → AreNamed (durable_of matchmaker_rules M0 (k ∷ ks))
+      go (inl t) h = rw t (rounds_step (durable_of matchmaker_rules M0 ks) ks refl k.what
+          (subst (λ (x : RoleId). FitsAs c x k.what ks x.kind) (sym (same_role-true M0 k.role t)) fit.0) h)
       go (inr f) h = rw f h
 
 -- VALUES
 
-values_in_named : (c : Cluster) (me : RoleId) (d : ReplicaDurable) (r : Record) → replica_fits c me d r ≡ true → list_all (λ v. names_value c v) (values_in (written.Record r)) ≡ true
+values_in_named : (c : Cluster) (me : RoleId) (d : ReplicaDurable) (r : Record) → replica_fits c me d r ≡ true
+    → list_all (λ v. names_value c v) (values_in (written.Record r)) ≡ true
 values_in_named c me d (kept.Log vs) fits =
     let p1 = and_parts _ _ fits in
     (and_parts _ _ p1.0).1
 values_in_named c me d other fits = refl
 
 two_named : (P : Value → Bool) (xs ys : List Value) → list_all P xs ≡ true → list_all P ys ≡ true → list_all P (xs ++ ys) ≡ true
-two_named P xs ys a b = Member-all P (xs ++ ys) (λ x m. elim (Member-cases x xs ys m) [ inl i ↦ all-Member P xs a x i | inr i ↦ all-Member P ys b x i ])
+two_named P xs ys a b =
+    Member-all P (xs ++ ys) (λ x m. elim (Member-cases x xs ys m) [ inl i ↦ all-Member P xs a x i | inr i ↦ all-Member P ys b x i ])
 
-written_named : (c : Cluster) (me : RoleId) (ks : List KeptRecord) (what : Written) → FitsAs c me what ks kind.Replica → list_all (λ v. names_value c v) (values_in what) ≡ true
+written_named : (c : Cluster) (me : RoleId) (ks : List KeptRecord) (what : Written) → FitsAs c me what ks kind.Replica
+    → list_all (λ v. names_value c v) (values_in what) ≡ true
 written_named c me ks (written.Record r) fits = values_in_named c me (durable_of replica_rules me ks) r fits.0
 written_named c me ks (written.Snap first) fits = refl
 
-pub all_values : (c : Cluster) (p : ℕ) (history : List KeptRecord) → AllFit c history → list_all (λ v. names_value c v) (log_in history p) ≡ true
+pub all_values : (c : Cluster) (p : ℕ) (history : List KeptRecord) → AllFit c history
+    → list_all (λ v. names_value c v) (log_in history p) ≡ true
 unfolding log_in
 all_values c p [] fit = refl
 all_values c p (k ∷ ks) fit = go (bool_cases (same_role (role kind.Replica p) k.role)) (all_values c p ks fit.1)
@@ -157,6 +169,6 @@ all_values c p (k ∷ ks) fit = go (bool_cases (same_role (role kind.Replica p) 
     go : (same_role (role kind.Replica p) k.role ≡ true) ⊎ (same_role (role kind.Replica p) k.role ≡ false)
         → list_all (λ v. names_value c v) (log_in ks p) ≡ true → list_all (λ v. names_value c v) (log_in (k ∷ ks) p) ≡ true
     go (inl t) all =
-        rw t (two_named (λ v. names_value c v) (log_in ks p) (values_in k.what) all
-        (written_named c (role kind.Replica p) ks k.what (subst (λ (x : RoleId). FitsAs c x k.what ks x.kind) (sym (same_role-true (role kind.Replica p) k.role t)) fit.0)))
+        rw t (two_named (λ v. names_value c v) (log_in ks p) (values_in k.what) all (written_named c (role kind.Replica p) ks k.what
+        (subst (λ (x : RoleId). FitsAs c x k.what ks x.kind) (sym (same_role-true (role kind.Replica p) k.role t)) fit.0)))
     go (inr f) all = rw f all

@@ -35,7 +35,8 @@ use Rattle.cx_model.specs.Unbatcher.{unbatcher_rules}
 use Rattle.cx_model.specs.World.{World, Change, act_at, change, changed, come, durable_part, kept_by, run_from, step, turned, world_after}
 use Rattle.cx_inv_run.proofs.Histories.{durable_by_time, set_twice, state_own}
 use Rattle.cx_inv_run.proofs.Members.{at-Member}
-use Rattle.cx_inv_run.specs.States.{State, Down, BatcherIn, LeaderIn, ProxyIn, ReplicaIn, plain, batcher_volatile, durable_of, leader_volatile, plain_volatile, proxy_volatile, replica_volatile, set_state, with_record}
+use Rattle.cx_inv_run.specs.States.{State, Down, BatcherIn, LeaderIn, ProxyIn, ReplicaIn, plain, batcher_volatile, durable_of}
+use Rattle.cx_inv_run.specs.States.{leader_volatile, plain_volatile, proxy_volatile, replica_volatile, set_state, with_record}
 
 pub record View (c : Cluster) (kept : List KeptRecord) (sent : List Letter) (states : RoleId → State) (w : World) : Type 0 where
   pub cluster : w.cluster ≡ c
@@ -57,7 +58,8 @@ pub record Actor (k : Kind) (D V : Type 0) : Type 0 where
   pub make : V → State
   pub get : State → Option V
   pub rules : Rules D V
-  pub acts : (w : World) (act : Act) (j : ℕ) → act_at w act (role k j) ≡ turned rules make w.cluster w.roles w.kept act (role k j) (get (w.roles (role k j)))
+  pub acts : (w : World) (act : Act) (j : ℕ)
+      → act_at w act (role k j) ≡ turned rules make w.cluster w.roles w.kept act (role k j) (get (w.roles (role k j)))
   pub got : (v : V) → get (make v) ≡ Some v
   pub down : get Down ≡ None
 
@@ -88,7 +90,8 @@ whole_any : {V : Type 0} (k : Option Record) (o : Outcome V) → turn_with Whole
 whole_any None o = refl
 whole_any (Some r) o = refl
 
-kept_first : (me : RoleId) (k : Option Record) (kept : List KeptRecord) → reverse (kept_by me (option_map written.Record k)) ++ kept ≡ with_record me k kept
+kept_first : (me : RoleId) (k : Option Record) (kept : List KeptRecord)
+    → reverse (kept_by me (option_map written.Record k)) ++ kept ≡ with_record me k kept
 kept_first me None kept = refl
 kept_first me (Some r) kept = refl
 
@@ -114,12 +117,14 @@ module _ (c : Cluster) (kept : List KeptRecord) (sent : List Letter) where
 
     taken : (states : RoleId → State) (w : World) → View c kept sent states w → (v : V) → states me ≡ the.make v
         → (i : Input) (o : Outcome V) → the.rules.row c me (durable_of the.rules me kept) v i ≡ o
-        → (e : Event) → change w e ≡ act_at w (Give i Whole) me → View c (with_record me o.kept kept) (sent ++ o.sends) (set_state me (the.make o.volatile) states) (step w e)
+        → (e : Event) → change w e ≡ act_at w (Give i Whole) me
+        → View c (with_record me o.kept kept) (sent ++ o.sends) (set_state me (the.make o.volatile) states) (step w e)
     unfolding step
     taken states w view v is i o row e means =
         let act = Give i Whole in
         let there : the.get (w.roles me) ≡ Some v = ap the.get (view.running me ∙ is) ∙ the.got v in
-        let durable : durable_part the.rules me w.kept ≡ durable_of the.rules me kept = durable_by_time the.rules me w.kept ∙ ap (λ h. durable_of the.rules me h) view.history in
+        let durable : durable_part the.rules me w.kept ≡ durable_of the.rules me kept =
+        durable_by_time the.rules me w.kept ∙ ap (λ h. durable_of the.rules me h) view.history in
         let t : turn the.rules w.cluster me (durable_part the.rules me w.kept) act (Some v) ≡ whole_turn o =
         ap (λ x. turn the.rules x me (durable_part the.rules me w.kept) act (Some v)) view.cluster
         ∙ ap (λ d. turn the.rules c me d act (Some v)) durable
@@ -129,8 +134,8 @@ module _ (c : Cluster) (kept : List KeptRecord) (sent : List Letter) where
         means ∙ the.acts w act j
         ∙ ap (λ x. turned the.rules the.make w.cluster w.roles w.kept act me x) there
         ∙ ap (λ x. changed the.make me w.roles x) t in
-        subst (λ ch. View c (with_record me o.kept kept) (sent ++ o.sends) (set_state me (the.make o.volatile) states) (world_after w e ch)) (sym is_change)
-        (record {
+        subst (λ ch. View c (with_record me o.kept kept) (sent ++ o.sends) (set_state me (the.make o.volatile) states) (world_after w e ch))
+        (sym is_change) (record {
           cluster = view.cluster;
           history =
               reverse-append w.kept (kept_by me (option_map written.Record o.kept))
@@ -142,31 +147,35 @@ module _ (c : Cluster) (kept : List KeptRecord) (sent : List Letter) where
     module _ (states : RoleId → State) (v : V) (o : Outcome V) (is : states me ≡ the.make v)
         (next : CanReach goal c (with_record me o.kept kept) (sent ++ o.sends) (set_state me (the.make o.volatile) states)) where
       -- a datagram is delivered
-      pub delivered : (d : Letter) → Member d sent → d.to ≡ me → the.rules.row c me (durable_of the.rules me kept) v (input.Take d) ≡ o → CanReach goal c kept sent states
+      pub delivered : (d : Letter) → Member d sent → d.to ≡ me → the.rules.row c me (durable_of the.rules me kept) v (input.Take d) ≡ o
+          → CanReach goal c kept sent states
       delivered d m to row w view =
           let place = at-Member d sent m in
           let e = event.Deliver place.0 Whole in
           let r = next (step w e)
-          (taken states w view v is (input.Take d) o row e
-          (ap (λ x. come w Whole x) (ap (λ l. slice_get l place.0) view.mail ∙ place.1) ∙ ap (λ x. act_at w (Give (input.Take d) Whole) x) to)) in
+          (taken states w view v is (input.Take d) o row e (ap (λ x. come w Whole x) (ap (λ l. slice_get l place.0) view.mail ∙ place.1)
+          ∙ ap (λ x. act_at w (Give (input.Take d) Whole) x) to)) in
           (e ∷ r.0, r.1)
 
       -- an event that is the same in each world gives an input
-      pub given : (e : Event) (i : Input) → ((w : World) → change w e ≡ act_at w (Give i Whole) me) → the.rules.row c me (durable_of the.rules me kept) v i ≡ o
-          → CanReach goal c kept sent states
+      pub given : (e : Event) (i : Input) → ((w : World) → change w e ≡ act_at w (Give i Whole) me)
+          → the.rules.row c me (durable_of the.rules me kept) v i ≡ o → CanReach goal c kept sent states
       given e i means row w view =
           let r = next (step w e) (taken states w view v is i o row e (means w)) in
           (e ∷ r.0, r.1)
 
-    after_stop : (states : RoleId → State) (w : World) → View c kept sent states w → (running : Option V)
-        → View c kept sent (set_state me Down states) (world_after w (event.Crash me) (turned the.rules the.make w.cluster w.roles w.kept Stop me running))
-    after_stop states w view None = set_view states w view (event.Crash me) (turned the.rules the.make w.cluster w.roles w.kept Stop me None) me Down refl refl refl
-    after_stop states w view (Some v) = set_view states w view (event.Crash me) (turned the.rules the.make w.cluster w.roles w.kept Stop me (Some v)) me Down refl refl refl
+    after_stop : (states : RoleId → State) (w : World) → View c kept sent states w → (running : Option V) → View c kept sent
+        (set_state me Down states) (world_after w (event.Crash me) (turned the.rules the.make w.cluster w.roles w.kept Stop me running))
+    after_stop states w view None =
+        set_view states w view (event.Crash me) (turned the.rules the.make w.cluster w.roles w.kept Stop me None) me Down refl refl refl
+    after_stop states w view (Some v) =
+        set_view states w view (event.Crash me) (turned the.rules the.make w.cluster w.roles w.kept Stop me (Some v)) me Down refl refl refl
 
-    stopped : (states : RoleId → State) (w : World) → View c kept sent states w → View c kept sent (set_state me Down states) (step w (event.Crash me))
+    stopped : (states : RoleId → State) (w : World) → View c kept sent states w
+        → View c kept sent (set_state me Down states) (step w (event.Crash me))
     unfolding step
-    stopped states w view =
-        subst (λ ch. View c kept sent (set_state me Down states) (world_after w (event.Crash me) ch)) (sym (the.acts w Stop j)) (after_stop states w view (the.get (w.roles me)))
+    stopped states w view = subst (λ ch. View c kept sent (set_state me Down states) (world_after w (event.Crash me) ch))
+        (sym (the.acts w Stop j)) (after_stop states w view (the.get (w.roles me)))
 
     woken : (states : RoleId → State) (w : World) → View c kept sent states w → states me ≡ Down → names_role c me ≡ true
         → View c kept sent (set_state me (the.make (the.rules.fresh c)) states) (step w (event.Restart me))
@@ -176,17 +185,23 @@ module _ (c : Cluster) (kept : List KeptRecord) (sent : List Letter) where
         let there : the.get (w.roles me) ≡ None = ap the.get (view.running me ∙ is) ∙ the.down in
         let is_change : act_at w Wake me ≡ after =
         the.acts w Wake j
-        ∙ ap (λ x. turned the.rules the.make w.cluster w.roles w.kept Wake me x) there
-        ∙ ap (λ x. changed the.make me w.roles (if names_role x me then still (Some (the.rules.fresh x)) why.Opened else still None why.Down)) view.cluster
+        ∙ ap (λ x. turned the.rules the.make w.cluster w.roles w.kept Wake me x) there ∙ ap (λ x. changed the.make me w.roles
+        (if names_role x me then still (Some (the.rules.fresh x)) why.Opened else still None why.Down)) view.cluster
         ∙ ap (λ b. changed the.make me w.roles (if b then still (Some (the.rules.fresh c)) why.Opened else still None why.Down)) named in
-        subst (λ ch. View c kept sent (set_state me (the.make (the.rules.fresh c)) states) (world_after w (event.Restart me) ch)) (sym is_change)
-        (set_view states w view (event.Restart me) after me (the.make (the.rules.fresh c)) refl refl refl)
+        subst (λ ch. View c kept sent (set_state me (the.make (the.rules.fresh c)) states) (world_after w (event.Restart me) ch))
+        (sym is_change) (set_view states w view (event.Restart me) after me (the.make (the.rules.fresh c)) refl refl refl)
 
     -- a role is stopped and opened again
-    pub reopened : (states : RoleId → State) → names_role c me ≡ true → CanReach goal c kept sent (set_state me (the.make (the.rules.fresh c)) states) → CanReach goal c kept sent states
+    pub reopened : (states : RoleId → State) → names_role c me ≡ true
+        → CanReach goal c kept sent (set_state me (the.make (the.rules.fresh c)) states) → CanReach goal c kept sent states
     reopened states named next w view =
         let s = the.make (the.rules.fresh c) in
         let u = step w (event.Crash me) in
         let a = woken (set_state me Down states) u (stopped states w view) (state_own me Down states) named in
-        let r = next (step u (event.Restart me)) (record { cluster = a.cluster; history = a.history; mail = a.mail; running = λ b. a.running b ∙ sym (set_twice me s Down states b) }) in
+        let r = next (step u (event.Restart me)) (record {
+          cluster = a.cluster;
+          history = a.history;
+          mail = a.mail;
+          running = λ b. a.running b ∙ sym (set_twice me s Down states b);
+        }) in
         (event.Crash me ∷ event.Restart me ∷ r.0, r.1)

@@ -18,11 +18,12 @@ done_with : (client floor n : ℕ) (floors : List Floor) → are_rising n floors
     → is_done m (floor_of k (with_floor client floor floors)) ≡ (is_done m (floor_of k floors) || (client == k && nat_le m floor))
 done_with client floor n [] r k m = go (cases_Bool (client == k))
   where
-    go : ((client == k) ≡ true) ⊎ ((client == k) ≡ false) → is_done m (floor_of k (with_floor client floor [])) ≡ (client == k && nat_le m floor)
+    go : ((client == k) ≡ true) ⊎ ((client == k) ≡ false)
+        → is_done m (floor_of k (with_floor client floor [])) ≡ (client == k && nat_le m floor)
     go (inl e) = rw e refl
     go (inr e) = rw e refl
-done_with client floor n (f ∷ floors) r k m =
-    go (cases_Bool (f.client == client)) (cases_Bool (nat_lt client f.client)) (cases_Bool (client == k)) (cases_Bool (f.client == k)) (done_with client floor (f.client + 1) floors rest k m)
+done_with client floor n (f ∷ floors) r k m = go (cases_Bool (f.client == client)) (cases_Bool (nat_lt client f.client))
+    (cases_Bool (client == k)) (cases_Bool (f.client == k)) (done_with client floor (f.client + 1) floors rest k m)
   where
     rest : are_rising (f.client + 1) floors ≡ true
     rest = (and_parts (nat_le n f.client) (are_rising (f.client + 1) floors) r).1
@@ -33,14 +34,18 @@ done_with client floor n (f ∷ floors) r k m =
     go : ((f.client == client) ≡ true) ⊎ ((f.client == client) ≡ false) → (nat_lt client f.client ≡ true) ⊎ (nat_lt client f.client ≡ false)
         → ((client == k) ≡ true) ⊎ ((client == k) ≡ false) → ((f.client == k) ≡ true) ⊎ ((f.client == k) ≡ false)
         → is_done m (floor_of k (with_floor client floor floors)) ≡ (is_done m (floor_of k floors) || (client == k && nat_le m floor))
-        → is_done m (floor_of k (with_floor client floor (f ∷ floors))) ≡ (is_done m (floor_of k (f ∷ floors)) || (client == k && nat_le m floor))
+        → is_done m (floor_of k (with_floor client floor (f ∷ floors)))
+        ≡ (is_done m (floor_of k (f ∷ floors)) || (client == k && nat_le m floor))
     go (inl s) b (inl t) u h = rw (s, t, same_client k f.client client true (eqb-true f.client client s) t) greater
-    go (inl s) b (inr t) u h = rw (s, t, same_client k f.client client false (eqb-true f.client client s) t) (sym (or_false (is_done m (floor_of k floors))))
+    go (inl s) b (inr t) u h =
+        rw (s, t, same_client k f.client client false (eqb-true f.client client s) t) (sym (or_false (is_done m (floor_of k floors))))
     go (inr s) (inl b) (inl t) u h =
-        let none : floor_of k (f ∷ floors) ≡ None = subst (λ (x : ℕ). floor_of x (f ∷ floors) ≡ None) (eqb-true client k t) (none_placed client f floors s b rest) in
+        let none : floor_of k (f ∷ floors) ≡ None =
+        subst (λ (x : ℕ). floor_of x (f ∷ floors) ≡ None) (eqb-true client k t) (none_placed client f floors s b rest) in
         rw (s, b, none, t) refl
     go (inr s) (inl b) (inr t) u h = rw (s, b, t) (sym (or_false (is_done m (floor_of k (f ∷ floors)))))
-    go (inr s) (inr b) (inl t) (inl u) h = absurd (both_ways (f.client == client) s (same_client client f.client k true (eqb-true f.client k u) (turned_test k client ∙ t)))
+    go (inr s) (inr b) (inl t) (inl u) h =
+        absurd (both_ways (f.client == client) s (same_client client f.client k true (eqb-true f.client k u) (turned_test k client ∙ t)))
     go (inr s) (inr b) (inr t) (inl u) h = rw (s, b, t, u) (sym (or_false (nat_le m f.floor)))
     go (inr s) (inr b) t (inr u) h = rw (s, b, u) h
 
@@ -61,21 +66,26 @@ tells k seq x = go (x.client == k)
     go true h = under seq x.floor h
     go false h = refl
 
-rises_on : (at : ℕ) (m : Machine) (x : Command) → are_rising 0 m.table.floors ≡ true → are_rising 0 (execute at m x).machine.table.floors ≡ true
-rises_on at m x rising = subst (λ l. are_rising 0 l ≡ true) (sym (floors_told at m x)) (still_rising x.client x.floor 0 m.table.floors rising (least x.client))
+rises_on : (at : ℕ) (m : Machine) (x : Command) → are_rising 0 m.table.floors ≡ true
+    → are_rising 0 (execute at m x).machine.table.floors ≡ true
+rises_on at m x rising =
+    subst (λ l. are_rising 0 l ≡ true) (sym (floors_told at m x)) (still_rising x.client x.floor 0 m.table.floors rising (least x.client))
 
-back_one : (k seq at : ℕ) (m : Machine) (x : Command) → are_rising 0 m.table.floors ≡ true → is_done seq (floor_of k (execute at m x).machine.table.floors) ≡ false
+back_one : (k seq at : ℕ) (m : Machine) (x : Command) → are_rising 0 m.table.floors ≡ true
+    → is_done seq (floor_of k (execute at m x).machine.table.floors) ≡ false
     → (is_done seq (floor_of k m.table.floors) ≡ false) × (tells_less k seq x ≡ true)
 back_one k seq at m x rising free =
     let parts = or_both (is_done seq (floor_of k m.table.floors)) (x.client == k && nat_le seq x.floor)
     (sym (ap (λ l. is_done seq (floor_of k l)) (floors_told at m x) ∙ done_with x.client x.floor 0 m.table.floors rising k seq) ∙ free) in
     (parts.0, tells k seq x parts.1)
 
-rises_all : (at : ℕ) (m : Machine) (xs : List Command) → are_rising 0 m.table.floors ≡ true → are_rising 0 (execute_all at m xs).machine.table.floors ≡ true
+rises_all : (at : ℕ) (m : Machine) (xs : List Command) → are_rising 0 m.table.floors ≡ true
+    → are_rising 0 (execute_all at m xs).machine.table.floors ≡ true
 rises_all at m [] rising = rising
 rises_all at m (x ∷ xs) rising = rises_all at (execute at m x).machine xs (rises_on at m x rising)
 
-back_all : (k seq at : ℕ) (m : Machine) (xs : List Command) → are_rising 0 m.table.floors ≡ true → is_done seq (floor_of k (execute_all at m xs).machine.table.floors) ≡ false
+back_all : (k seq at : ℕ) (m : Machine) (xs : List Command) → are_rising 0 m.table.floors ≡ true
+    → is_done seq (floor_of k (execute_all at m xs).machine.table.floors) ≡ false
     → (is_done seq (floor_of k m.table.floors) ≡ false) × (list_all (tells_less k seq) xs ≡ true)
 back_all k seq at m [] rising free = (free, refl)
 back_all k seq at m (x ∷ xs) rising free =
@@ -83,7 +93,8 @@ back_all k seq at m (x ∷ xs) rising free =
     let one = back_one k seq at m x rising rest.0 in
     (one.0, and_from (tells_less k seq x) (list_all (tells_less k seq) xs) one.1 rest.1)
 
-pub back_from : (k seq slot : ℕ) (m : Machine) (vs : List Value) → are_rising 0 m.table.floors ≡ true → is_done seq (floor_of k (machine_from slot m vs).table.floors) ≡ false
+pub back_from : (k seq slot : ℕ) (m : Machine) (vs : List Value) → are_rising 0 m.table.floors ≡ true
+    → is_done seq (floor_of k (machine_from slot m vs).table.floors) ≡ false
     → (is_done seq (floor_of k m.table.floors) ≡ false) × (list_all (tell_less k seq) vs ≡ true)
 back_from k seq slot m [] rising free = (free, refl)
 back_from k seq slot m (v ∷ vs) rising free =

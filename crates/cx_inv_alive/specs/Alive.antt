@@ -1,5 +1,5 @@
--- NO DEAD ENDS. From each world that any list of events reaches, while room is left, further events bring an answer to each command that was
--- submitted. Nothing of it is proved here.
+-- NO DEAD ENDS. From each world that any list of events reaches, while room is left, further events bring an answer to each command that
+-- was submitted. Nothing of it is proved here.
 use Rattle.std.specs.Prelude.{◌≡◌, ℕ, ◌+◌, ◌==◌, ◌&&◌, ◌||◌, not, Bool, true, nat_lt, nat_le, filter, List, length}
 use Rattle.std.specs.List.{list_all}
 use Rattle.cx_base.specs.declared.cluster.Cluster.{Cluster}
@@ -76,7 +76,8 @@ pub record RoundsLeft (c : Cluster) (w : World) (r : ℕ) : Type 0 where
 -- A slot, of 2^40, is left above all that are held or were voted in: the command takes it.
 pub record SlotsLeft (c : Cluster) (w : World) : Type 0 where
   pub replicas : list_all (λ p. nat_lt (held (replica_store w p)) 1099511627776) (below c.replicas) ≡ true
-  pub votes : list_all (λ a. list_all (λ (v : Vote). nat_lt (v.slot + 1) 1099511627776) (acceptor_store w a).votes) (below c.acceptors) ≡ true
+  pub votes : list_all (λ a. list_all (λ (v : Vote). nat_lt (v.slot + 1) 1099511627776) (acceptor_store w a).votes) (below c.acceptors)
+      ≡ true
 
 -- a command of another client, or one that tells a floor below this number
 abbrev pub tells_less : ℕ → ℕ → Command → Bool
@@ -87,8 +88,10 @@ tell_less client seq v = list_all (tells_less client seq) (commands_of v)
 
 -- No replica, and no vote, knows that the client is done with the number: one that said so gets no answer.
 pub record StillWaits (c : Cluster) (w : World) (command : Command) : Type 0 where
-  pub replicas : list_all (λ p. not (is_done command.seq (floor_of command.client (replica_store w p).machine.table.floors))) (below c.replicas) ≡ true
-  pub votes : list_all (λ a. list_all (λ (v : Vote). tell_less command.client command.seq v.value) (acceptor_store w a).votes) (below c.acceptors) ≡ true
+  pub replicas : list_all (λ p. not (is_done command.seq (floor_of command.client (replica_store w p).machine.table.floors)))
+      (below c.replicas) ≡ true
+  pub votes : list_all (λ a. list_all (λ (v : Vote). tell_less command.client command.seq v.value) (acceptor_store w a).votes)
+      (below c.acceptors) ≡ true
 
 -- Room is left: f + 1 of the first set of matchmakers, for which a leader waits, record a round more, and rounds and slots are left.
 pub record IsRoomy (c : Cluster) (w : World) (command : Command) : Type 0 where

@@ -35,9 +35,10 @@ FirstCommandIsAnswered = CanBeAnswered (run three (event.Write put_a 0 ∷ [])) 
 
 -- the acceptor crashes in the append of its vote, which is kept, and then the others crash
 abbrev pub until_crashed : List Event
-until_crashed =
-    event.Order 0 (Lead (single 0)) Whole ∷ event.Deliver 0 Whole ∷ event.Deliver 1 Whole ∷ event.Write put_a 0 ∷ event.Deliver 3 Whole ∷ event.Deliver 4 Whole
-    ∷ event.Deliver 5 Whole ∷ event.Deliver 6 Kept ∷ event.Crash (role kind.Leader 0) ∷ event.Crash (role kind.Proxy 0) ∷ event.Crash (role kind.Batcher 0) ∷ []
+until_crashed = event.Order 0 (Lead (single 0)) Whole ∷ event.Deliver 0 Whole ∷ event.Deliver 1 Whole ∷ event.Write put_a 0
+    ∷ event.Deliver 3 Whole ∷ event.Deliver 4 Whole
+    ∷ event.Deliver 5 Whole ∷ event.Deliver 6 Kept ∷ event.Crash (role kind.Leader 0) ∷ event.Crash (role kind.Proxy 0)
+    ∷ event.Crash (role kind.Batcher 0) ∷ []
 
 -- A command that was voted for by an acceptor that crashed in its vote can be answered after all have crashed.
 abbrev pub VotedCommandIsAnswered : Type 0

@@ -1,5 +1,5 @@
--- The announcement that is promised of one run, that of the events `es` over the cluster `c`: in which step a proxy leader announces that a value is
--- chosen, and whom. Nothing of it is proved here.
+-- The announcement that is promised of one run, that of the events `es` over the cluster `c`: in which step a proxy leader announces that a
+-- value is chosen, and whom. Nothing of it is proved here.
 use Rattle.std.specs.Prelude.{◌≡◌, ℕ, ◌<◌, true, map, List, [], ◌∷◌, ◌++◌}
 use Rattle.cx_base.specs.declared.cluster.Cluster.{Cluster}
 use Rattle.cx_base.specs.declared.command.Value.{Value}

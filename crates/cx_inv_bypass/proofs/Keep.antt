@@ -14,14 +14,16 @@ use Rattle.cx_model.specs.Outcome.{Outcome}
 use Rattle.cx_model.specs.Request.{request}
 use Rattle.cx_model.specs.World.{run}
 use Rattle.cx_inv_run.specs.Laws.{Lands, Laws, anything}
-use Rattle.cx_inv_run.specs.States.{State, Down, Plain, BatcherIn, LeaderIn, ProxyIn, ReplicaIn, ReaderIn, ReplacerIn, plain, fresh_state, set_state, snap_by, with_record, durable_of, HoldsIn}
+use Rattle.cx_inv_run.specs.States.{State, Down, Plain, BatcherIn, LeaderIn, ProxyIn, ReplicaIn, ReaderIn, ReplacerIn, plain, fresh_state}
+use Rattle.cx_inv_run.specs.States.{set_state, snap_by, with_record, durable_of, HoldsIn}
 use Rattle.cx_inv_run.proofs.Histories.{by_role, durable_own, durable_other, durable_else, set_running}
 use Rattle.cx_inv_run.proofs.Steps.{always}
 use Rattle.cx_inv_bypass.specs.Full.{FullIn, FullState, Full}
 use Rattle.cx_inv_bypass.proofs.Rows.{still_full, round_after, leader_full}
 
 -- more datagrams
-sent_more : (history : List KeptRecord) (sent ds : List Letter) (me : RoleId) (s : State) → FullState history sent me s → FullState history (sent ++ ds) me s
+sent_more : (history : List KeptRecord) (sent ds : List Letter) (me : RoleId) (s : State) → FullState history sent me s
+    → FullState history (sent ++ ds) me s
 sent_more history sent ds me (LeaderIn v) h = still_full sent ds _ v.cw v.next v.proposed v.mode h
 sent_more history sent ds me Down h = tt
 sent_more history sent ds me Plain h = tt
@@ -36,7 +38,8 @@ kept_more : (history : List KeptRecord) (sent : List Letter) (me a : RoleId) (r 
     → FullState history sent a s → FullState (with_record me r history) sent a s
 kept_more history sent me a None s e h = h
 kept_more history sent me a (Some r) (LeaderIn v) e h =
-    subst (λ (d : LeaderDurable). FullIn sent (round_of d.own) v.cw v.next v.proposed v.mode) (sym (durable_other leader_rules me a r history e)) h
+    subst (λ (d : LeaderDurable). FullIn sent (round_of d.own) v.cw v.next v.proposed v.mode)
+    (sym (durable_other leader_rules me a r history e)) h
 kept_more history sent me a (Some r) Down e h = tt
 kept_more history sent me a (Some r) Plain e h = tt
 kept_more history sent me a (Some r) (BatcherIn v) e h = tt
@@ -49,7 +52,8 @@ kept_more history sent me a (Some r) (ReplacerIn v) e h = tt
 snap_more : (history : List KeptRecord) (sent : List Letter) (me a : RoleId) (first : ℕ) (s : State) → same_role a me ≡ false
     → FullState history sent a s → FullState (snap_by me first ∷ history) sent a s
 snap_more history sent me a first (LeaderIn v) e h =
-    subst (λ (d : LeaderDurable). FullIn sent (round_of d.own) v.cw v.next v.proposed v.mode) (sym (durable_else leader_rules me a first history e)) h
+    subst (λ (d : LeaderDurable). FullIn sent (round_of d.own) v.cw v.next v.proposed v.mode)
+    (sym (durable_else leader_rules me a first history e)) h
 snap_more history sent me a first Down e h = tt
 snap_more history sent me a first Plain e h = tt
 snap_more history sent me a first (BatcherIn v) e h = tt
@@ -58,7 +62,8 @@ snap_more history sent me a first (ReplicaIn v) e h = tt
 snap_more history sent me a first (ReaderIn v) e h = tt
 snap_more history sent me a first (ReplacerIn v) e h = tt
 
-fresh_full : (history : List KeptRecord) (sent : List Letter) (c : Cluster) (me : RoleId) (k : Kind) → FullState history sent me (fresh_state c k)
+fresh_full : (history : List KeptRecord) (sent : List Letter) (c : Cluster) (me : RoleId) (k : Kind)
+    → FullState history sent me (fresh_state c k)
 fresh_full history sent c me kind.Client = tt
 fresh_full history sent c me kind.Batcher = tt
 fresh_full history sent c me kind.Leader = tt
@@ -79,13 +84,14 @@ module _ (history : List KeptRecord) (sent : List Letter) (states : RoleId → S
       (λ a e. sent_more (with_record me r history) sent ds a (states a) (kept_more history sent me a r (states a) e (h a)))
 
   -- one that sends nothing
-  calm_step : (me : RoleId) (r : Option Record) (s : State) → FullState (with_record me r history) sent me s → Full (with_record me r history) sent (set_state me s states)
+  calm_step : (me : RoleId) (r : Option Record) (s : State) → FullState (with_record me r history) sent me s
+      → Full (with_record me r history) sent (set_state me s states)
   calm_step me r s own =
       subst (λ ds. Full (with_record me r history) ds (set_state me s states)) (append-nil sent)
       (after_step me r [] s (sent_more (with_record me r history) sent [] me s own))
 
-  lands_full : {V : Type 0} (me : RoleId) (make : V → State) (o : Outcome V) → FullState (with_record me o.kept history) (sent ++ o.sends) me (make o.volatile)
-      → Lands Full history sent states me make o
+  lands_full : {V : Type 0} (me : RoleId) (make : V → State) (o : Outcome V)
+      → FullState (with_record me o.kept history) (sent ++ o.sends) me (make o.volatile) → Lands Full history sent states me make o
   lands_full me make o own = record {
     whole = after_step me o.kept o.sends (make o.volatile) own;
     cut = λ r e. calm_step me (Some r) Down tt;
@@ -93,10 +99,11 @@ module _ (history : List KeptRecord) (sent : List Letter) (states : RoleId → S
 
 -- the round of a leader after its record is the one of the row
 row_state : (history : List KeptRecord) (sent : List Letter) (me : RoleId) (r : Option Record) (v : LeaderVolatile)
-    → FullIn sent (round_after (durable_of leader_rules me history) r) v.cw v.next v.proposed v.mode → FullState (with_record me r history) sent me (LeaderIn v)
+    → FullIn sent (round_after (durable_of leader_rules me history) r) v.cw v.next v.proposed v.mode
+    → FullState (with_record me r history) sent me (LeaderIn v)
 row_state history sent me None v h = h
-row_state history sent me (Some r) v h =
-    subst (λ (d : LeaderDurable). FullIn sent (round_of d.own) v.cw v.next v.proposed v.mode) (sym (durable_own leader_rules me r history)) h
+row_state history sent me (Some r) v h = subst (λ (d : LeaderDurable). FullIn sent (round_of d.own) v.cw v.next v.proposed v.mode)
+    (sym (durable_own leader_rules me r history)) h
 
 start_full : (c : Cluster) (me : RoleId) (k : Kind) (s : State) → (s ≡ Down) ⊎ (s ≡ fresh_state c k) → FullState [] [] me s
 start_full c me k s (inl e) = subst (λ (x : State). FullState [] [] me x) (sym e) tt
@@ -123,7 +130,8 @@ full_laws c = record {
   snap = λ kept sent states p v first known h is e.
       let me = role kind.Replica p in
       by_role (λ a. FullState (snap_by me first ∷ kept) sent a (states a)) me
-      (subst (λ (s : State). FullState (snap_by me first ∷ kept) sent me s) (sym is) tt) (λ a f. snap_more kept sent me a first (states a) f (h a));
+      (subst (λ (s : State). FullState (snap_by me first ∷ kept) sent me s) (sym is) tt)
+      (λ a f. snap_more kept sent me a first (states a) f (h a));
   unbatcher = λ kept sent states u i known h is given. lands_full kept sent states h (role kind.Unbatcher u) plain _ tt;
   reader = λ kept sent states r v i known h is given. lands_full kept sent states h (role kind.Reader r) ReaderIn _ tt;
   replacer = λ kept sent states x v i known h is given. lands_full kept sent states h (role kind.Replacer x) ReplacerIn _ tt;

@@ -1,5 +1,7 @@
--- Each row of a leader leaves its window full while it leads, and while it goes on with another grid; and the word `bypassed` is that of one row.
-use Rattle.std.proofs.Common.{◌≡◌, ◌≤◌, ◌+◌, ◌-◌, ℕ, Bool, true, false, not, ◌&&◌, ◌||◌, max, ◌==◌, List, [], ◌∷◌, ◌++◌, map, filter, Option, None, Some, ap, sym, subst, ◌∙◌, refl, inl, inr, arith}
+-- Each row of a leader leaves its window full while it leads, and while it goes on with another grid; and the word `bypassed` is that of
+-- one row.
+use Rattle.std.proofs.Common.{◌≡◌, ◌≤◌, ◌+◌, ◌-◌, ℕ, Bool, true, false, not, ◌&&◌, ◌||◌, max, ◌==◌, List, [], ◌∷◌, ◌++◌, map, filter}
+use Rattle.std.proofs.Common.{Option, None, Some, ap, sym, subst, ◌∙◌, refl, inl, inr, arith}
 use Rattle.std.specs.Prelude.{nat_le, nat_lt, length, if◌then◌else◌, slice_index_or, slice_set}
 use Rattle.std.proofs.lemmas.Bool.{true≢false, and_parts, not-false}
 use Rattle.std.proofs.lemmas.Bool.Decides.{nat_tests}
@@ -31,7 +33,10 @@ use Rattle.cx_model.specs.declared.states.Mode.{Mode}
 use Rattle.cx_model.specs.declared.states.Mode.TheVariants.{Idle, Matching, Phase1, Leading}
 use Rattle.cx_model.specs.Collection.{Collection, with_informed, with_forgotten, is_off, is_informing, is_collecting, is_retired}
 use Rattle.cx_model.specs.Facts.{IsProposed}
-use Rattle.cx_model.specs.Leader.{LeaderDurable, LeaderVolatile, leader_after, round_of, is_own, is_changed, is_idle, is_matching, is_promising, is_leading, leads_to, propose_to, begin_in, finish, bypass, matched_by, match_counted, promise_counted, propose_in, held_by, collect_in, informed_in, forgotten_counted, set_learnt, is_past_window, is_settled, leader_takes, tick_in, order_row, leader_row, has_no_room}
+use Rattle.cx_model.specs.Leader.{LeaderDurable, LeaderVolatile, leader_after, round_of, is_own, is_changed, is_idle, is_matching}
+use Rattle.cx_model.specs.Leader.{is_promising, is_leading, leads_to, propose_to, begin_in, finish, bypass, matched_by, match_counted}
+use Rattle.cx_model.specs.Leader.{promise_counted, propose_in, held_by, collect_in, informed_in, forgotten_counted, set_learnt}
+use Rattle.cx_model.specs.Leader.{is_past_window, is_settled, leader_takes, tick_in, order_row, leader_row, has_no_room}
 use Rattle.cx_model.specs.Matched.{enough, is_counted, live_entries, is_member_of, rows_whole}
 use Rattle.cx_model.specs.Member.{Member}
 use Rattle.cx_model.specs.Names.{names, names_grid}
@@ -46,8 +51,10 @@ use Rattle.cx_inv_bypass.proofs.Windows.{slots_of, slots-more, slots-from, plan-
 pub proposed_still : (sent ds : List Letter) (i : Round) (s : ℕ) (v : Value) → IsProposed sent i s v → IsProposed (sent ++ ds) i s v
 proposed_still sent ds i s v p = (p.0, p.1, p.2, p.3, Member-first _ sent ds p.4)
 
-full_still : (sent ds : List Letter) (i : Round) (cw next : ℕ) (proposed : List Placed) → IsFull sent i cw next proposed → IsFull (sent ++ ds) i cw next proposed
-full_still sent ds i cw next proposed h = record { window = h.window; slots = h.slots; each = λ p m. proposed_still sent ds i p.slot p.value (h.each p m) }
+full_still : (sent ds : List Letter) (i : Round) (cw next : ℕ) (proposed : List Placed) → IsFull sent i cw next proposed
+    → IsFull (sent ++ ds) i cw next proposed
+full_still sent ds i cw next proposed h =
+    record { window = h.window; slots = h.slots; each = λ p m. proposed_still sent ds i p.slot p.value (h.each p m) }
 
 pub still_full : (sent ds : List Letter) (i : Round) (cw next : ℕ) (proposed : List Placed) (mode : Mode)
     → FullIn sent i cw next proposed mode → FullIn (sent ++ ds) i cw next proposed mode
@@ -110,7 +117,8 @@ module _ (c : Cluster) (me : RoleId) (sent : List Letter) (d : LeaderDurable) (v
       × (o.why ≡ why.Bypassed → IsBypassing c me sent d o)
 
   -- a row with another word that keeps nothing
-  says : (w : Why) (u : LeaderVolatile) (ds : List Letter) → is_bypassed w ≡ false → FullIn sent (round_of d.own) u.cw u.next u.proposed u.mode → Good (replied w u ds)
+  says : (w : Why) (u : LeaderVolatile) (ds : List Letter) → is_bypassed w ≡ false
+      → FullIn sent (round_of d.own) u.cw u.next u.proposed u.mode → Good (replied w u ds)
   says w u ds f full = (still_full sent ds (round_of d.own) u.cw u.next u.proposed u.mode full, other_word f)
 
   -- and leaves the window
@@ -138,9 +146,10 @@ module _ (c : Cluster) (me : RoleId) (sent : List Letter) (d : LeaderDurable) (v
   )
 
   led : (own : Entry) → d.own ≡ Some own → (cw next : ℕ) (ps : List Placed) → cw ≤ next → slots_of ps ≡ numbers cw (next - cw)
-      → FullIn (sent ++ (map (propose_to c me own cw) ps ++ map (leads_to me own.round) (below c.batchers))) (round_of d.own) cw next ps Leading
-  led own e cw next ps l slots =
-      subst (λ (o : Option Entry). IsFull (sent ++ (map (propose_to c me own cw) ps ++ map (leads_to me own.round) (below c.batchers))) (round_of o) cw next ps) (sym e)
+      → FullIn (sent ++ (map (propose_to c me own cw) ps ++ map (leads_to me own.round) (below c.batchers))) (round_of d.own) cw
+      next ps Leading
+  led own e cw next ps l slots = subst (λ (o : Option Entry).
+      IsFull (sent ++ (map (propose_to c me own cw) ps ++ map (leads_to me own.round) (below c.batchers))) (round_of o) cw next ps) (sym e)
       record { window = l; slots = slots; each = asked own cw ps (map (leads_to me own.round) (below c.batchers)) }
 
   finish_full : (own : Entry) → d.own ≡ Some own → (w : LeaderVolatile) → Good (finish c me own w)
@@ -169,15 +178,16 @@ module _ (c : Cluster) (me : RoleId) (sent : List Letter) (d : LeaderDurable) (v
   matched_full own e w [] = finish_full own e w
   matched_full own e w (x ∷ es) = (tt, other_word refl)
 
-  match_counted_full : (o : Option Entry) → d.own ≡ o → is_matching v.mode ≡ true → (w : LeaderVolatile) → w.cw ≡ v.cw → w.next ≡ v.next → w.proposed ≡ v.proposed
-      → w.mode ≡ v.mode → Good (match_counted c me o w)
+  match_counted_full : (o : Option Entry) → d.own ≡ o → is_matching v.mode ≡ true → (w : LeaderVolatile) → w.cw ≡ v.cw → w.next ≡ v.next
+      → w.proposed ≡ v.proposed → w.mode ≡ v.mode → Good (match_counted c me o w)
   match_counted_full None e t w cw next proposed mode = (rw (cw, next, proposed, mode) (same why.Old refl).0, other_word refl)
   match_counted_full (Some own) e t w cw next proposed mode =
       either_way Good (nat_lt (length w.told) (enough c)) _ _ (rw (cw, next, proposed, mode) (same why.Counted refl).0, other_word refl)
-      (by_test Good (is_changed own.round) _ _ (λ changed. bypass_full own e changed t w cw next proposed) (λ f. matched_full own e w (live_entries w.told)))
+      (by_test Good (is_changed own.round) _ _ (λ changed. bypass_full own e changed t w cw next proposed)
+      (λ f. matched_full own e w (live_entries w.told)))
 
-  promise_counted_full : (o : Option Entry) → d.own ≡ o → (w : LeaderVolatile) → w.cw ≡ v.cw → w.next ≡ v.next → w.proposed ≡ v.proposed → w.mode ≡ v.mode
-      → Good (promise_counted c me o w)
+  promise_counted_full : (o : Option Entry) → d.own ≡ o → (w : LeaderVolatile) → w.cw ≡ v.cw → w.next ≡ v.next → w.proposed ≡ v.proposed
+      → w.mode ≡ v.mode → Good (promise_counted c me o w)
   promise_counted_full None e w cw next proposed mode = (rw (cw, next, proposed, mode) (same why.Old refl).0, other_word refl)
   promise_counted_full (Some own) e w cw next proposed mode =
       either_way Good (rows_whole (live_entries w.told) (promised_by w.promises)) _ _ (finish_full own e w)
@@ -243,10 +253,12 @@ module _ (c : Cluster) (me : RoleId) (sent : List Letter) (d : LeaderDurable) (v
   informed_full from (Some own) =
       either_way Good (not (is_in from.index own.grid.members)) _ _ (same why.Unasked refl)
       (either_way Good (is_in from.index v.collection.counted) _ _ (same why.Same refl)
-      (either_way Good (is_collecting (with_informed own.grid from.index v.collection).stage) _ _ (says why.Collecting _ _ refl h) (says why.Counted _ [] refl h)))
+      (either_way Good (is_collecting (with_informed own.grid from.index v.collection).stage) _ _ (says why.Collecting _ _ refl h)
+      (says why.Counted _ [] refl h)))
 
   forgotten_full : (k : Collection) → Good (forgotten_counted v k)
-  forgotten_full k = says (if is_retired k.stage then why.Retired else why.Counted) (record v { collection = k }) [] (other (is_retired k.stage)) h
+  forgotten_full k =
+      says (if is_retired k.stage then why.Retired else why.Counted) (record v { collection = k }) [] (other (is_retired k.stage)) h
     where
       other : (b : Bool) → is_bypassed (if b then why.Retired else why.Counted) ≡ false
       other true = refl
@@ -275,9 +287,8 @@ module _ (c : Cluster) (me : RoleId) (sent : List Letter) (d : LeaderDurable) (v
 
   order_full : (order : OrderOf) → Good (order_row c me d v order)
   order_full (Lead g) =
-      either_way Good (names_grid c g) _ _
-      (begin_full g (lead_after (round_of d.own) v.seen me.index) (λ i e t. absurd (true≢false (sym t ∙ lead_first (round_of d.own) v.seen i me.index e))))
-      (same why.Stranger refl)
+      either_way Good (names_grid c g) _ _ (begin_full g (lead_after (round_of d.own) v.seen me.index)
+      (λ i e t. absurd (true≢false (sym t ∙ lead_first (round_of d.own) v.seen i me.index e)))) (same why.Stranger refl)
   order_full (Change g) =
       either_way Good (not (names_grid c g)) _ _ (same why.Stranger refl)
       (by_test Good (not (is_leading v.mode)) _ _ (λ t. same why.Idle refl)
@@ -296,24 +307,24 @@ module _ (c : Cluster) (me : RoleId) (sent : List Letter) (d : LeaderDurable) (v
       (either_way Good (has_no_room reason) _ _ (says why.Full _ [] refl h) (tt, other_word refl))
   takes_full from (msg.Phase1B i cw votes) =
       either_way Good (not (is_promising v.mode && is_own d i)) _ _ (same why.Old refl)
-      (either_way Good (not (is_member_of (live_entries v.told) from.index)) _ _ (same why.Unasked refl)
-      (either_way Good (has_promised from.index v.promises) _ _ (same why.Same refl) (promise_counted_full d.own refl _ refl refl refl refl)))
+      (either_way Good (not (is_member_of (live_entries v.told) from.index)) _ _ (same why.Unasked refl) (either_way Good
+      (has_promised from.index v.promises) _ _ (same why.Same refl) (promise_counted_full d.own refl _ refl refl refl refl)))
   takes_full from (msg.Nack i promise) =
       either_way Good (is_idle v.mode || not (is_own d i)) _ _ (says why.Old _ [] refl h) (tt, other_word refl)
-  takes_full from (msg.Batch commands) = by_test Good (is_leading v.mode) _ _ (λ t. propose_full t commands d.own refl) (λ f. same why.Idle refl)
+  takes_full from (msg.Batch commands) =
+      by_test Good (is_leading v.mode) _ _ (λ t. propose_full t commands d.own refl) (λ f. same why.Idle refl)
   takes_full from (msg.ChosenIn i s) =
       either_way Good (not (is_leading v.mode && is_own d i)) _ _ (same why.Old refl)
-      (either_way Good (nat_lt s v.cw) _ _ (same why.Past refl)
-      (either_way Good (nat_le v.next s) _ _ (same why.Unasked refl) (either_way Good (is_in s v.chosen) _ _ (same why.Same refl) (says why.Chosen _ [] refl h))))
+      (either_way Good (nat_lt s v.cw) _ _ (same why.Past refl) (either_way Good (nat_le v.next s) _ _ (same why.Unasked refl)
+      (either_way Good (is_in s v.chosen) _ _ (same why.Same refl) (says why.Chosen _ [] refl h))))
   takes_full from (msg.Held n) =
       either_way Good (nat_le n (slice_index_or v.held from.index 0)) _ _ (same why.Same refl)
       (says why.Held _ [] refl (raised_in (round_of d.own) (held_by (enough c) (slice_set v.held from.index n)) v.mode h))
   takes_full from (msg.Informed i cw) =
       either_way Good (not (is_leading v.mode && is_own d i && is_informing v.collection.stage && nat_le v.collection.mark cw)) _ _
       (same why.Old refl) (informed_full from d.own)
-  takes_full from (msg.GarbageB i) =
-      either_way Good (not (is_leading v.mode && is_own d i && is_collecting v.collection.stage && is_in from.index v.set)) _ _ (same why.Old refl)
-      (either_way Good (is_in from.index v.collection.counted) _ _ (same why.Same refl)
+  takes_full from (msg.GarbageB i) = either_way Good (not (is_leading v.mode && is_own d i && is_collecting v.collection.stage
+      && is_in from.index v.set)) _ _ (same why.Old refl) (either_way Good (is_in from.index v.collection.counted) _ _ (same why.Same refl)
       (forgotten_full (with_forgotten (enough c) from.index v.collection)))
   takes_full from (msg.Sets s) = either_way Good (is_above s v.set) _ _ (learnt_full s v.mode d.own) (same why.Old refl)
   takes_full from other = same why.Stranger refl

@@ -1,5 +1,6 @@
 -- The word `bypassed` of an event is that of a leader's row, so the event does what the row does.
-use Rattle.std.proofs.Common.{◌≡◌, ◌≤◌, ◌<◌, ℕ, ◌+◌, ◌-◌, Bool, true, false, List, [], ◌∷◌, ◌++◌, map, reverse, Option, Some, None, ap, sym, ◌∙◌, subst, refl, inl, inr, arith}
+use Rattle.std.proofs.Common.{◌≡◌, ◌≤◌, ◌<◌, ℕ, ◌+◌, ◌-◌, Bool, true, false, List, [], ◌∷◌, ◌++◌, map, reverse, Option, Some, None, ap, sym}
+use Rattle.std.proofs.Common.{◌∙◌, subst, refl, inl, inr, arith}
 use Rattle.std.specs.Prelude.{slice_get, length}
 use Rattle.std.proofs.lemmas.Bool.{true≢false}
 use Rattle.std.proofs.lemmas.Option.{same_Some}
@@ -61,7 +62,8 @@ abbrev is_proposal : Msg → Bool
 is_proposal (msg.Propose i g s cw v) = true
 is_proposal other = false
 
-propose_parts : (i j : Round) (g k : Shape) (s t cw low : ℕ) (u v : Value) → msg.Propose i g s cw u ≡ msg.Propose j k t low v → (i ≡ j) × (s ≡ t) × (u ≡ v)
+propose_parts : (i j : Round) (g k : Shape) (s t cw low : ℕ) (u v : Value) → msg.Propose i g s cw u ≡ msg.Propose j k t low v
+    → (i ≡ j) × (s ≡ t) × (u ≡ v)
 propose_parts i j g k s t cw low u v e = (cc, cc, cc)
 
 module _ (c : Cluster) (me : RoleId) (own : Entry) (cw : ℕ) (ps : List Placed) where
@@ -71,12 +73,19 @@ module _ (c : Cluster) (me : RoleId) (own : Entry) (cw : ℕ) (ps : List Placed)
   no_question : (from to : RoleId) (k : Round) → Member (letter from to (msg.Phase1A k)) sends → ⊥
   no_question from to k m = elim (Member-cases _ (map (propose_to c me own cw) ps) (map (leads_to me own.round) (below c.batchers)) m) [
     | inl p ↦ (let r = Member-map (propose_to c me own cw) _ ps p in absurd (true≢false (ap (λ (d : Letter). is_question d.msg) r.2)))
-    | inr q ↦ (let r = Member-map (leads_to me own.round) _ (below c.batchers) q in absurd (true≢false (ap (λ (d : Letter). is_question d.msg) r.2)))
+    | inr q ↦ (let r = Member-map (leads_to me own.round) _ (below c.batchers) q in
+        absurd (true≢false (ap (λ (d : Letter). is_question d.msg) r.2)))
   ]
 
   asks_for : (p : Placed) → Member p ps → IsProposed sends own.round p.slot p.value
-  asks_for p m =
-      (me, _, own.grid, cw, Member-first _ (map (propose_to c me own cw) ps) (map (leads_to me own.round) (below c.batchers)) (map-Member (propose_to c me own cw) p ps m))
+  asks_for p m = (
+    me,
+    _,
+    own.grid,
+    cw,
+    Member-first _ (map (propose_to c me own cw) ps) (map (leads_to me own.round) (below c.batchers))
+        (map-Member (propose_to c me own cw) p ps m),
+  )
 
   -- each proposal is of one of the values
   record IsOne (j : Round) (s : ℕ) (v : Value) : Type 0 where
@@ -91,7 +100,8 @@ module _ (c : Cluster) (me : RoleId) (own : Entry) (cw : ℕ) (ps : List Placed)
     | inl x ↦ (let r = Member-map (propose_to c me own cw) _ ps x in
         let same = propose_parts j own.round h.2 own.grid s (r.0).slot h.3 cw v (r.0).value (ap (λ (d : Letter). d.msg) r.2) in
         record { round = same.0; placed = r.0; member = r.1; slot = same.1; value = same.2 })
-    | inr y ↦ (let r = Member-map (leads_to me own.round) _ (below c.batchers) y in absurd (true≢false (ap (λ (d : Letter). is_proposal d.msg) r.2)))
+    | inr y ↦ (let r = Member-map (leads_to me own.round) _ (below c.batchers) y in
+        absurd (true≢false (ap (λ (d : Letter). is_proposal d.msg) r.2)))
   ]
 
 -- what a change does that answers `bypassed`
@@ -101,7 +111,8 @@ record Did (w : World) (ch : Change) (i : Round) : Type 0 where
   follows : change_after before ≡ Some i
   cw : ℕ
   end : ℕ
-  finish : finish_by (length w.events + 1) ch.who ch.why ch.roles w.kept ≡ record { event = length w.events + 1; round = i; cw = cw; end = end } ∷ []
+  finish : finish_by (length w.events + 1) ch.who ch.why ch.roles w.kept
+      ≡ record { event = length w.events + 1; round = i; cw = cw; end = end } ∷ []
   proposes : (s : ℕ) → cw ≤ s → s < end → (v : Value) × IsProposed w.sent before s v × IsProposed ch.sends i s v
   only : (j : Round) (s : ℕ) (v : Value) → IsProposed ch.sends j s v → (j ≡ i) × (cw ≤ s) × (s < end) × IsProposed w.sent before s v
 
@@ -118,15 +129,14 @@ module _ (c : Cluster) (w : World) (is_c : w.cluster ≡ c) (full : HoldsIn Full
     d = durable_part leader_rules me w.kept
 
     its_window : FullIn w.sent (round_of d.own) v.cw v.next v.proposed v.mode
-    its_window =
-        subst (λ (x : LeaderDurable). FullIn w.sent (round_of x.own) v.cw v.next v.proposed v.mode) (sym (durable_by_time leader_rules me w.kept))
-        (subst (λ (s : State). FullState (reverse w.kept) w.sent me s) running (full me))
+    its_window = subst (λ (x : LeaderDurable). FullIn w.sent (round_of x.own) v.cw v.next v.proposed v.mode)
+        (sym (durable_by_time leader_rules me w.kept)) (subst (λ (s : State). FullState (reverse w.kept) w.sent me s) running (full me))
 
     abbrev left_by : Outcome LeaderVolatile → Change
     left_by o = changed LeaderIn me w.roles (whole_turn o)
 
-    row_did : (own : Entry) (last : LeaderVolatile) (j : Round) → d.own ≡ Some own → change_after j ≡ Some own.round → IsFull w.sent j last.cw last.next last.proposed
-        → Did w (left_by (bypass c me own last)) (round_of d.own)
+    row_did : (own : Entry) (last : LeaderVolatile) (j : Round) → d.own ≡ Some own → change_after j ≡ Some own.round
+        → IsFull w.sent j last.cw last.next last.proposed → Did w (left_by (bypass c me own last)) (round_of d.own)
     row_did own last j e follows window =
         let same : own.round ≡ round_of d.own = ap round_of (sym e) in
         record {
@@ -135,7 +145,8 @@ module _ (c : Cluster) (w : World) (is_c : w.cluster ≡ c) (full : HoldsIn Full
           follows = follows ∙ ap (λ (x : Round). Some x) same;
           cw = last.cw;
           end = last.next;
-          finish = ap (λ (s : State). finish_with (length w.events + 1) (round_of d.own) s) (state_own me (LeaderIn ((bypass c me own last).volatile)) w.roles);
+          finish = ap (λ (s : State). finish_with (length w.events + 1) (round_of d.own) s)
+              (state_own me (LeaderIn ((bypass c me own last).volatile)) w.roles);
           proposes = λ s low high.
               let there = Member-map (λ (p : Placed). p.slot) s last.proposed
               (subst (λ (ns : List ℕ). Member s ns) (sym window.slots)
@@ -150,12 +161,13 @@ module _ (c : Cluster) (w : World) (is_c : w.cluster ≡ c) (full : HoldsIn Full
           only = λ k s u h.
               let found = asked_for c me own last.cw last.proposed k s u h in
               let p = found.placed in
-              let there = numbers-Member p.slot last.cw (last.next - last.cw)
-              (subst (λ (ns : List ℕ). Member p.slot ns) window.slots (map-Member (λ (q : Placed). q.slot) p last.proposed found.member)) in (
+              let there = numbers-Member p.slot last.cw (last.next - last.cw) (subst (λ (ns : List ℕ). Member p.slot ns) window.slots
+              (map-Member (λ (q : Placed). q.slot) p last.proposed found.member)) in (
                 found.round ∙ same,
                 let low = there.0 in let at = found.slot in omega arith,
                 let high = there.1 in let low = there.0 in let at = found.slot in let l = window.window in omega arith,
-                subst (λ n. IsProposed w.sent j n u) (sym found.slot) (subst (λ x. IsProposed w.sent j p.slot x) (sym found.value) (window.each p found.member)),
+                subst (λ n. IsProposed w.sent j n u) (sym found.slot)
+                    (subst (λ x. IsProposed w.sent j p.slot x) (sym found.value) (window.each p found.member)),
               );
         }
 
@@ -177,7 +189,8 @@ module _ (c : Cluster) (w : World) (is_c : w.cluster ≡ c) (full : HoldsIn Full
     abbrev DoneBy : Turn LeaderVolatile → Type 0
     DoneBy t = t.why ≡ why.Bypassed → Did w (changed LeaderIn (role kind.Leader l) w.roles t) (last_round (role kind.Leader l))
 
-    turn_did : (x : Act) (running : Option LeaderVolatile) → ((v : LeaderVolatile) → running ≡ Some v → w.roles (role kind.Leader l) ≡ LeaderIn v)
+    turn_did : (x : Act) (running : Option LeaderVolatile)
+        → ((v : LeaderVolatile) → running ≡ Some v → w.roles (role kind.Leader l) ≡ LeaderIn v)
         → DoneBy (turn leader_rules c (role kind.Leader l) (durable_part leader_rules (role kind.Leader l) w.kept) x running)
     turn_did (Give i cut) None found word = other_word refl word
     turn_did (Give i cut) (Some v) found word = cut_did l v (found v refl) i cut _ word
@@ -190,7 +203,8 @@ module _ (c : Cluster) (w : World) (is_c : w.cluster ≡ c) (full : HoldsIn Full
         (λ word. other_word refl word) (λ word. other_word refl word) word
     turn_did Wake (Some v) found word = other_word refl word
 
-    leader_did : DoneBy (turn leader_rules c (role kind.Leader l) (durable_part leader_rules (role kind.Leader l) w.kept) act (leader_volatile (w.roles (role kind.Leader l))))
+    leader_did : DoneBy (turn leader_rules c (role kind.Leader l) (durable_part leader_rules (role kind.Leader l) w.kept) act
+        (leader_volatile (w.roles (role kind.Leader l))))
     leader_did = turn_did act _ (only_leader (w.roles (role kind.Leader l)))
 
   -- an event at a leader `who`
@@ -206,8 +220,8 @@ module _ (c : Cluster) (w : World) (is_c : w.cluster ≡ c) (full : HoldsIn Full
     act_did act a kind.Leader is at word =
         let own : a ≡ role kind.Leader a.index = named kind.Leader a is in
         subst (λ (x : RoleId). Did w (act_of c w.roles w.kept act a kind.Leader) (last_round x)) (same_Some a who at)
-        (subst (λ (x : RoleId). (act_of c w.roles w.kept act x kind.Leader).why ≡ why.Bypassed → Did w (act_of c w.roles w.kept act x kind.Leader) (last_round x)) (sym own)
-        (leader_did a.index act) word)
+        (subst (λ (x : RoleId). (act_of c w.roles w.kept act x kind.Leader).why ≡ why.Bypassed
+        → Did w (act_of c w.roles w.kept act x kind.Leader) (last_round x)) (sym own) (leader_did a.index act) word)
     act_did act a kind.Batcher is at word = absurd (no_leader a kind.Batcher (λ p. cc) is at)
     act_did act a kind.Proxy is at word = absurd (no_leader a kind.Proxy (λ p. cc) is at)
     act_did act a kind.Acceptor is at word = absurd (no_leader a kind.Acceptor (λ p. cc) is at)
@@ -227,14 +241,20 @@ module _ (c : Cluster) (w : World) (is_c : w.cluster ≡ c) (full : HoldsIn Full
     ask_did : (e : Event) (t : Token) → DidSo (ask w e (Some t))
     ask_did e t =
         either_way DidSo (is_stale t e w.events)
-        (nothing (Some (role kind.Client t.client)) w.roles why.Stale)
-        (record { who = Some (role kind.Client t.client); why = why.Sent; roles = w.roles; kept = []; sends = request (heard_by t.client w.sent w.events) e })
-        (λ at word. other_word refl word) (λ at word. other_word refl word)
+        (nothing (Some (role kind.Client t.client)) w.roles why.Stale) (record {
+          who = Some (role kind.Client t.client);
+          why = why.Sent;
+          roles = w.roles;
+          kept = [];
+          sends = request (heard_by t.client w.sent w.events) e;
+        }) (λ at word. other_word refl word) (λ at word. other_word refl word)
 
     event_did : (e : Event) → DidSo (change w e)
     event_did (event.Write command batcher) = ask_did (event.Write command batcher) (record { client = command.client; seq = command.seq })
-    event_did (event.Read client seq floor reader replica key) = ask_did (event.Read client seq floor reader replica key) (record { client = client; seq = seq })
-    event_did (event.Session client seq floor replica key) = ask_did (event.Session client seq floor replica key) (record { client = client; seq = seq })
+    event_did (event.Read client seq floor reader replica key) =
+        ask_did (event.Read client seq floor reader replica key) (record { client = client; seq = seq })
+    event_did (event.Session client seq floor replica key) =
+        ask_did (event.Session client seq floor replica key) (record { client = client; seq = seq })
     event_did (event.Deliver n cut) = come_did cut (slice_get w.sent n)
     event_did (event.Tick r) = at_did (Give input.Tick Whole) r
     event_did (event.Order l order cut) = at_did (Give (input.Order order) cut) (role kind.Leader l)

@@ -1,5 +1,6 @@
 -- The slots of a window as numbers: one more at its end, the ones below a bound dropped, and those of the values that a plan places.
-use Rattle.std.proofs.Common.{◌≡◌, ◌≤◌, ◌<◌, ◌+◌, ◌-◌, ℕ, zero, suc, Bool, true, false, cond, List, [], ◌∷◌, ◌++◌, map, filter, max, ap, ◌∙◌, refl, inl, inr, arith}
+use Rattle.std.proofs.Common.{◌≡◌, ◌≤◌, ◌<◌, ◌+◌, ◌-◌, ℕ, zero, suc, Bool, true, false, cond, List, [], ◌∷◌, ◌++◌, map, filter, max, ap}
+use Rattle.std.proofs.Common.{◌∙◌, refl, inl, inr, arith}
 use Rattle.std.specs.Prelude.{nat_le}
 use Rattle.std.proofs.lemmas.Bool.{cases_Bool}
 use Rattle.std.proofs.lemmas.Bool.Decides.{nat_tests}
@@ -51,10 +52,11 @@ filter-dropped bound n ns l = dropped (nat_le bound n) n (filter (λ s. nat_le b
 
 numbers-all : (bound first count : ℕ) → bound ≤ first → filter (λ s. nat_le bound s) (numbers first count) ≡ numbers first count
 numbers-all bound first zero l = refl
-numbers-all bound first (suc count) l =
-    filter-kept bound first (numbers (first + 1) count) l ∙ ap (λ (ns : List ℕ). first ∷ ns) (numbers-all bound (first + 1) count (omega arith))
+numbers-all bound first (suc count) l = filter-kept bound first (numbers (first + 1) count) l
+    ∙ ap (λ (ns : List ℕ). first ∷ ns) (numbers-all bound (first + 1) count (omega arith))
 
-numbers-from : (bound first count : ℕ) → first ≤ bound → filter (λ s. nat_le bound s) (numbers first count) ≡ numbers bound (first + count - bound)
+numbers-from : (bound first count : ℕ) → first ≤ bound
+    → filter (λ s. nat_le bound s) (numbers first count) ≡ numbers bound (first + count - bound)
 numbers-from bound first zero l = let e : 0 ≡ first + zero - bound = omega arith in ap (λ n. numbers bound n) e
 numbers-from bound first (suc count) l = elim (cases_Bool (nat_le bound first)) [
   | inl t ↦ (let same : first ≡ bound = grind (arith, nat_tests) in
@@ -62,7 +64,8 @@ numbers-from bound first (suc count) l = elim (cases_Bool (nat_le bound first)) 
       numbers-all bound first (suc count) (omega arith) ∙ ap (λ k. numbers k (suc count)) same ∙ ap (λ k. numbers bound k) n)
   | inr f ↦ (let below : first < bound = grind (arith, nat_tests) in
       let n : first + 1 + count - bound ≡ first + suc count - bound = omega arith in
-      filter-dropped bound first (numbers (first + 1) count) below ∙ numbers-from bound (first + 1) count (omega arith) ∙ ap (λ k. numbers bound k) n)
+      filter-dropped bound first (numbers (first + 1) count) below ∙ numbers-from bound (first + 1) count (omega arith)
+      ∙ ap (λ k. numbers bound k) n)
 ]
 
 slots-step : (bound : ℕ) (p : Placed) (ps : List Placed) (b : Bool)
@@ -72,7 +75,8 @@ slots-step : (bound : ℕ) (p : Placed) (ps : List Placed) (b : Bool)
 slots-step bound p ps true e = ap (λ (l : List ℕ). p.slot ∷ l) e
 slots-step bound p ps false e = e
 
-slots-filter : (bound : ℕ) (ps : List Placed) → slots_of (filter (λ (p : Placed). nat_le bound p.slot) ps) ≡ filter (λ s. nat_le bound s) (slots_of ps)
+slots-filter : (bound : ℕ) (ps : List Placed)
+    → slots_of (filter (λ (p : Placed). nat_le bound p.slot) ps) ≡ filter (λ s. nat_le bound s) (slots_of ps)
 slots-filter bound [] = refl
 slots-filter bound (p ∷ ps) = slots-step bound p ps (nat_le bound p.slot) (slots-filter bound ps)
 
@@ -80,7 +84,8 @@ pub slots-from : (ps : List Placed) (cw next bound : ℕ) → cw ≤ bound → c
     → slots_of (filter (λ (p : Placed). nat_le bound p.slot) ps) ≡ numbers bound (max next bound - bound)
 slots-from ps cw next bound l k e =
     let n : cw + (next - cw) - bound ≡ max next bound - bound = omega arith in
-    slots-filter bound ps ∙ ap (λ (ns : List ℕ). filter (λ s. nat_le bound s) ns) e ∙ numbers-from bound cw (next - cw) l ∙ ap (λ k. numbers bound k) n
+    slots-filter bound ps ∙ ap (λ (ns : List ℕ). filter (λ s. nat_le bound s) ns) e ∙ numbers-from bound cw (next - cw) l
+    ∙ ap (λ k. numbers bound k) n
 
 -- those of a plan
 
@@ -95,6 +100,6 @@ end-low low (v ∷ votes) = let l = end-low low votes in omega arith
 pub plan-window : (low : ℕ) (promises : List Promised) → (plan low promises).cw ≤ (plan low promises).end
 plan-window low promises = end-low (greatest_cw low promises) (votes_told promises)
 
-pub plan-slots : (low : ℕ) (promises : List Promised)
-    → slots_of (placed_from (plan low promises).cw (plan low promises).values) ≡ numbers (plan low promises).cw ((plan low promises).end - (plan low promises).cw)
+pub plan-slots : (low : ℕ) (promises : List Promised) → slots_of (placed_from (plan low promises).cw (plan low promises).values)
+    ≡ numbers (plan low promises).cw ((plan low promises).end - (plan low promises).cw)
 plan-slots low promises = slots-placed _ _ _

@@ -1,5 +1,5 @@
--- What is promised of a leader that goes on with another grid without a first phase, in one run, that of the events `es` over the cluster `c`.
--- Nothing of it is proved here.
+-- What is promised of a leader that goes on with another grid without a first phase, in one run, that of the events `es` over the cluster
+-- `c`. Nothing of it is proved here.
 use Rattle.std.specs.Prelude.{◌≡◌, ℕ, ◌+◌, ◌<◌, ◌≤◌, List, [], ◌∷◌, ◌++◌, length, Some}
 use Rattle.cx_base.specs.declared.cluster.Cluster.{Cluster}
 use Rattle.cx_base.specs.declared.command.Value.{Value}
@@ -38,8 +38,8 @@ pub record GoesOn (w : World) (e : Event) (i : Round) : Type 0 where
   pub only : (j : Round) (s : ℕ) (v : Value) → IsProposed (change w e).sends j s v
       → (j ≡ i) × (cw ≤ s) × (s < end) × IsProposed w.sent before s v
 
--- A round that bypasses the first phase asks no acceptor, and proposes in each slot from its chosen watermark to its end what the round before
--- proposed there (phase 1 bypassing, JSys 2021).
+-- A round that bypasses the first phase asks no acceptor, and proposes in each slot from its chosen watermark to its end what the round
+-- before proposed there (phase 1 bypassing, JSys 2021).
 abbrev pub BypassedRounds : Cluster → List Event → Type 0
 BypassedRounds c es =
     (then later : List Event) (e : Event) → es ≡ then ++ e ∷ later → (i : Round) → Bypasses (run c then) e i → GoesOn (run c then) e i

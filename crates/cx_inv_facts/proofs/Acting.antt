@@ -18,9 +18,11 @@ use Rattle.cx_model.specs.Replica.{replica_rules}
 use Rattle.cx_model.specs.Unbatcher.{unbatcher_rules}
 use Rattle.cx_model.specs.World.{World, act_of, durable_part}
 use Rattle.cx_model.specs.Turn.{Turn}
-use Rattle.cx_model.specs.State.{plain_volatile, batcher_volatile, leader_volatile, proxy_volatile, replica_volatile, reader_volatile, replacer_volatile}
+use Rattle.cx_model.specs.State.{plain_volatile, batcher_volatile, leader_volatile, proxy_volatile, replica_volatile, reader_volatile}
+use Rattle.cx_model.specs.State.{replacer_volatile}
 use Rattle.cx_inv_run.specs.Kinds.{IsSender, OfKind}
-use Rattle.cx_inv_run.proofs.Senders.{batcher_kinds, proxy_kinds, acceptor_kinds, matchmaker_kinds, replica_kinds, unbatcher_kinds, reader_kinds}
+use Rattle.cx_inv_run.proofs.Senders.{batcher_kinds, proxy_kinds, acceptor_kinds, matchmaker_kinds, replica_kinds, unbatcher_kinds}
+use Rattle.cx_inv_run.proofs.Senders.{reader_kinds}
 use Rattle.cx_inv_run.proofs.LeaderSenders.{leader_kinds, replacer_kinds}
 use Rattle.cx_inv_facts.proofs.Turns.{IsStill, by_turn}
 
@@ -36,39 +38,36 @@ module _ (w : World) (act : Act) (me : RoleId) where
 
   pub act_kinds : (k : Kind) → me.kind ≡ k → SentAs k (act_of w.cluster w.roles w.kept act me k).sends
   act_kinds kind.Client is = λ d m. absurd m
-  act_kinds kind.Batcher is =
-      by_turn batcher_rules w.cluster me w.kept (batcher_volatile (w.roles me)) (λ t. SentAs kind.Batcher t.sends) (nothing_sent _ _ kind.Batcher) act
-      (λ v i cut e a. of_kind kind.Batcher _ is (batcher_kinds w.cluster me is v i))
+  act_kinds kind.Batcher is = by_turn batcher_rules w.cluster me w.kept (batcher_volatile (w.roles me)) (λ t. SentAs kind.Batcher t.sends)
+      (nothing_sent _ _ kind.Batcher) act (λ v i cut e a. of_kind kind.Batcher _ is (batcher_kinds w.cluster me is v i))
       (λ v first e q. absurd cc)
-  act_kinds kind.Leader is =
-      by_turn leader_rules w.cluster me w.kept (leader_volatile (w.roles me)) (λ t. SentAs kind.Leader t.sends) (nothing_sent _ _ kind.Leader) act
+  act_kinds kind.Leader is = by_turn leader_rules w.cluster me w.kept (leader_volatile (w.roles me)) (λ t. SentAs kind.Leader t.sends)
+      (nothing_sent _ _ kind.Leader) act
       (λ v i cut e a. of_kind kind.Leader _ is (leader_kinds w.cluster me is (durable_part leader_rules me w.kept) v i))
       (λ v first e q. absurd cc)
-  act_kinds kind.Proxy is =
-      by_turn proxy_rules w.cluster me w.kept (proxy_volatile (w.roles me)) (λ t. SentAs kind.Proxy t.sends) (nothing_sent _ _ kind.Proxy) act
-      (λ v i cut e a. of_kind kind.Proxy _ is (proxy_kinds w.cluster me is v i))
+  act_kinds kind.Proxy is = by_turn proxy_rules w.cluster me w.kept (proxy_volatile (w.roles me)) (λ t. SentAs kind.Proxy t.sends)
+      (nothing_sent _ _ kind.Proxy) act (λ v i cut e a. of_kind kind.Proxy _ is (proxy_kinds w.cluster me is v i))
       (λ v first e q. absurd cc)
-  act_kinds kind.Acceptor is =
-      by_turn acceptor_rules w.cluster me w.kept (plain_volatile (w.roles me)) (λ t. SentAs kind.Acceptor t.sends) (nothing_sent _ _ kind.Acceptor) act
+  act_kinds kind.Acceptor is = by_turn acceptor_rules w.cluster me w.kept (plain_volatile (w.roles me)) (λ t. SentAs kind.Acceptor t.sends)
+      (nothing_sent _ _ kind.Acceptor) act
       (λ v i cut e a. of_kind kind.Acceptor _ is (acceptor_kinds w.cluster me is (durable_part acceptor_rules me w.kept) i))
       (λ v first e q. absurd cc)
-  act_kinds kind.Matchmaker is =
-      by_turn matchmaker_rules w.cluster me w.kept (plain_volatile (w.roles me)) (λ t. SentAs kind.Matchmaker t.sends) (nothing_sent _ _ kind.Matchmaker) act
+  act_kinds kind.Matchmaker is = by_turn matchmaker_rules w.cluster me w.kept (plain_volatile (w.roles me))
+      (λ t. SentAs kind.Matchmaker t.sends) (nothing_sent _ _ kind.Matchmaker) act
       (λ v i cut e a. of_kind kind.Matchmaker _ is (matchmaker_kinds w.cluster me is (durable_part matchmaker_rules me w.kept) i))
       (λ v first e q. absurd cc)
-  act_kinds kind.Replica is =
-      by_turn replica_rules w.cluster me w.kept (replica_volatile (w.roles me)) (λ t. SentAs kind.Replica t.sends) (nothing_sent _ _ kind.Replica) act
+  act_kinds kind.Replica is = by_turn replica_rules w.cluster me w.kept (replica_volatile (w.roles me)) (λ t. SentAs kind.Replica t.sends)
+      (nothing_sent _ _ kind.Replica) act
       (λ v i cut e a. of_kind kind.Replica _ is (replica_kinds w.cluster me is (durable_part replica_rules me w.kept) v i))
       (λ v first e q d m. absurd m)
-  act_kinds kind.Unbatcher is =
-      by_turn unbatcher_rules w.cluster me w.kept (plain_volatile (w.roles me)) (λ t. SentAs kind.Unbatcher t.sends) (nothing_sent _ _ kind.Unbatcher) act
-      (λ v i cut e a. of_kind kind.Unbatcher _ is (unbatcher_kinds w.cluster me is i))
+  act_kinds kind.Unbatcher is = by_turn unbatcher_rules w.cluster me w.kept (plain_volatile (w.roles me)) (λ t. SentAs kind.Unbatcher
+      t.sends) (nothing_sent _ _ kind.Unbatcher) act (λ v i cut e a. of_kind kind.Unbatcher _ is (unbatcher_kinds w.cluster me is i))
       (λ v first e q. absurd cc)
-  act_kinds kind.Reader is =
-      by_turn reader_rules w.cluster me w.kept (reader_volatile (w.roles me)) (λ t. SentAs kind.Reader t.sends) (nothing_sent _ _ kind.Reader) act
+  act_kinds kind.Reader is = by_turn reader_rules w.cluster me w.kept (reader_volatile (w.roles me)) (λ t. SentAs kind.Reader t.sends)
+      (nothing_sent _ _ kind.Reader) act
       (λ v i cut e a. of_kind kind.Reader _ is (reader_kinds w.cluster me is (durable_part reader_rules me w.kept) v i))
       (λ v first e q. absurd cc)
-  act_kinds kind.Replacer is =
-      by_turn replacer_rules w.cluster me w.kept (replacer_volatile (w.roles me)) (λ t. SentAs kind.Replacer t.sends) (nothing_sent _ _ kind.Replacer) act
+  act_kinds kind.Replacer is = by_turn replacer_rules w.cluster me w.kept (replacer_volatile (w.roles me))
+      (λ t. SentAs kind.Replacer t.sends) (nothing_sent _ _ kind.Replacer) act
       (λ v i cut e a. of_kind kind.Replacer _ is (replacer_kinds w.cluster me is (durable_part replacer_rules me w.kept) v i))
       (λ v first e q. absurd cc)

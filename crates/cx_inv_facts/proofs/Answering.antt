@@ -25,7 +25,9 @@ use Rattle.cx_letter.specs.declared.message.Msg.{Msg}
 use Rattle.cx_letter.specs.declared.message.Msg.TheVariants as msg
 use Rattle.cx_model.specs.Acceptor.{AcceptorDurable, acceptor_rules, acceptor_takes, acceptor_row, vote_at, is_of_round}
 use Rattle.cx_model.specs.Leader.{leader_rules}
-use Rattle.cx_model.specs.Matchmaker.{MatchmakerDurable, matchmaker_rules, matchmaker_takes, matchmaker_row, entry, entries_before, has_round, is_stopped, is_booted, set_of, in_set, at_work, match_a_row, garbage_a_row, match_read_row, stop_a_row, next_a_row, boot_in}
+use Rattle.cx_model.specs.Matchmaker.{MatchmakerDurable, matchmaker_rules, matchmaker_takes, matchmaker_row, entry, entries_before}
+use Rattle.cx_model.specs.Matchmaker.{has_round, is_stopped, is_booted, set_of, in_set, at_work, match_a_row, garbage_a_row, match_read_row}
+use Rattle.cx_model.specs.Matchmaker.{stop_a_row, next_a_row, boot_in}
 use Rattle.cx_model.specs.Member.{Member}
 use Rattle.cx_model.specs.Names.{names}
 use Rattle.cx_model.specs.Outcome.{Outcome, only_word, by_test, either_way}
@@ -36,7 +38,8 @@ use Rattle.cx_model.specs.Request.{request}
 use Rattle.cx_model.specs.World.{run}
 use Rattle.cx_inv_run.specs.Kinds.{IsSender, OfKind}
 use Rattle.cx_inv_run.specs.Laws.{Lands, Laws}
-use Rattle.cx_inv_run.specs.States.{State, BatcherIn, LeaderIn, ProxyIn, ReplicaIn, ReaderIn, ReplacerIn, plain, entry_by, snap_by, with_record, durable_of, HoldsIn}
+use Rattle.cx_inv_run.specs.States.{State, BatcherIn, LeaderIn, ProxyIn, ReplicaIn, ReaderIn, ReplacerIn, plain, entry_by, snap_by}
+use Rattle.cx_inv_run.specs.States.{with_record, durable_of, HoldsIn}
 use Rattle.cx_inv_run.proofs.Histories.{kept_longer}
 use Rattle.cx_inv_run.proofs.Members.{Member-both, Member-one, filter-Member}
 use Rattle.cx_inv_run.proofs.Rounds.{before_cases, before-both, same_round-true}
@@ -77,7 +80,8 @@ SendsNoAnswers kind.Acceptor = ⊥
 SendsNoAnswers kind.Matchmaker = ⊥
 SendsNoAnswers other = Unit {0}
 
-no_answers : (history : List KeptRecord) (k : Kind) → SendsNoAnswers k → (from : RoleId) (m : Msg) → IsSender k m → AnswerSays history from m
+no_answers : (history : List KeptRecord) (k : Kind) → SendsNoAnswers k → (from : RoleId) (m : Msg) → IsSender k m
+    → AnswerSays history from m
 no_answers history k none from (msg.MatchB i w entries) s = absurd (subst SendsNoAnswers s none)
 no_answers history k none from (msg.MatchReadAck u w entries) s = absurd (subst SendsNoAnswers s none)
 no_answers history k none from (msg.Phase1B i cw votes) s = absurd (subst SendsNoAnswers s none)
@@ -87,7 +91,8 @@ no_answers history k none from other s = tt
 module _ (history : List KeptRecord) (sent : List Letter) (states : RoleId → State) (h : AnswersSay history sent states) where
   -- what a role's row sends says what it should, with the record that it keeps
   says_on : {V : Type 0} (me : RoleId) (make : V → State) (o : Outcome V)
-      → ((d : Letter) → Member d o.sends → AnswerSays (with_record me o.kept history) d.from d.msg) → Lands AnswersSay history sent states me make o
+      → ((d : Letter) → Member d o.sends → AnswerSays (with_record me o.kept history) d.from d.msg)
+      → Lands AnswersSay history sent states me make o
   says_on me make o new = record {
     whole = Member-both (λ (d : Letter). AnswerSays (with_record me o.kept history) d.from d.msg) sent o.sends
         (λ d m. says_more history (with_record me o.kept history) (kept_longer me o.kept history) d.from d.msg (h d m)) new;
@@ -96,7 +101,8 @@ module _ (history : List KeptRecord) (sent : List Letter) (states : RoleId → S
 
   calm : {V : Type 0} (me : RoleId) (make : V → State) (o : Outcome V) → SendsNoAnswers me.kind → OfKind me o
       → Lands AnswersSay history sent states me make o
-  calm me make o none kinds = says_on me make o (λ d m. no_answers (with_record me o.kept history) me.kind none d.from d.msg (kinds.sends d m).1)
+  calm me make o none kinds =
+      says_on me make o (λ d m. no_answers (with_record me o.kept history) me.kind none d.from d.msg (kinds.sends d m).1)
 
   requested : (n : ℕ) (e : Event) (d : Letter) → Member d (request n e) → AnswerSays history d.from d.msg
   requested n (event.Write command batcher) d m = Member-one (λ (x : Letter). AnswerSays history x.from x.msg) _ tt d m
@@ -106,7 +112,8 @@ module _ (history : List KeptRecord) (sent : List Letter) (states : RoleId → S
 
 -- an acceptor's rows
 
-module _ (c : Cluster) (history : List KeptRecord) (sent : List Letter) (states : RoleId → State) (facts : Facts c history sent states) (a : ℕ) where
+module _ (c : Cluster) (history : List KeptRecord) (sent : List Letter) (states : RoleId → State) (facts : Facts c history sent states)
+    (a : ℕ) where
   abbrev acceptor : RoleId
   acceptor = role kind.Acceptor a
 
@@ -147,13 +154,15 @@ module _ (c : Cluster) (history : List KeptRecord) (sent : List Letter) (states 
   acceptor_told from other = λ d m. absurd m
 
   acceptor_row-told : (i : Input) → Told (acceptor_row c acceptor voter tt i)
-  acceptor_row-told (input.Take d) = either_way Told (same_role d.to acceptor && names c d) _ _ (acceptor_told d.from d.msg) (λ x m. absurd m)
+  acceptor_row-told (input.Take d) =
+      either_way Told (same_role d.to acceptor && names c d) _ _ (acceptor_told d.from d.msg) (λ x m. absurd m)
   acceptor_row-told input.Tick = λ d m. absurd m
   acceptor_row-told (input.Order order) = λ d m. absurd m
 
 -- a matchmaker's rows
 
-module _ (c : Cluster) (history : List KeptRecord) (sent : List Letter) (states : RoleId → State) (facts : Facts c history sent states) (m : ℕ) where
+module _ (c : Cluster) (history : List KeptRecord) (sent : List Letter) (states : RoleId → State) (facts : Facts c history sent states)
+    (m : ℕ) where
   abbrev matchmaker : RoleId
   matchmaker = role kind.Matchmaker m
 
@@ -170,7 +179,8 @@ module _ (c : Cluster) (history : List KeptRecord) (sent : List Letter) (states 
       → (log.watermark ≡ no_round) ⊎ ((log.watermark ≡ i) ⊎ HasEntry log.watermark (entries_before i log.entries))
   entry_before i from = elim entry_there [ inl e ↦ inl e | inr x ↦ inr (go x (before_cases log.watermark i)) ]
     where
-      go : HasEntry log.watermark log.entries → (is_before log.watermark i ≡ true) ⊎ ((log.watermark ≡ i) ⊎ (is_before i log.watermark ≡ true))
+      go : HasEntry log.watermark log.entries
+          → (is_before log.watermark i ≡ true) ⊎ ((log.watermark ≡ i) ⊎ (is_before i log.watermark ≡ true))
           → (log.watermark ≡ i) ⊎ HasEntry log.watermark (entries_before i log.entries)
       go x (inl l) = inr (x.0, filter-Member (λ (e : Entry). is_before e.round i) (entry log.watermark x.0) log.entries x.1 l)
       go x (inr (inl e)) = inl e
@@ -190,7 +200,8 @@ module _ (c : Cluster) (history : List KeptRecord) (sent : List Letter) (states 
   at_work_told o h =
       in_set_told (if is_stopped log then only_word why.Stopped tt else o) (either_way Answers (is_stopped log) _ _ (λ d n. absurd n) h)
 
-  begins_told : (from : RoleId) (s : List ℕ) (w : Round) (es : List Entry) (o : Option (List ℕ)) → Answers (boot_in matchmaker from s w es o)
+  begins_told : (from : RoleId) (s : List ℕ) (w : Round) (es : List Entry) (o : Option (List ℕ))
+      → Answers (boot_in matchmaker from s w es o)
   begins_told from s w es None = one_more (kept.Boot s w es) _ tt
   begins_told from s w es (Some t) = either_way Answers (bytes_eq s t) _ _ (one _ tt) (λ d n. absurd n)
 
@@ -218,7 +229,8 @@ module _ (c : Cluster) (history : List KeptRecord) (sent : List Letter) (states 
   matchmaker_told from other = λ d n. absurd n
 
   matchmaker_row-told : (i : Input) → Answers (matchmaker_row c matchmaker log tt i)
-  matchmaker_row-told (input.Take d) = either_way Answers (same_role d.to matchmaker && names c d) _ _ (matchmaker_told d.from d.msg) (λ x n. absurd n)
+  matchmaker_row-told (input.Take d) =
+      either_way Answers (same_role d.to matchmaker && names c d) _ _ (matchmaker_told d.from d.msg) (λ x n. absurd n)
   matchmaker_row-told input.Tick = λ d n. absurd n
   matchmaker_row-told (input.Order order) = λ d n. absurd n
 
@@ -248,10 +260,10 @@ answer_laws c = record {
       says_more history (snap_by (role kind.Replica p) first ∷ history) (λ k n. inr n) d.from d.msg (h d m);
   unbatcher = λ history sent states u i facts h is given.
       calm history sent states h (role kind.Unbatcher u) plain _ tt (unbatcher_kinds c (role kind.Unbatcher u) refl i);
-  reader = λ history sent states r v i facts h is given.
-      calm history sent states h (role kind.Reader r) ReaderIn _ tt (reader_kinds c (role kind.Reader r) refl (durable_of reader_rules (role kind.Reader r) history) v i);
-  replacer = λ history sent states x v i facts h is given.
-      calm history sent states h (role kind.Replacer x) ReplacerIn _ tt (replacer_kinds c (role kind.Replacer x) refl (durable_of replacer_rules (role kind.Replacer x) history) v i);
+  reader = λ history sent states r v i facts h is given. calm history sent states h (role kind.Reader r) ReaderIn _ tt
+      (reader_kinds c (role kind.Reader r) refl (durable_of reader_rules (role kind.Reader r) history) v i);
+  replacer = λ history sent states x v i facts h is given. calm history sent states h (role kind.Replacer x) ReplacerIn _ tt
+      (replacer_kinds c (role kind.Replacer x) refl (durable_of replacer_rules (role kind.Replacer x) history) v i);
 }
 
 pub answers_say : (c : Cluster) (es : List Event) → HoldsIn AnswersSay (run c es)

@@ -34,12 +34,14 @@ use Rattle.cx_model.specs.Replica.{replica_rules}
 use Rattle.cx_model.specs.Request.{request}
 use Rattle.cx_inv_run.specs.Kinds.{IsSender, IsKept, OfKind}
 use Rattle.cx_inv_run.specs.Laws.{Lands, Laws}
-use Rattle.cx_inv_run.specs.States.{State, Down, BatcherIn, LeaderIn, ProxyIn, ReplicaIn, ReaderIn, ReplacerIn, plain, fresh_state, set_state, entry_by, snap_by, with_record, durable_of, Given}
+use Rattle.cx_inv_run.specs.States.{State, Down, BatcherIn, LeaderIn, ProxyIn, ReplicaIn, ReaderIn, ReplacerIn, plain, fresh_state}
+use Rattle.cx_inv_run.specs.States.{set_state, entry_by, snap_by, with_record, durable_of, Given}
 use Rattle.cx_inv_run.proofs.Histories.{durable_own, durable_other, set_running, kept_longer}
 use Rattle.cx_inv_run.proofs.Members.{Member-first, Member-one}
 use Rattle.cx_inv_run.proofs.Rounds.{before-itself}
 use Rattle.cx_inv_run.proofs.Snaps.{snap_same}
-use Rattle.cx_inv_run.proofs.Senders.{batcher_kinds, proxy_kinds, acceptor_kinds, matchmaker_kinds, replica_kinds, unbatcher_kinds, reader_kinds}
+use Rattle.cx_inv_run.proofs.Senders.{batcher_kinds, proxy_kinds, acceptor_kinds, matchmaker_kinds, replica_kinds, unbatcher_kinds}
+use Rattle.cx_inv_run.proofs.Senders.{reader_kinds}
 use Rattle.cx_inv_run.proofs.LeaderSenders.{leader_kinds, replacer_kinds}
 use Rattle.cx_inv_match.specs.Facts.{InState}
 use Rattle.cx_inv_match.specs.Words.{IsChosenIn}
@@ -86,7 +88,8 @@ module _ (i : Round) (cw end : ℕ) where
 
     ended_more : (v : LeaderVolatile) → EndedIn history sent i cw end v → EndedIn longer more i cw end v
     ended_more v (inl t) = inl t
-    ended_more v (inr x) = inr record { mode = x.mode; low = x.low; high = x.high; stage = retires_more v.collection v.collection.stage x.stage }
+    ended_more v (inr x) =
+        inr record { mode = x.mode; low = x.low; high = x.high; stage = retires_more v.collection v.collection.stage x.stage }
 
     state_more : (a : RoleId) → durable_of leader_rules a longer ≡ durable_of leader_rules a history → (s : State)
         → EndedState history sent i cw end a s → EndedState longer more i cw end a s
@@ -103,7 +106,8 @@ module _ (i : Round) (cw end : ℕ) where
       ended_after proposals retirings own others = record {
         low = λ t v x. elim (proposals t v x) [ inl y ↦ h.low t v y | inr l ↦ l ];
         retiring = λ x. column_more (elim (retirings x) [ inl y ↦ h.retiring y | inr y ↦ y ]);
-        running = set_running (λ a x. EndedState longer more i cw end a x) me s states own (λ a e. state_more a (others a e) (states a) (h.running a));
+        running = set_running (λ a x. EndedState longer more i cw end a x) me s states own
+            (λ a e. state_more a (others a e) (states a) (h.running a));
       }
 
   -- what is sent
@@ -124,8 +128,10 @@ module _ (i : Round) (cw end : ℕ) where
 
     request_fits : (n : ℕ) (e : Event) (d : Letter) → Member d (request n e) → MsgFits history sent i cw end d.msg
     request_fits n (event.Write command batcher) d m = Member-one (λ (x : Letter). MsgFits history sent i cw end x.msg) _ tt d m
-    request_fits n (event.Read client seq floor reader replica key) d m = Member-one (λ (x : Letter). MsgFits history sent i cw end x.msg) _ tt d m
-    request_fits n (event.Session client seq floor replica key) d m = Member-one (λ (x : Letter). MsgFits history sent i cw end x.msg) _ tt d m
+    request_fits n (event.Read client seq floor reader replica key) d m =
+        Member-one (λ (x : Letter). MsgFits history sent i cw end x.msg) _ tt d m
+    request_fits n (event.Session client seq floor replica key) d m =
+        Member-one (λ (x : Letter). MsgFits history sent i cw end x.msg) _ tt d m
     request_fits n other d m = absurd m
 
   others_keep : (me : RoleId) (o : Option Record) (history : List KeptRecord) (a : RoleId) → same_role a me ≡ false
@@ -135,8 +141,8 @@ module _ (i : Round) (cw end : ℕ) where
 
   module _ (past : List KeptRecord) where
     -- a row's outcome
-    landed : {V : Type 0} (history : List KeptRecord) (sent : List Letter) (states : RoleId → State) (h : IsEnded i cw end history sent states)
-        (me : RoleId) (make : V → State) (o : Outcome V) → ((d : Letter) → Member d o.sends → MsgFits history sent i cw end d.msg)
+    landed : {V : Type 0} (history : List KeptRecord) (sent : List Letter) (states : RoleId → State) (h : IsEnded i cw end history sent
+        states) (me : RoleId) (make : V → State) (o : Outcome V) → ((d : Letter) → Member d o.sends → MsgFits history sent i cw end d.msg)
         → EndedState (with_record me o.kept history) (sent ++ o.sends) i cw end me (make o.volatile)
         → Lands (EndedSince past i cw end) history sent states me make o
     landed history sent states h me make o fits own = record {
@@ -150,8 +156,8 @@ module _ (i : Round) (cw end : ℕ) where
     }
 
     -- another kind of role
-    calm : {V : Type 0} (history : List KeptRecord) (sent : List Letter) (states : RoleId → State) (h : IsEnded i cw end history sent states)
-        (me : RoleId) (make : V → State) (o : Outcome V) → (me.kind ≡ kind.Leader → ⊥) → OfKind me o
+    calm : {V : Type 0} (history : List KeptRecord) (sent : List Letter) (states : RoleId → State) (h : IsEnded i cw end history sent
+        states) (me : RoleId) (make : V → State) (o : Outcome V) → (me.kind ≡ kind.Leader → ⊥) → OfKind me o
         → EndedState (with_record me o.kept history) (sent ++ o.sends) i cw end me (make o.volatile)
         → Lands (EndedSince past i cw end) history sent states me make o
     calm history sent states h me make o other kinds own =
@@ -159,8 +165,8 @@ module _ (i : Round) (cw end : ℕ) where
 
     -- a leader
 
-    module _ (c : Cluster) (g : Shape) (config : IsConfig past i g) (history : List KeptRecord) (sent : List Letter) (states : RoleId → State)
-        (known : Known c past history sent states) (l : ℕ) (v : LeaderVolatile) (j : Input)
+    module _ (c : Cluster) (g : Shape) (config : IsConfig past i g) (history : List KeptRecord) (sent : List Letter)
+        (states : RoleId → State) (known : Known c past history sent states) (l : ℕ) (v : LeaderVolatile) (j : Input)
         (at : states (role kind.Leader l) ≡ LeaderIn v) (given : Given sent (role kind.Leader l) j) where
       abbrev me : RoleId
       me = role kind.Leader l
@@ -179,7 +185,8 @@ module _ (i : Round) (cw end : ℕ) where
           let owner : me ≡ role kind.Leader k.id = after.owner me k h (inl refl) in
           let same : config.0 ≡ me = known.facts.owner config.0 i g (known.has _ config.1) ∙ ap (λ (x : Round). role kind.Leader x.id)
           (sym p) ∙ sym owner in
-          before-itself i (subst (λ x. is_before i x ≡ true) p (next.1 i g (subst (λ a. HasKept history a (kept.Round i g)) same (known.has _ config.1))))
+          before-itself i
+          (subst (λ x. is_before i x ≡ true) p (next.1 i g (subst (λ a. HasKept history a (kept.Round i g)) same (known.has _ config.1))))
       not_again r s e p = cc
 
       knows : InState c history sent me (LeaderIn v)
@@ -189,7 +196,8 @@ module _ (i : Round) (cw end : ℕ) where
         ended_leader : round_of dur.own ≡ i → EndedIn history sent i cw end v
         ended_leader = subst (λ (s : State). EndedState history sent i cw end me s) at (h.running me)
 
-        after_row : (r : Option Record) → o.kept ≡ r → EndedState (with_record me r history) (sent ++ o.sends) i cw end me (LeaderIn o.volatile)
+        after_row : (r : Option Record) → o.kept ≡ r
+            → EndedState (with_record me r history) (sent ++ o.sends) i cw end me (LeaderIn o.volatile)
         after_row None e = λ p.
             ended_more history history sent (sent ++ o.sends) (λ k m. m) (λ d m. Member-first d sent o.sends m) o.volatile
             ((ends_on c history sent states known.kinds i cw end me dur v knows.0 knows.1 ended_leader j given).state e p)
@@ -211,25 +219,28 @@ module _ (i : Round) (cw end : ℕ) where
     ended_laws c g config = record {
       same = λ history sent states others same h has.
           let x = h has in
-          record { low = x.low; retiring = x.retiring; running = λ a. subst (λ (s : State). EndedState history sent i cw end a s) (same a) (x.running a) };
+          record {
+            low = x.low;
+            retiring = x.retiring;
+            running = λ a. subst (λ (s : State). EndedState history sent i cw end a s) (same a) (x.running a);
+          };
       start = λ states starts has. absurd (has _ config.1);
       stop = λ history sent states me h has.
           ended_after history history sent sent (λ k m. m) (λ d m. m) states (h has) me Down (λ t v x. inl x) (λ x. inl x) tt (λ a e. refl);
-      wake = λ history sent states me h down has.
-          ended_after history history sent sent (λ k m. m) (λ d m. m) states (h has) me (fresh_state c me.kind) (λ t v x. inl x) (λ x. inl x)
-          (fresh_ended c history sent me me.kind) (λ a e. refl);
+      wake = λ history sent states me h down has. ended_after history history sent sent (λ k m. m) (λ d m. m) states (h has) me
+          (fresh_state c me.kind) (λ t v x. inl x) (λ x. inl x) (fresh_ended c history sent me me.kind) (λ a e. refl);
       ask = λ history sent states n e allowed known h has.
           let x = h has in
           record {
-            low = λ t v y. elim (fits_proposed history sent (request n e) (request_fits history sent n e) t v y) [ inl z ↦ x.low t v z | inr l ↦ l ];
+            low = λ t v y.
+                elim (fits_proposed history sent (request n e) (request_fits history sent n e) t v y) [ inl z ↦ x.low t v z | inr l ↦ l ];
             retiring = λ y. column_more history history sent (sent ++ request n e) (λ k m. m) (λ d m. Member-first d sent (request n e) m)
                 (elim (fits_retiring history sent (request n e) (request_fits history sent n e) y) [ inl z ↦ x.retiring z | inr z ↦ z ]);
-            running = λ a.
-                state_more history history sent (sent ++ request n e) (λ k m. m) (λ d m. Member-first d sent (request n e) m) a refl (states a)
-                (x.running a);
+            running = λ a. state_more history history sent (sent ++ request n e) (λ k m. m) (λ d m. Member-first d sent (request n e) m) a
+                refl (states a) (x.running a);
           };
-      batcher = λ history sent states b v j known h at given.
-          calm history sent states (h known.has) (role kind.Batcher b) BatcherIn _ (λ p. cc) (batcher_kinds c (role kind.Batcher b) refl v j) tt;
+      batcher = λ history sent states b v j known h at given. calm history sent states (h known.has) (role kind.Batcher b) BatcherIn
+          _ (λ p. cc) (batcher_kinds c (role kind.Batcher b) refl v j) tt;
       leader = λ history sent states l v j known h at given. leader_ended c g config history sent states known l v j at given (h known.has);
       proxy = λ history sent states p v j known h at given.
           calm history sent states (h known.has) (role kind.Proxy p) ProxyIn _ (λ q. cc) (proxy_kinds c (role kind.Proxy p) refl v j) tt;
@@ -248,14 +259,13 @@ module _ (i : Round) (cw end : ℕ) where
           record {
             low = x.low;
             retiring = λ y. column_more history longer sent sent (λ k m. inr m) (λ d m. m) (x.retiring y);
-            running = λ a.
-                state_more history longer sent sent (λ k m. inr m) (λ d m. m) a ((snap_same history known.kinds.keepers p first).leaders a) (states a)
-                (x.running a);
+            running = λ a. state_more history longer sent sent (λ k m. inr m) (λ d m. m) a
+                ((snap_same history known.kinds.keepers p first).leaders a) (states a) (x.running a);
           };
-      unbatcher = λ history sent states u j known h at given.
-          calm history sent states (h known.has) (role kind.Unbatcher u) plain _ (λ p. cc) (unbatcher_kinds c (role kind.Unbatcher u) refl j) tt;
-      reader = λ history sent states r v j known h at given.
-          calm history sent states (h known.has) (role kind.Reader r) ReaderIn _ (λ p. cc) (reader_kinds c (role kind.Reader r) refl (durable_of reader_rules (role kind.Reader r) history) v j) tt;
-      replacer = λ history sent states x v j known h at given.
-          calm history sent states (h known.has) (role kind.Replacer x) ReplacerIn _ (λ p. cc) (replacer_kinds c (role kind.Replacer x) refl (durable_of replacer_rules (role kind.Replacer x) history) v j) tt;
+      unbatcher = λ history sent states u j known h at given. calm history sent states (h known.has) (role kind.Unbatcher u) plain
+          _ (λ p. cc) (unbatcher_kinds c (role kind.Unbatcher u) refl j) tt;
+      reader = λ history sent states r v j known h at given. calm history sent states (h known.has) (role kind.Reader r) ReaderIn
+          _ (λ p. cc) (reader_kinds c (role kind.Reader r) refl (durable_of reader_rules (role kind.Reader r) history) v j) tt;
+      replacer = λ history sent states x v j known h at given. calm history sent states (h known.has) (role kind.Replacer x) ReplacerIn
+          _ (λ p. cc) (replacer_kinds c (role kind.Replacer x) refl (durable_of replacer_rules (role kind.Replacer x) history) v j) tt;
     }

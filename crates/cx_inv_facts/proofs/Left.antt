@@ -33,7 +33,8 @@ use Rattle.cx_inv_run.specs.States.{State, BatcherIn, LeaderIn, ProxyIn, Replica
 use Rattle.cx_inv_run.proofs.KindLaws.{kinds_hold}
 use Rattle.cx_inv_run.proofs.Members.{Member-second}
 use Rattle.cx_inv_run.proofs.Rounds.{before-both}
-use Rattle.cx_inv_run.proofs.Senders.{batcher_kinds, proxy_kinds, acceptor_kinds, matchmaker_kinds, replica_kinds, unbatcher_kinds, reader_kinds}
+use Rattle.cx_inv_run.proofs.Senders.{batcher_kinds, proxy_kinds, acceptor_kinds, matchmaker_kinds, replica_kinds, unbatcher_kinds}
+use Rattle.cx_inv_run.proofs.Senders.{reader_kinds}
 use Rattle.cx_inv_run.proofs.LeaderSenders.{replacer_kinds}
 use Rattle.cx_inv_run.proofs.Steps.{run_append, run_cluster, run_from_keeps, all_allowed}
 use Rattle.cx_inv_match.specs.Facts.{IsLastRound}
@@ -49,7 +50,8 @@ use Rattle.cx_inv_facts.proofs.Ordered.{ordered}
 
 -- what is proposed in a round that was left in the past was proposed then
 abbrev Unproposed : List KeptRecord → List Letter → List KeptRecord → List Letter → (RoleId → State) → Type 0
-Unproposed past sent_then history sent states = (j : Round) (s : ℕ) (v : Value) → IsLeft past j → IsProposed sent j s v → IsProposed sent_then j s v
+Unproposed past sent_then history sent states =
+    (j : Round) (s : ℕ) (v : Value) → IsLeft past j → IsProposed sent j s v → IsProposed sent_then j s v
 
 request_proposes : (n : ℕ) (e : Event) (j : Round) (s : ℕ) (v : Value) → IsProposed (request n e) j s v → ⊥
 request_proposes n (event.Write command batcher) j s v (from, to, g, cw, inl p) =
@@ -70,10 +72,12 @@ request_proposes n (event.Snap replica cut) j s v x = x.4
 request_proposes n (event.Restart r) j s v x = x.4
 
 module _ (past : List KeptRecord) (sent_then : List Letter) where
-  module _ (history : List KeptRecord) (sent : List Letter) (states : RoleId → State) (h : Unproposed past sent_then history sent states) where
+  module _ (history : List KeptRecord) (sent : List Letter) (states : RoleId → State)
+      (h : Unproposed past sent_then history sent states) where
     -- a row that proposes nothing in such a round
     landed : {V : Type 0} (me : RoleId) (make : V → State) (o : Outcome V)
-        → ((j : Round) (s : ℕ) (v : Value) → IsLeft past j → IsProposed o.sends j s v → ⊥) → Lands (Unproposed past sent_then) history sent states me make o
+        → ((j : Round) (s : ℕ) (v : Value) → IsLeft past j → IsProposed o.sends j s v → ⊥)
+        → Lands (Unproposed past sent_then) history sent states me make o
     landed me make o none = record {
       whole = λ j s v l x. elim (proposed_cases sent o.sends j s v x) [ inl y ↦ h j s v l y | inr y ↦ absurd (none j s v l y) ];
       cut = λ r e j s v l x. h j s v l x;
@@ -85,7 +89,8 @@ module _ (past : List KeptRecord) (sent_then : List Letter) where
     calm me make o other kinds = landed me make o (λ j s v l x. other (kinds.sends _ x.4).1)
 
   -- a leader proposes in its last round, which it hasn't left
-  module _ (c : Cluster) (history : List KeptRecord) (sent : List Letter) (states : RoleId → State) (known : Known c past history sent states) (n : ℕ) where
+  module _ (c : Cluster) (history : List KeptRecord) (sent : List Letter) (states : RoleId → State)
+      (known : Known c past history sent states) (n : ℕ) where
     abbrev me : RoleId
     me = role kind.Leader n
 
@@ -98,7 +103,8 @@ module _ (past : List KeptRecord) (sent_then : List Letter) where
         let owner = known.facts.owner me own.round own.grid last.0 in
         before-both own.round x.0 x.2 (last.1 x.0 x.1 (subst (λ a. HasKept history a (kept.Round x.0 x.1)) (sym owner) (known.has _ x.3)))
 
-    none_left : (v : LeaderVolatile) (i : Input) (j : Round) (s : ℕ) (u : Value) → IsLeft past j → IsProposed (leader_row c me dur v i).sends j s u → ⊥
+    none_left : (v : LeaderVolatile) (i : Input) (j : Round) (s : ℕ) (u : Value) → IsLeft past j
+        → IsProposed (leader_row c me dur v i).sends j s u → ⊥
     none_left v i j s u l x =
         let own = (leads_on c me dur v i).own_sends _ x.4 in
         not_left own.0 own.1 (subst (λ k. IsLeft past k) own.2 l)
@@ -129,20 +135,25 @@ module _ (past : List KeptRecord) (sent_then : List Letter) where
     snap = λ history sent states p v first known h at e j s u l x. h j s u l x;
     unbatcher = λ history sent states u i known h at given.
         calm history sent states h (role kind.Unbatcher u) plain _ (λ p. cc) (unbatcher_kinds c (role kind.Unbatcher u) refl i);
-    reader = λ history sent states r v i known h at given.
-        calm history sent states h (role kind.Reader r) ReaderIn _ (λ p. cc) (reader_kinds c (role kind.Reader r) refl (durable_of reader_rules (role kind.Reader r) history) v i);
-    replacer = λ history sent states x v i known h at given.
-        calm history sent states h (role kind.Replacer x) ReplacerIn _ (λ p. cc) (replacer_kinds c (role kind.Replacer x) refl (durable_of replacer_rules (role kind.Replacer x) history) v i);
+    reader = λ history sent states r v i known h at given. calm history sent states h (role kind.Reader r) ReaderIn _ (λ p. cc)
+        (reader_kinds c (role kind.Reader r) refl (durable_of reader_rules (role kind.Reader r) history) v i);
+    replacer = λ history sent states x v i known h at given. calm history sent states h (role kind.Replacer x) ReplacerIn _ (λ p. cc)
+        (replacer_kinds c (role kind.Replacer x) refl (durable_of replacer_rules (role kind.Replacer x) history) v i);
   }
 
 -- the records of a run are among those of each longer one
-run_has : (c : Cluster) (es more : List Event) → (new : List KeptRecord) × (reverse (run c (es ++ more)).kept ≡ new ++ reverse (run c es).kept)
+run_has : (c : Cluster) (es more : List Event)
+    → (new : List KeptRecord) × (reverse (run c (es ++ more)).kept ≡ new ++ reverse (run c es).kept)
 run_has c es more =
-    let r = run_from_kept (run c es) more in
-    (reverse r.0, ap (λ (w : World). reverse w.kept) (run_append c es more) ∙ ap (λ (l : List KeptRecord). reverse l) r.1 ∙ reverse-append (run c es).kept r.0)
+    let r = run_from_kept (run c es) more in (
+      reverse r.0,
+      ap (λ (w : World). reverse w.kept) (run_append c es more) ∙ ap (λ (l : List KeptRecord). reverse l) r.1
+          ∙ reverse-append (run c es).kept r.0,
+    )
 
 pub run_more : (c : Cluster) (es more : List Event) → HasPast (reverse (run c es).kept) (reverse (run c (es ++ more)).kept)
-run_more c es more k m = let r = run_has c es more in subst (λ (l : List KeptRecord). Member k l) (sym r.1) (Member-second k r.0 (reverse (run c es).kept) m)
+run_more c es more k m =
+    let r = run_has c es more in subst (λ (l : List KeptRecord). Member k l) (sym r.1) (Member-second k r.0 (reverse (run c es).kept) m)
 
 -- from a past on, the kinds and the facts hold, and the history has all of the past
 pub known_along : (c : Cluster) (past : List KeptRecord) (es more : List Event) → HasPast past (reverse (run c es).kept)
@@ -160,8 +171,8 @@ pub run_grows : (c : Cluster) (es more : List Event)
 run_grows c es more =
     let past = reverse (run c es).kept in
     let r = run_has c es more in
-    subst (λ (l : List KeptRecord). Grows past (run c es).sent l (run c (es ++ more)).sent) (sym r.1)
-    (grows_by_order past r.0 (subst (λ (l : List KeptRecord). Each LaterOfOne l) r.1 (ordered c (es ++ more))) (run c es).sent (run c (es ++ more)).sent
+    subst (λ (l : List KeptRecord). Grows past (run c es).sent l (run c (es ++ more)).sent) (sym r.1) (grows_by_order past r.0
+    (subst (λ (l : List KeptRecord). Each LaterOfOne l) r.1 (ordered c (es ++ more))) (run c es).sent (run c (es ++ more)).sent
     (λ d m. subst (λ (w : World). Member d w.sent) (sym (run_append c es more)) (run_from_sent (run c es) more d m))
     (subst (λ (w : World). HoldsIn (Unproposed past (run c es).sent) w) (sym (run_append c es more))
     (run_from_keeps c (λ n e. Unit {0}) (Known c past) (Unproposed past (run c es).sent) (left_laws past (run c es).sent c)

@@ -25,7 +25,8 @@ use Rattle.cx_model.specs.Proxy.{ProxyVolatile, proxy_row}
 use Rattle.cx_model.specs.Request.{request}
 use Rattle.cx_model.specs.World.{World, run, records_of}
 use Rattle.cx_inv_run.specs.Laws.{Lands, Laws}
-use Rattle.cx_inv_run.specs.States.{State, Down, BatcherIn, LeaderIn, ProxyIn, ReplicaIn, ReaderIn, ReplacerIn, plain, fresh_state, set_state, snap_by, with_record, durable_of, Given, HoldsIn}
+use Rattle.cx_inv_run.specs.States.{State, Down, BatcherIn, LeaderIn, ProxyIn, ReplicaIn, ReaderIn, ReplacerIn, plain, fresh_state}
+use Rattle.cx_inv_run.specs.States.{set_state, snap_by, with_record, durable_of, Given, HoldsIn}
 use Rattle.cx_inv_run.proofs.Histories.{durable_by_time, durable_other, set_running}
 use Rattle.cx_inv_run.proofs.KindLaws.{kinds_hold}
 use Rattle.cx_inv_run.proofs.Members.{Member-first, any-Member}
@@ -90,8 +91,8 @@ module _ (c : Cluster) where
 
     state_more : (history longer : List KeptRecord) → durable_of leader_rules me longer ≡ durable_of leader_rules me history → (s : State)
         → NotedState history sent me s → NotedState longer more me s
-    state_more history longer same (LeaderIn v) h =
-        subst (λ (d : LeaderDurable). LeaderNotes c more me (round_of d.own) v) (sym same) (leader_more (round_of (durable_of leader_rules me history).own) v h)
+    state_more history longer same (LeaderIn v) h = subst (λ (d : LeaderDurable). LeaderNotes c more me (round_of d.own) v) (sym same)
+        (leader_more (round_of (durable_of leader_rules me history).own) v h)
     state_more history longer same (ProxyIn v) h = proxy_more v h
     state_more history longer same s h = tt
 
@@ -102,7 +103,8 @@ module _ (c : Cluster) where
   others_keep me None history a e = refl
   others_keep me (Some r) history a e = durable_other leader_rules me a r history e
 
-  noted_after : (history : List KeptRecord) (sent more : List Letter) (has : (d : Letter) → Member d sent → Member d more) (states : RoleId → State)
+  noted_after : (history : List KeptRecord) (sent more : List Letter) (has : (d : Letter) → Member d sent → Member d more)
+      (states : RoleId → State)
       → AreNoted history sent states → (me : RoleId) (o : Option Record) (s : State) → NotedState (with_record me o history) more me s
       → AreNoted (with_record me o history) more (set_state me s states)
   noted_after history sent more has states h me o s own =
@@ -119,8 +121,10 @@ module _ (c : Cluster) where
 
   -- a leader
 
-  module _ (history : List KeptRecord) (sent : List Letter) (states : RoleId → State) (known : Known c [] history sent states) (h : AreNoted history sent states)
-      (l : ℕ) (v : LeaderVolatile) (j : Input) (at : states (role kind.Leader l) ≡ LeaderIn v) (given : Given sent (role kind.Leader l) j) where
+  module _ (history : List KeptRecord) (sent : List Letter) (states : RoleId → State) (known : Known c [] history sent states)
+      (h : AreNoted history sent states)
+      (l : ℕ) (v : LeaderVolatile) (j : Input) (at : states (role kind.Leader l) ≡ LeaderIn v)
+      (given : Given sent (role kind.Leader l) j) where
     abbrev me : RoleId
     me = role kind.Leader l
 
@@ -129,8 +133,8 @@ module _ (c : Cluster) where
 
     leader_noted : Lands AreNoted history sent states me LeaderIn o
     leader_noted =
-        landed history sent states h me LeaderIn o
-        (leader_more sent (sent ++ o.sends) (λ d m. Member-first d sent o.sends m) me (round_of (durable_of leader_rules me (with_record me o.kept history)).own) o.volatile
+        landed history sent states h me LeaderIn o (leader_more sent (sent ++ o.sends) (λ d m. Member-first d sent o.sends m) me
+        (round_of (durable_of leader_rules me (with_record me o.kept history)).own) o.volatile
         ((notes_on c history sent states known.kinds me (durable_of leader_rules me history) v
         (subst (λ (s : State). InState c history sent me s) at (known.facts.running me)).0
         (subst (λ (s : State). NotedState history sent me s) at (h me)) j given).after
@@ -143,8 +147,8 @@ module _ (c : Cluster) where
   proxy_noted history sent states h p v j at given =
       let o = proxy_row c (role kind.Proxy p) tt v j in
       landed history sent states h (role kind.Proxy p) ProxyIn o
-      (proxy_more sent (sent ++ o.sends) (λ d m. Member-first d sent o.sends m) (role kind.Proxy p) o.volatile
-      (proxy_notes c sent (role kind.Proxy p) v (subst (λ (s : State). NotedState history sent (role kind.Proxy p) s) at (h (role kind.Proxy p))) j given))
+      (proxy_more sent (sent ++ o.sends) (λ d m. Member-first d sent o.sends m) (role kind.Proxy p) o.volatile (proxy_notes c sent
+      (role kind.Proxy p) v (subst (λ (s : State). NotedState history sent (role kind.Proxy p) s) at (h (role kind.Proxy p))) j given))
 
   fresh_noted : (history : List KeptRecord) (sent : List Letter) (me : RoleId) (k : Kind) → NotedState history sent me (fresh_state c k)
   fresh_noted history sent me kind.Leader =
@@ -179,7 +183,8 @@ module _ (c : Cluster) where
   }
 
   all_noted : (es : List Event) → HoldsIn AreNoted (run c es)
-  all_noted = always c (Known c []) AreNoted noted_laws (λ es. record { kinds = kinds_hold c es; facts = facts_hold c es; has = λ k m. absurd m })
+  all_noted =
+      always c (Known c []) AreNoted noted_laws (λ es. record { kinds = kinds_hold c es; facts = facts_hold c es; has = λ k m. absurd m })
 
 module _ (c : Cluster) (es : List Event) where
   abbrev w : World
@@ -206,7 +211,8 @@ module _ (c : Cluster) (es : List Event) where
   -- by a record that gives a round a matchmaker has it
   has_by : (m : ℕ) (i : Round) (r : Record) → is_round_in i r ≡ true → HasKept history (role kind.Matchmaker m) r
       → (g : Shape) × HasRound history (role kind.Matchmaker m) i g
-  has_by m i (kept.Match j g) t x = (g, inl (subst (λ k. HasKept history (role kind.Matchmaker m) (kept.Match k g)) (same_round-true j i t) x))
+  has_by m i (kept.Match j g) t x =
+      (g, inl (subst (λ k. HasKept history (role kind.Matchmaker m) (kept.Match k g)) (same_round-true j i t) x))
   has_by m i (kept.Boot s v es) t x =
       let y = any-Member (λ (z : Entry). same_round z.round i) es t in
       ((y.0).grid, inr (s, v, es, x, subst (λ (k : Round). Member (entry k (y.0).grid) es) (same_round-true (y.0).round i y.2) y.1))

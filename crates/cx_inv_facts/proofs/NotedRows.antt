@@ -1,5 +1,6 @@
 -- Each row of a leader and of a proxy leader leaves what it notes with a datagram that it came in.
-use Rattle.std.proofs.Common.{◌≡◌, ℕ, zero, suc, ◌+◌, ◌≤◌, true, false, not, ◌&&◌, ◌||◌, ◌==◌, ◌⊎◌, List, [], ◌∷◌, ◌++◌, filter, max, Option, None, Some, ap, sym, subst, ◌∙◌, refl, inl, inr, arith}
+use Rattle.std.proofs.Common.{◌≡◌, ℕ, zero, suc, ◌+◌, ◌≤◌, true, false, not, ◌&&◌, ◌||◌, ◌==◌, ◌⊎◌, List, [], ◌∷◌, ◌++◌, filter, max}
+use Rattle.std.proofs.Common.{Option, None, Some, ap, sym, subst, ◌∙◌, refl, inl, inr, arith}
 use Rattle.std.specs.Prelude.{nat_le, nat_lt, length, slice_index_or, slice_set}
 use Rattle.std.proofs.lemmas.Bool.{true≢false, and_parts, not-false, leb-true, ltb-false, cases_Bool}
 use Rattle.std.proofs.lemmas.Bool.Decides.{nat_tests}
@@ -34,9 +35,13 @@ use Rattle.cx_model.specs.declared.states.Mode.TheVariants.{Idle, Matching, Phas
 use Rattle.cx_model.specs.declared.states.Pending.{Pending}
 use Rattle.cx_model.specs.declared.states.Promised.{Promised}
 use Rattle.cx_model.specs.declared.states.Stage.TheVariants.{Collecting, Retired}
-use Rattle.cx_model.specs.Collection.{Collection, collection_from, with_informed, with_forgotten, is_off, is_informing, is_collecting, is_retired}
+use Rattle.cx_model.specs.Collection.{Collection, collection_from, with_informed, with_forgotten, is_off, is_informing, is_collecting}
+use Rattle.cx_model.specs.Collection.{is_retired}
 use Rattle.cx_model.specs.Facts.{LeaderWasTold}
-use Rattle.cx_model.specs.Leader.{LeaderDurable, LeaderVolatile, round_of, is_own, is_idle, is_matching, is_promising, is_leading, begin_in, finish, is_changed, matched_by, match_counted, promise_counted, with_seen, propose_in, collect_in, informed_counted, informed_in, forgotten_counted, is_past_window, is_settled, count_reaching, greatest_of, held_by, raised_to, set_learnt, leader_takes, tick_in, order_row, leader_row, has_no_room}
+use Rattle.cx_model.specs.Leader.{LeaderDurable, LeaderVolatile, round_of, is_own, is_idle, is_matching, is_promising, is_leading, begin_in}
+use Rattle.cx_model.specs.Leader.{finish, is_changed, matched_by, match_counted, promise_counted, with_seen, propose_in, collect_in}
+use Rattle.cx_model.specs.Leader.{informed_counted, informed_in, forgotten_counted, is_past_window, is_settled, count_reaching, greatest_of}
+use Rattle.cx_model.specs.Leader.{held_by, raised_to, set_learnt, leader_takes, tick_in, order_row, leader_row, has_no_room}
 use Rattle.cx_model.specs.Matched.{enough, is_counted, live_entries, is_member_of, rows_whole}
 use Rattle.cx_model.specs.Member.{Member}
 use Rattle.cx_model.specs.Names.{names, names_grid}
@@ -91,19 +96,22 @@ greatest_there (n ∷ ns) = elim (cases_Bool (nat_le (greatest_of ns) n)) [
 held_reached : (count : ℕ) (held : List ℕ) → (held_by count held ≡ 0) ⊎ (count ≤ count_reaching (held_by count held) held)
 held_reached count held = elim (greatest_there (filter (λ n. nat_le count (count_reaching n held)) held)) [
   | inl z ↦ inl z
-  | inr m ↦ inr (leb-true count (count_reaching (held_by count held) held) (Member-filter (λ n. nat_le count (count_reaching n held)) (held_by count held) held m).1)
+  | inr m ↦ inr (leb-true count (count_reaching (held_by count held) held)
+      (Member-filter (λ n. nat_le count (count_reaching n held)) (held_by count held) held m).1)
 ]
 
 -- what acceptors reported
 
-cw_told : (low : ℕ) (promises : List Promised) → (greatest_cw low promises ≡ low) ⊎ ((q : Promised) × Member q promises × (greatest_cw low promises ≡ q.cw))
+cw_told : (low : ℕ) (promises : List Promised)
+    → (greatest_cw low promises ≡ low) ⊎ ((q : Promised) × Member q promises × (greatest_cw low promises ≡ q.cw))
 cw_told low [] = inl refl
 cw_told low (p ∷ promises) = elim (cases_Bool (nat_le (greatest_cw low promises) p.cw)) [
   | inl t ↦ (let e : max p.cw (greatest_cw low promises) ≡ p.cw = grind (arith, nat_tests) in inr (p, inl refl, e))
-  | inr f ↦ (let e : max p.cw (greatest_cw low promises) ≡ greatest_cw low promises = grind (arith, nat_tests) in elim (cw_told low promises) [
-    | inl z ↦ inl (e ∙ z)
-    | inr r ↦ inr (r.0, inr r.1, e ∙ r.2)
-  ])
+  | inr f ↦
+      (let e : max p.cw (greatest_cw low promises) ≡ greatest_cw low promises = grind (arith, nat_tests) in elim (cw_told low promises) [
+        | inl z ↦ inl (e ∙ z)
+        | inr r ↦ inr (r.0, inr r.1, e ∙ r.2)
+      ])
 ]
 
 module _ (c : Cluster) (history : List KeptRecord) (sent : List Letter) (states : RoleId → State) (kinds : Kinds history sent states)
@@ -125,7 +133,8 @@ module _ (c : Cluster) (history : List KeptRecord) (sent : List Letter) (states 
   -- what else changes doesn't matter
   alike : (mode : Mode) (told : List MatchAnswer) (promises : List Promised) (next end : ℕ) (chosen : List ℕ)
       → Noted (record v { mode = mode; told = told; promises = promises; next = next; end = end; chosen = chosen })
-  alike mode told promises next end chosen = record { seen = notes.seen; proposed = notes.proposed; cw = notes.cw; once = notes.once; retired = notes.retired }
+  alike mode told promises next end chosen =
+      record { seen = notes.seen; proposed = notes.proposed; cw = notes.cw; once = notes.once; retired = notes.retired }
 
   moded : (mode : Mode) (u : LeaderVolatile) → Noted u → Noted (record u { mode = mode })
   moded mode u h = record { seen = h.seen; proposed = h.proposed; cw = h.cw; once = h.once; retired = h.retired }
@@ -157,8 +166,8 @@ module _ (c : Cluster) (history : List KeptRecord) (sent : List Letter) (states 
   old_told : AreTold v.promises
   old_told q m = (round_of d.own, (role kind.Acceptor q.acceptor, told.promises q m))
 
-  planned : (promises : List Promised) → AreTold promises → (s : ℕ) (p : Placed) → p.slot ≡ s → (o : Option Vote) → best_vote s (votes_told promises) ≡ o
-      → p.value ≡ voted_value o → (p.value ≡ Noop) ⊎ IsReported sent me p
+  planned : (promises : List Promised) → AreTold promises → (s : ℕ) (p : Placed) → p.slot ≡ s → (o : Option Vote)
+      → best_vote s (votes_told promises) ≡ o → p.value ≡ voted_value o → (p.value ≡ Noop) ⊎ IsReported sent me p
   planned promises h s p slot None e same = inl same
   planned promises h s p slot (Some u) e same =
       let best = subst (λ (o : Option Vote). Greatest s (votes_told promises) o) e (best_is_greatest s (votes_told promises)) in
@@ -178,12 +187,14 @@ module _ (c : Cluster) (history : List KeptRecord) (sent : List Letter) (states 
   finished_by : (own : Entry) (u : LeaderVolatile) → Noted u → AreTold u.promises → NotesOn (finish c me own u)
   finished_by own u h promises =
       let p = plan u.cw u.promises in
-      goes_on why.Leads (record u { mode = Leading; promises = []; cw = p.cw; next = p.end; end = p.end; proposed = placed_from p.cw p.values; chosen = [] }) _
-      record {
+      goes_on why.Leads
+      (record u { mode = Leading; promises = []; cw = p.cw; next = p.end; end = p.end; proposed = placed_from p.cw p.values; chosen = [] })
+      _ record {
         seen = h.seen;
         proposed = λ x m.
             let r = placed_at (λ s. voted_value (best_vote s (votes_told u.promises))) p.cw _ x m in
-            elim (planned u.promises promises x.slot x refl (best_vote x.slot (votes_told u.promises)) refl r.2) [ inl e ↦ inl e | inr k ↦ inr (inl k) ];
+            elim (planned u.promises promises x.slot x refl (best_vote x.slot (votes_told u.promises)) refl
+            r.2) [ inl e ↦ inl e | inr k ↦ inr (inl k) ];
         cw = elim (cw_told u.cw u.promises) [
           | inl e ↦ subst (λ n. (n ≡ 0) ⊎ (IsPromised sent me n ⊎ (enough c ≤ count_reaching n u.held))) (sym e) h.cw
           | inr q ↦ (let came = promises q.0 q.1 in
@@ -200,14 +211,14 @@ module _ (c : Cluster) (history : List KeptRecord) (sent : List Letter) (states 
   answers_counted : (o : Option Entry) (u : LeaderVolatile) → Noted u → AreTold u.promises → NotesOn (match_counted c me o u)
   answers_counted None u h promises = goes_on why.Old u [] h
   answers_counted (Some own) u h promises =
-      either_way NotesOn (nat_lt (length u.told) (enough c)) _ _ (goes_on why.Counted u [] h)
-      (either_way NotesOn (is_changed own.round) _ _ (goes_on why.Bypassed (record u { mode = Leading; end = u.next; chosen = [] }) _ (bypassed u h))
+      either_way NotesOn (nat_lt (length u.told) (enough c)) _ _ (goes_on why.Counted u [] h) (either_way NotesOn (is_changed own.round)
+      _ _ (goes_on why.Bypassed (record u { mode = Leading; end = u.next; chosen = [] }) _ (bypassed u h))
       (matched own u h promises (live_entries u.told)))
 
   promises_counted : (o : Option Entry) (u : LeaderVolatile) → Noted u → AreTold u.promises → NotesOn (promise_counted c me o u)
   promises_counted None u h promises = goes_on why.Old u [] h
-  promises_counted (Some own) u h promises =
-      either_way NotesOn (rows_whole (live_entries u.told) (promised_by u.promises)) _ _ (finished_by own u h promises) (goes_on why.Counted u [] h)
+  promises_counted (Some own) u h promises = either_way NotesOn (rows_whole (live_entries u.told) (promised_by u.promises))
+      _ _ (finished_by own u h promises) (goes_on why.Counted u [] h)
 
   -- while it leads
 
@@ -221,7 +232,8 @@ module _ (c : Cluster) (history : List KeptRecord) (sent : List Letter) (states 
         seen = notes.seen;
         proposed = λ p m. elim (Member-cases p v.proposed (placed ∷ []) m) [
           | inl k ↦ notes.proposed p k
-          | inr k ↦ Member-one (λ (x : Placed). (x.value ≡ Noop) ⊎ (IsReported sent me x ⊎ ((ks : List Command) × (x.value ≡ Batch ks) × Came sent me (msg.Batch ks))))
+          | inr k ↦ Member-one (λ (x : Placed).
+              (x.value ≡ Noop) ⊎ (IsReported sent me x ⊎ ((ks : List Command) × (x.value ≡ Batch ks) × Came sent me (msg.Batch ks))))
               placed (inr (inr (commands, refl, came))) p k
         ];
         cw = notes.cw;
@@ -265,8 +277,8 @@ module _ (c : Cluster) (history : List KeptRecord) (sent : List Letter) (states 
       → (is_retired k.stage ≡ true → (enough c ≤ length k.counted)
       × ((m : ℕ) → Member m k.counted → Member (letter (role kind.Matchmaker m) me (msg.GarbageB (round_of d.own))) sent))
       → NotesOn (replied w (record v { collection = k }) ds)
-  collects w k ds once retired =
-      goes_on w (record v { collection = k }) ds record { seen = notes.seen; proposed = notes.proposed; cw = notes.cw; once = once; retired = retired }
+  collects w k ds once retired = goes_on w (record v { collection = k }) ds
+      record { seen = notes.seen; proposed = notes.proposed; cw = notes.cw; once = once; retired = retired }
 
   collection_begun : (o : Option Entry) → NotesOn (collect_in c me v o)
   collection_begun None = stays why.Idle
@@ -281,7 +293,8 @@ module _ (c : Cluster) (history : List KeptRecord) (sent : List Letter) (states 
       (collects why.Collecting (record v.collection { stage = Collecting; counted = [] }) _ tt (λ t. cc))
       (either_way NotesOn (is_collecting v.collection.stage) _ _ (counts why.Collecting _) (counts why.Counted []))
     where
-      counts : (w : Why) (ds : List Letter) → NotesOn (replied w (record v { collection = record v.collection { counted = with_mark from v.collection.counted } }) ds)
+      counts : (w : Why) (ds : List Letter)
+          → NotesOn (replied w (record v { collection = record v.collection { counted = with_mark from v.collection.counted } }) ds)
       counts w ds =
           collects w (record v.collection { counted = with_mark from v.collection.counted }) ds
           (once_marked from v.collection.counted (not_in from v.collection.counted new) notes.once)
@@ -305,7 +318,8 @@ module _ (c : Cluster) (history : List KeptRecord) (sent : List Letter) (states 
       (λ f. collects _ (record v.collection { stage = Retired; counted = marks }) [] once
       (λ r. (ltb-false (length marks) (enough c) f, forgot)))
     where
-      forgot : (n : ℕ) → Member n (with_mark m v.collection.counted) → Member (letter (role kind.Matchmaker n) me (msg.GarbageB (round_of d.own))) sent
+      forgot : (n : ℕ) → Member n (with_mark m v.collection.counted)
+          → Member (letter (role kind.Matchmaker n) me (msg.GarbageB (round_of d.own))) sent
       forgot n k = elim (mark-cases n m v.collection.counted k) [
         | inl e ↦ subst (λ x. Member (letter (role kind.Matchmaker x) me (msg.GarbageB (round_of d.own))) sent) (sym e) is_sent
         | inr o ↦ told.forgotten n collecting o
@@ -339,8 +353,10 @@ module _ (c : Cluster) (history : List KeptRecord) (sent : List Letter) (states 
       (answers_counted d.own _ (alike v.mode _ v.promises v.next v.end v.chosen) old_told))
   took from (msg.MatchNack j reason other) is_sent =
       let named : IsNamedByRefusal sent me other = inr (j, reason, (from, is_sent)) in
-      either_way NotesOn (is_idle v.mode || not (is_own d j) || not (is_in from.index v.set)) _ _ (goes_on why.Old _ [] (heard v.mode other named))
-      (either_way NotesOn (has_no_room reason) _ _ (goes_on why.Full _ [] (heard v.mode other named)) (goes_on why.Nacked _ [] (heard Idle other named)))
+      either_way NotesOn (is_idle v.mode || not (is_own d j) || not (is_in from.index v.set))
+      _ _ (goes_on why.Old _ [] (heard v.mode other named))
+      (either_way NotesOn (has_no_room reason) _ _ (goes_on why.Full _ [] (heard v.mode other named))
+      (goes_on why.Nacked _ [] (heard Idle other named)))
   took from (msg.Phase1B j low votes) is_sent =
       either_way NotesOn (not (is_promising v.mode && is_own d j)) _ _ (stays why.Old)
       (either_way NotesOn (not (is_member_of (live_entries v.told) from.index)) _ _ (stays why.Unasked)
@@ -357,23 +373,27 @@ module _ (c : Cluster) (history : List KeptRecord) (sent : List Letter) (states 
       ]
   took from (msg.Nack j promise) is_sent =
       let named : IsNamedByRefusal sent me promise = inl (j, (from, is_sent)) in
-      either_way NotesOn (is_idle v.mode || not (is_own d j)) _ _ (goes_on why.Old _ [] (heard v.mode promise named)) (goes_on why.Nacked _ [] (heard Idle promise named))
-  took from (msg.Batch commands) is_sent = either_way NotesOn (is_leading v.mode) _ _ (proposed commands (from, is_sent) d.own) (stays why.Idle)
+      either_way NotesOn (is_idle v.mode || not (is_own d j)) _ _ (goes_on why.Old _ [] (heard v.mode promise named))
+      (goes_on why.Nacked _ [] (heard Idle promise named))
+  took from (msg.Batch commands) is_sent =
+      either_way NotesOn (is_leading v.mode) _ _ (proposed commands (from, is_sent) d.own) (stays why.Idle)
   took from (msg.ChosenIn j s) is_sent =
       either_way NotesOn (not (is_leading v.mode && is_own d j)) _ _ (stays why.Old)
       (either_way NotesOn (nat_lt s v.cw) _ _ (stays why.Past)
       (either_way NotesOn (nat_le v.next s) _ _ (stays why.Unasked)
       (either_way NotesOn (is_in s v.chosen) _ _ (stays why.Same)
       (goes_on why.Chosen _ [] (alike v.mode v.told v.promises v.next v.end _)))))
-  took from (msg.Held n) is_sent =
-      by_test NotesOn (nat_le n (slice_index_or v.held from.index 0)) _ _ (λ t. stays why.Same) (λ f. goes_on why.Held _ [] (raised from.index n f))
-  took from (msg.Informed j n) is_sent =
-      by_test NotesOn (not (is_leading v.mode && is_own d j && is_informing v.collection.stage && nat_le v.collection.mark n)) _ _ (λ t. stays why.Old)
-      (λ f. let p = and_parts (is_leading v.mode && is_own d j && is_informing v.collection.stage) (nat_le v.collection.mark n) (not-false _ f) in
+  took from (msg.Held n) is_sent = by_test NotesOn (nat_le n (slice_index_or v.held from.index 0)) _ _ (λ t. stays why.Same)
+      (λ f. goes_on why.Held _ [] (raised from.index n f))
+  took from (msg.Informed j n) is_sent = by_test NotesOn
+      (not (is_leading v.mode && is_own d j && is_informing v.collection.stage && nat_le v.collection.mark n)) _ _ (λ t. stays why.Old)
+      (λ f.
+      let p = and_parts (is_leading v.mode && is_own d j && is_informing v.collection.stage) (nat_le v.collection.mark n) (not-false _ f) in
       informed_by from (and_parts (is_leading v.mode && is_own d j) (is_informing v.collection.stage) p.0).1 d.own)
-  took from (msg.GarbageB j) is_sent =
-      by_test NotesOn (not (is_leading v.mode && is_own d j && is_collecting v.collection.stage && is_in from.index v.set)) _ _ (λ t. stays why.Old)
-      (λ f. let o = and_parts (is_leading v.mode && is_own d j && is_collecting v.collection.stage) (is_in from.index v.set) (not-false _ f) in
+  took from (msg.GarbageB j) is_sent = by_test NotesOn
+      (not (is_leading v.mode && is_own d j && is_collecting v.collection.stage && is_in from.index v.set)) _ _ (λ t. stays why.Old)
+      (λ f.
+      let o = and_parts (is_leading v.mode && is_own d j && is_collecting v.collection.stage) (is_in from.index v.set) (not-false _ f) in
       let p = and_parts (is_leading v.mode && is_own d j) (is_collecting v.collection.stage) o.0 in
       let q = and_parts (is_leading v.mode) (is_own d j) p.0 in
       by_test NotesOn (is_in from.index v.collection.counted) _ _ (λ t. stays why.Same)
@@ -399,9 +419,8 @@ module _ (c : Cluster) (history : List KeptRecord) (sent : List Letter) (states 
   ordered (Replace s) = stays why.Stranger
 
   pub notes_on : (j : Input) → Given sent me j → NotesOn (leader_row c me d v j)
-  notes_on (Take x) given =
-      either_way NotesOn (same_role x.to me && names c x) _ _ (took x.from x.msg (subst (λ a. Member (letter x.from a x.msg) sent) given.0 given.1))
-      (stays why.Stranger)
+  notes_on (Take x) given = either_way NotesOn (same_role x.to me && names c x)
+      _ _ (took x.from x.msg (subst (λ a. Member (letter x.from a x.msg) sent) given.0 given.1)) (stays why.Stranger)
   notes_on Tick given = ticked v.mode d.own
   notes_on (Order order) given = ordered order
 
@@ -414,7 +433,8 @@ module _ (c : Cluster) (sent : List Letter) (me : RoleId) (v : ProxyVolatile) (n
   abbrev IsKnown : ℕ → Type 0
   IsKnown n = (n ≡ 0) ⊎ ((i : Round) × (g : Shape) × (s : ℕ) × (u : Value) × Came sent me (msg.Propose i g s n u))
 
-  heard_of : (i : Round) (g : Shape) (s cw : ℕ) (u : Value) → Came sent me (msg.Propose i g s cw u) → ProxyNotes sent me (proxy.raised_to cw v)
+  heard_of : (i : Round) (g : Shape) (s cw : ℕ) (u : Value) → Came sent me (msg.Propose i g s cw u)
+      → ProxyNotes sent me (proxy.raised_to cw v)
   heard_of i g s cw u came = elim (cases_Bool (nat_le cw v.known)) [
     | inl t ↦ (let e : max v.known cw ≡ v.known = grind (arith, nat_tests) in subst IsKnown (sym e) notes)
     | inr f ↦ (let e : max v.known cw ≡ cw = grind (arith, nat_tests) in subst IsKnown (sym e) (inr (i, g, s, u, came)))
@@ -422,7 +442,8 @@ module _ (c : Cluster) (sent : List Letter) (me : RoleId) (v : ProxyVolatile) (n
 
   proposed_over : (w : ProxyVolatile) (p : Pending) (o : Option Pending) → ProxyNotes sent me w → ProxyNoted (propose_over c me w p o)
   proposed_over w p None h = h
-  proposed_over w p (Some old) h = either_way ProxyNoted (is_before p.round old.round) _ _ h (either_way ProxyNoted (same_round old.round p.round) _ _ h h)
+  proposed_over w p (Some old) h =
+      either_way ProxyNoted (is_before p.round old.round) _ _ h (either_way ProxyNoted (same_round old.round p.round) _ _ h h)
 
   voted_for : (a : ℕ) (i : Round) (o : Option Pending) → ProxyNoted (vote_for c me v a i o)
   voted_for a i None = notes
@@ -445,7 +466,7 @@ module _ (c : Cluster) (sent : List Letter) (me : RoleId) (v : ProxyVolatile) (n
   proxy_ticked (p ∷ ps) = notes
 
   pub proxy_notes : (j : Input) → Given sent me j → ProxyNoted (proxy_row c me tt v j)
-  proxy_notes (Take x) given =
-      either_way ProxyNoted (same_role x.to me && names c x) _ _ (proxy_took x.from x.msg (subst (λ a. Member (letter x.from a x.msg) sent) given.0 given.1)) notes
+  proxy_notes (Take x) given = either_way ProxyNoted (same_role x.to me && names c x)
+      _ _ (proxy_took x.from x.msg (subst (λ a. Member (letter x.from a x.msg) sent) given.0 given.1)) notes
   proxy_notes Tick given = proxy_ticked v.pending
   proxy_notes (Order order) given = notes

@@ -17,7 +17,8 @@ use Rattle.cx_model.specs.Replica.{replica_rules}
 use Rattle.cx_model.specs.World.{run}
 use Rattle.cx_inv_run.specs.Kinds.{OfKind}
 use Rattle.cx_inv_run.specs.Laws.{Lands, Laws}
-use Rattle.cx_inv_run.specs.States.{State, BatcherIn, LeaderIn, ProxyIn, ReplicaIn, ReaderIn, ReplacerIn, plain, entry_by, with_record, durable_of, HoldsIn}
+use Rattle.cx_inv_run.specs.States.{State, BatcherIn, LeaderIn, ProxyIn, ReplicaIn, ReaderIn, ReplacerIn, plain, entry_by, with_record}
+use Rattle.cx_inv_run.specs.States.{durable_of, HoldsIn}
 use Rattle.cx_inv_run.proofs.Senders.{batcher_kinds, proxy_kinds, replica_kinds, unbatcher_kinds, reader_kinds}
 use Rattle.cx_inv_run.proofs.Steps.{always}
 use Rattle.cx_inv_match.specs.Facts.{Facts}
@@ -29,7 +30,8 @@ use Rattle.cx_inv_facts.proofs.Replacers.{replacer_next}
 
 module _ (history : List KeptRecord) (sent : List Letter) (states : RoleId → State) (h : Ordered history sent states) (me : RoleId) where
   one_more : (r : Record) → IsNext history me r → Each LaterOfOne (entry_by me r ∷ history)
-  one_more r next = (λ k m e. later k.what (subst (λ (a : RoleId). Member {X = KeptRecord} (record { role = a; what = k.what }) history) e m), h)
+  one_more r next =
+      (λ k m e. later k.what (subst (λ (a : RoleId). Member {X = KeptRecord} (record { role = a; what = k.what }) history) e m), h)
     where
       later : (w : Written) → Member {X = KeptRecord} (record { role = me; what = w }) history → IsLaterChange (written.Record r) w
       later (written.Record s) m = is_later history me r next s m
@@ -76,8 +78,8 @@ ordered_laws c = record {
   snap = λ history sent states p v first facts h is e. (λ k m f. tt, h);
   unbatcher = λ history sent states u i facts h is given.
       calm history sent states h (role kind.Unbatcher u) plain _ tt (unbatcher_kinds c (role kind.Unbatcher u) refl i);
-  reader = λ history sent states r v i facts h is given.
-      calm history sent states h (role kind.Reader r) ReaderIn _ tt (reader_kinds c (role kind.Reader r) refl (durable_of reader_rules (role kind.Reader r) history) v i);
+  reader = λ history sent states r v i facts h is given. calm history sent states h (role kind.Reader r) ReaderIn _ tt
+      (reader_kinds c (role kind.Reader r) refl (durable_of reader_rules (role kind.Reader r) history) v i);
   replacer = λ history sent states x v i facts h is given.
       in_order history sent states h (role kind.Replacer x) ReplacerIn _ _ refl (replacer_next c history sent states facts x v i);
 }

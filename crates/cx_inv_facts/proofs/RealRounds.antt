@@ -23,9 +23,11 @@ use Rattle.cx_model.specs.Replica.{replica_rules}
 use Rattle.cx_model.specs.World.{run}
 use Rattle.cx_inv_run.specs.Kinds.{IsKept, OfKind}
 use Rattle.cx_inv_run.specs.Laws.{Lands, Laws}
-use Rattle.cx_inv_run.specs.States.{State, BatcherIn, LeaderIn, ProxyIn, ReplicaIn, ReaderIn, ReplacerIn, plain, entry_by, with_record, durable_of, HoldsIn}
+use Rattle.cx_inv_run.specs.States.{State, BatcherIn, LeaderIn, ProxyIn, ReplicaIn, ReaderIn, ReplacerIn, plain, entry_by, with_record}
+use Rattle.cx_inv_run.specs.States.{durable_of, HoldsIn}
 use Rattle.cx_inv_run.proofs.Histories.{kept_cases, no_snap}
-use Rattle.cx_inv_run.proofs.Senders.{batcher_kinds, proxy_kinds, acceptor_kinds, matchmaker_kinds, replica_kinds, unbatcher_kinds, reader_kinds}
+use Rattle.cx_inv_run.proofs.Senders.{batcher_kinds, proxy_kinds, acceptor_kinds, matchmaker_kinds, replica_kinds, unbatcher_kinds}
+use Rattle.cx_inv_run.proofs.Senders.{reader_kinds}
 use Rattle.cx_inv_run.proofs.LeaderSenders.{replacer_kinds}
 use Rattle.cx_inv_run.proofs.Steps.{always}
 use Rattle.cx_inv_match.specs.Facts.{Facts}
@@ -51,7 +53,8 @@ real_next history me (kept.Round i g) next = next.0
 real_next history me r next = tt
 
 module _ (history : List KeptRecord) (sent : List Letter) (states : RoleId → State) (h : AreReal history sent states) (me : RoleId) where
-  one_more : (r : Record) → IsReal r → (a : RoleId) (i : Round) (g : Shape) → HasKept (entry_by me r ∷ history) a (kept.Round i g) → is_before no_round i ≡ true
+  one_more : (r : Record) → IsReal r → (a : RoleId) (i : Round) (g : Shape) → HasKept (entry_by me r ∷ history) a (kept.Round i g)
+      → is_before no_round i ≡ true
   one_more r real a i g x = elim (kept_cases me a r (kept.Round i g) history x) [
     | inl q ↦ subst IsReal (sym q.1) real
     | inr o ↦ h a i g o
@@ -71,8 +74,10 @@ module _ (history : List KeptRecord) (sent : List Letter) (states : RoleId → S
     cut = λ q p. one_more q (real q (sym e ∙ p));
   }
 
-  calm : {V : Type 0} (make : V → State) (o : Outcome V) → (me.kind ≡ kind.Leader → ⊥) → OfKind me o → Lands AreReal history sent states me make o
-  calm make o other kinds = landed make o o.kept refl (λ r e. no_round_kept me.kind other r (subst (λ (x : Option Record). IsKept me.kind x) e kinds.keeps))
+  calm : {V : Type 0} (make : V → State) (o : Outcome V) → (me.kind ≡ kind.Leader → ⊥) → OfKind me o
+      → Lands AreReal history sent states me make o
+  calm make o other kinds =
+      landed make o o.kept refl (λ r e. no_round_kept me.kind other r (subst (λ (x : Option Record). IsKept me.kind x) e kinds.keeps))
 
 real_laws : (c : Cluster) → Laws c (λ n e. Unit {0}) (Facts c) AreReal
 real_laws c = record {
@@ -98,13 +103,14 @@ real_laws c = record {
   replica = λ history sent states p v i facts h is given.
       calm history sent states h (role kind.Replica p) ReplicaIn _ (λ q. cc)
       (replica_kinds c (role kind.Replica p) refl (durable_of replica_rules (role kind.Replica p) history) v i);
-  snap = λ history sent states p v first facts h is e me i g x. h me i g (no_snap (role kind.Replica p) me first (kept.Round i g) history x);
+  snap =
+      λ history sent states p v first facts h is e me i g x. h me i g (no_snap (role kind.Replica p) me first (kept.Round i g) history x);
   unbatcher = λ history sent states u i facts h is given.
       calm history sent states h (role kind.Unbatcher u) plain _ (λ p. cc) (unbatcher_kinds c (role kind.Unbatcher u) refl i);
-  reader = λ history sent states r v i facts h is given.
-      calm history sent states h (role kind.Reader r) ReaderIn _ (λ p. cc) (reader_kinds c (role kind.Reader r) refl (durable_of reader_rules (role kind.Reader r) history) v i);
-  replacer = λ history sent states x v i facts h is given.
-      calm history sent states h (role kind.Replacer x) ReplacerIn _ (λ p. cc) (replacer_kinds c (role kind.Replacer x) refl (durable_of replacer_rules (role kind.Replacer x) history) v i);
+  reader = λ history sent states r v i facts h is given. calm history sent states h (role kind.Reader r) ReaderIn _ (λ p. cc)
+      (reader_kinds c (role kind.Reader r) refl (durable_of reader_rules (role kind.Reader r) history) v i);
+  replacer = λ history sent states x v i facts h is given. calm history sent states h (role kind.Replacer x) ReplacerIn _ (λ p. cc)
+      (replacer_kinds c (role kind.Replacer x) refl (durable_of replacer_rules (role kind.Replacer x) history) v i);
 }
 
 pub all_real : (c : Cluster) (es : List Event) → HoldsIn AreReal (run c es)

@@ -25,14 +25,16 @@ use Rattle.cx_model.specs.Matched.{enough, first_set}
 use Rattle.cx_model.specs.Names.{names, names_set}
 use Rattle.cx_model.specs.Outcome.{Outcome, either_way}
 use Rattle.cx_model.specs.Promises.{HasKept}
-use Rattle.cx_model.specs.Replacer.{ReplacerDurable, ReplacerVolatile, replacer_rules, is_resting, is_stopping, is_deciding, is_booting, has_halted, joined_entries, begin_in, halt_counted, next_counted, boot_counted, replacer_takes, tick_in, replacer_orders, replacer_row}
+use Rattle.cx_model.specs.Replacer.{ReplacerDurable, ReplacerVolatile, replacer_rules, is_resting, is_stopping, is_deciding, is_booting}
+use Rattle.cx_model.specs.Replacer.{has_halted, joined_entries, begin_in, halt_counted, next_counted, boot_counted, replacer_takes, tick_in}
+use Rattle.cx_model.specs.Replacer.{replacer_orders, replacer_row}
 use Rattle.cx_inv_run.specs.States.{State, durable_of}
 use Rattle.cx_inv_run.proofs.Rounds.{before-from_at_most}
 use Rattle.cx_inv_match.specs.Facts.{Facts}
 use Rattle.cx_inv_facts.proofs.Next.{AllNext, lead_after-above}
 
-module _ (c : Cluster) (history : List KeptRecord) (sent : List Letter) (states : RoleId → State) (facts : Facts c history sent states) (x : ℕ)
-    (v : ReplacerVolatile) where
+module _ (c : Cluster) (history : List KeptRecord) (sent : List Letter) (states : RoleId → State) (facts : Facts c history sent states)
+    (x : ℕ) (v : ReplacerVolatile) where
   abbrev me : RoleId
   me = role kind.Replacer x
 

@@ -1,5 +1,5 @@
--- Where what a running leader or proxy leader notes came from, and which record and which datagram come in which order: beside what cx_model's
--- Facts say. Nothing of it is proved here.
+-- Where what a running leader or proxy leader notes came from, and which record and which datagram come in which order: beside what
+-- cx_model's Facts say. Nothing of it is proved here.
 use Rattle.std.specs.Prelude.{◌≡◌, ◌⊎◌, ℕ, ◌≤◌, true, List, length}
 use Rattle.cx_base.specs.declared.cluster.Cluster.{Cluster}
 use Rattle.cx_base.specs.declared.command.Command.{Command}
@@ -35,7 +35,8 @@ Came sent me m = (from : RoleId) × Member (letter from me m) sent
 
 -- a refusal that came to the leader names this round
 abbrev pub IsNamedByRefusal : List Letter → RoleId → Round → Type 0
-IsNamedByRefusal sent me j = ((i : Round) × Came sent me (msg.Nack i j)) ⊎ ((i : Round) × (reason : NackReason) × Came sent me (msg.MatchNack i reason j))
+IsNamedByRefusal sent me j =
+    ((i : Round) × Came sent me (msg.Nack i j)) ⊎ ((i : Round) × (reason : NackReason) × Came sent me (msg.MatchNack i reason j))
 
 -- a promise that came to the leader has this chosen watermark
 abbrev pub IsPromised : List Letter → RoleId → ℕ → Type 0
@@ -83,5 +84,5 @@ pub record SourceFacts (c : Cluster) (w : World) : Type 0 where
 pub record OrderFacts (c : Cluster) (es : List Event) : Type 0 where
   pub own_grid : (m : ℕ) (i : Round) (g : Shape) → has_recorded (run c es).kept m i ≡ true → IsConfig (run c es).kept i g
       → HasRound (run c es).kept (role kind.Matchmaker m) i g
-  pub finished_before : (e : Event) (from to : RoleId) (i : Round) (g : Shape) → Member (letter from to (msg.GarbageA i g)) (change (run c es) e).sends
-      → (cw : ℕ) × (end : ℕ) × IsFinished c es i cw end
+  pub finished_before : (e : Event) (from to : RoleId) (i : Round) (g : Shape)
+      → Member (letter from to (msg.GarbageA i g)) (change (run c es) e).sends → (cw : ℕ) × (end : ℕ) × IsFinished c es i cw end

@@ -26,7 +26,8 @@ use Rattle.cx_model.specs.Replacer.{replacer_rules}
 use Rattle.cx_model.specs.Request.{request}
 use Rattle.cx_model.specs.World.{run}
 use Rattle.cx_inv_run.specs.Laws.{Laws}
-use Rattle.cx_inv_run.specs.States.{State, Down, BatcherIn, LeaderIn, ProxyIn, ReplicaIn, ReaderIn, ReplacerIn, plain, fresh_state, durable_of, HoldsIn}
+use Rattle.cx_inv_run.specs.States.{State, Down, BatcherIn, LeaderIn, ProxyIn, ReplicaIn, ReaderIn, ReplacerIn, plain, fresh_state}
+use Rattle.cx_inv_run.specs.States.{durable_of, HoldsIn}
 use Rattle.cx_inv_run.proofs.Quorums.{length-below}
 use Rattle.cx_inv_run.proofs.Senders.{batcher_kinds, matchmaker_kinds, unbatcher_kinds, reader_kinds}
 use Rattle.cx_inv_run.proofs.LeaderSenders.{replacer_kinds}
@@ -77,13 +78,16 @@ start_state c k s (inr e) = subst (λ (x : State). LowState c [] x) (sym e) (fre
 
 low_laws : (c : Cluster) → Laws c (λ n e. Unit {0}) Ties (LowFacts c)
 low_laws c = record {
-  same = λ kept sent states others same h. record { records = h.records; says = h.says; running = λ a. subst (λ (s : State). LowState c kept s) (same a) (h.running a) };
-  start = λ states starts. record { records = λ who r m. absurd m; says = λ d m. absurd m; running = λ a. start_state c a.kind (states a) (starts a) };
+  same = λ kept sent states others same h.
+      record { records = h.records; says = h.says; running = λ a. subst (λ (s : State). LowState c kept s) (same a) (h.running a) };
+  start = λ states starts.
+      record { records = λ who r m. absurd m; says = λ d m. absurd m; running = λ a. start_state c a.kind (states a) (starts a) };
   stop = λ kept sent states me h. low_with c kept sent states h me Down tt;
   wake = λ kept sent states me h down. low_with c kept sent states h me (fresh_state c me.kind) (fresh_low c kept me.kind);
-  ask = λ kept sent states n e allowed known h. record { records = h.records; says = both_low c kept sent (request n e) h.says (request_low c kept n e); running = h.running };
-  batcher = λ kept sent states b v i known h is given.
-      low_lands c kept sent states h (role kind.Batcher b) BatcherIn _ (calm_low c kept BatcherIn (role kind.Batcher b) _ tt tt (batcher_kinds c (role kind.Batcher b) refl v i));
+  ask = λ kept sent states n e allowed known h.
+      record { records = h.records; says = both_low c kept sent (request n e) h.says (request_low c kept n e); running = h.running };
+  batcher = λ kept sent states b v i known h is given. low_lands c kept sent states h (role kind.Batcher b) BatcherIn
+      _ (calm_low c kept BatcherIn (role kind.Batcher b) _ tt tt (batcher_kinds c (role kind.Batcher b) refl v i));
   leader = λ kept sent states l v i known h is given.
       let state = subst (λ (s : State). LowState c kept s) is (h.running (role kind.Leader l)) in
       low_lands c kept sent states h (role kind.Leader l) LeaderIn _
@@ -92,20 +96,22 @@ low_laws c = record {
       let state = subst (λ (s : State). LowState c kept s) is (h.running (role kind.Proxy p)) in
       low_lands c kept sent states h (role kind.Proxy p) ProxyIn _ (proxy_low c kept (role kind.Proxy p) v state sent h.says i given);
   acceptor = λ kept sent states a i known h is given.
-      low_lands c kept sent states h (role kind.Acceptor a) plain _
-      (acceptor_low c kept (role kind.Acceptor a) (durable_of acceptor_rules (role kind.Acceptor a) kept) (acceptor_stored c kept (role kind.Acceptor a) kept h.records) sent h.says i given);
+      low_lands c kept sent states h (role kind.Acceptor a) plain _ (acceptor_low c kept (role kind.Acceptor a) (durable_of acceptor_rules
+      (role kind.Acceptor a) kept) (acceptor_stored c kept (role kind.Acceptor a) kept h.records) sent h.says i given);
   matchmaker = λ kept sent states m i known h is given.
-      low_lands c kept sent states h (role kind.Matchmaker m) plain _
-      (calm_low c kept plain (role kind.Matchmaker m) _ tt tt (matchmaker_kinds c (role kind.Matchmaker m) refl (durable_of matchmaker_rules (role kind.Matchmaker m) kept) i));
-  replica = λ kept sent states p v i known h is given. low_lands c kept sent states h (role kind.Replica p) ReplicaIn _ (replica_low c kept sent states known p v i);
+      low_lands c kept sent states h (role kind.Matchmaker m) plain _ (calm_low c kept plain (role kind.Matchmaker m) _ tt tt
+      (matchmaker_kinds c (role kind.Matchmaker m) refl (durable_of matchmaker_rules (role kind.Matchmaker m) kept) i));
+  replica = λ kept sent states p v i known h is given.
+      low_lands c kept sent states h (role kind.Replica p) ReplicaIn _ (replica_low c kept sent states known p v i);
   snap = λ kept sent states p v first known h is e. low_snap c kept sent states h p first;
-  unbatcher = λ kept sent states u i known h is given.
-      low_lands c kept sent states h (role kind.Unbatcher u) plain _ (calm_low c kept plain (role kind.Unbatcher u) _ tt tt (unbatcher_kinds c (role kind.Unbatcher u) refl i));
+  unbatcher = λ kept sent states u i known h is given. low_lands c kept sent states h (role kind.Unbatcher u) plain
+      _ (calm_low c kept plain (role kind.Unbatcher u) _ tt tt (unbatcher_kinds c (role kind.Unbatcher u) refl i));
   reader = λ kept sent states r v i known h is given.
-      low_lands c kept sent states h (role kind.Reader r) ReaderIn _ (calm_low c kept ReaderIn (role kind.Reader r) _ tt tt (reader_kinds c (role kind.Reader r) refl (durable_of reader_rules (role kind.Reader r) kept) v i));
+      low_lands c kept sent states h (role kind.Reader r) ReaderIn _ (calm_low c kept ReaderIn (role kind.Reader r) _ tt tt
+      (reader_kinds c (role kind.Reader r) refl (durable_of reader_rules (role kind.Reader r) kept) v i));
   replacer = λ kept sent states x v i known h is given.
-      low_lands c kept sent states h (role kind.Replacer x) ReplacerIn _
-      (calm_low c kept ReplacerIn (role kind.Replacer x) _ tt tt (replacer_kinds c (role kind.Replacer x) refl (durable_of replacer_rules (role kind.Replacer x) kept) v i));
+      low_lands c kept sent states h (role kind.Replacer x) ReplacerIn _ (calm_low c kept ReplacerIn (role kind.Replacer x) _ tt tt
+      (replacer_kinds c (role kind.Replacer x) refl (durable_of replacer_rules (role kind.Replacer x) kept) v i));
 }
 
 -- the facts hold in every run
@@ -117,7 +123,8 @@ watermarks_hold c es = watermark_facts c (run c es) (low_facts c es) (lists_hold
 
 pub kept_watermarks : KeptWatermarks
 kept_watermarks = record {
-  chosen_below = λ c es who what cw m e s l. chosen_below c (run c es) (lists_hold low_facts c es) (watermarks_hold c es) cw s ((watermarks_hold c es).records who what cw m e) l;
+  chosen_below = λ c es who what cw m e s l.
+      chosen_below c (run c es) (lists_hold low_facts c es) (watermarks_hold c es) cw s ((watermarks_hold c es).records who what cw m e) l;
   held = λ c es who what cw m e. (watermarks_hold c es).records who what cw m e;
 }
 

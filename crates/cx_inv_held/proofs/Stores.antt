@@ -1,5 +1,6 @@
 -- What is so of replicas' stores, in every run: how many slots a list holds, and that the replica before has what was forgotten.
-use Rattle.std.specs.Prelude.{◌≡◌, ◌⊎◌, ℕ, ◌+◌, ◌-◌, ◌%◌, ◌==◌, ◌&&◌, ◌<◌, ◌≤◌, true, false, nat_lt, nat_le, min, max, map, drop, List, [], ◌∷◌, ◌++◌, length, slice_get, Option, None, Some, refl}
+use Rattle.std.specs.Prelude.{◌≡◌, ◌⊎◌, ℕ, ◌+◌, ◌-◌, ◌%◌, ◌==◌, ◌&&◌, ◌<◌, ◌≤◌, true, false, nat_lt, nat_le, min, max, map, drop, List, []}
+use Rattle.std.specs.Prelude.{◌∷◌, ◌++◌, length, slice_get, Option, None, Some, refl}
 use Rattle.std.specs.List.{list_any}
 use Rattle.std.proofs.Common.{ap, sym, ◌∙◌, subst, inl, inr, arith, length-append, reverse}
 use Rattle.std.proofs.lemmas.Bool.{eqb-true}
@@ -38,16 +39,21 @@ use Rattle.cx_model.specs.Reader.{reader_rules}
 use Rattle.cx_model.specs.Renewed.{IsOrdered}
 use Rattle.cx_model.specs.RenewedLaws.{renewed_folds}
 use Rattle.cx_model.specs.Replacer.{replacer_rules}
-use Rattle.cx_model.specs.Replica.{IsTied, Machine, ReplicaDurable, ReplicaVolatile, before, chosen_row, fetch_found, fetch_row, fetched_by, held, notes_of, pieces, read_row, replica_after, replica_renewed, replica_row, replica_rules, replica_takes, snap_limit}
+use Rattle.cx_model.specs.Replica.{IsTied, Machine, ReplicaDurable, ReplicaVolatile, before, chosen_row, fetch_found, fetch_row, fetched_by}
+use Rattle.cx_model.specs.Replica.{held, notes_of, pieces, read_row, replica_after, replica_renewed, replica_row, replica_rules}
+use Rattle.cx_model.specs.Replica.{replica_takes, snap_limit}
 use Rattle.cx_model.specs.Request.{same_read}
 use Rattle.cx_model.specs.Rules.{folded}
 use Rattle.cx_model.specs.World.{list_after, list_of, log_of, run}
 use Rattle.cx_inv_run.specs.Kinds.{IsKeeper, IsKept, OfKind}
 use Rattle.cx_inv_run.specs.Laws.{Lands, Laws}
-use Rattle.cx_inv_run.specs.States.{State, Down, BatcherIn, LeaderIn, ProxyIn, ReplicaIn, ReaderIn, ReplacerIn, plain, fresh_state, set_state, entry_by, snap_by, with_record, durable_of, log_in, Given, HoldsIn, Property}
+use Rattle.cx_inv_run.specs.States.{State, Down, BatcherIn, LeaderIn, ProxyIn, ReplicaIn, ReaderIn, ReplacerIn, plain, fresh_state}
+use Rattle.cx_inv_run.specs.States.{set_state, entry_by, snap_by, with_record, durable_of, log_in, Given, HoldsIn, Property}
 use Rattle.cx_inv_run.specs.Ties.{Ties}
-use Rattle.cx_inv_run.proofs.Histories.{by_role, durable_by_time, durable_else, durable_none, durable_other, durable_own, durable_snap, log_by_time, log_none, log_other, log_own, log_snap, set_running}
-use Rattle.cx_inv_run.proofs.Senders.{acceptor_kinds, batcher_kinds, matchmaker_kinds, proxy_kinds, reader_kinds, replica_kinds, unbatcher_kinds}
+use Rattle.cx_inv_run.proofs.Histories.{by_role, durable_by_time, durable_else, durable_none, durable_other, durable_own, durable_snap}
+use Rattle.cx_inv_run.proofs.Histories.{log_by_time, log_none, log_other, log_own, log_snap, set_running}
+use Rattle.cx_inv_run.proofs.Senders.{acceptor_kinds, batcher_kinds, matchmaker_kinds, proxy_kinds, reader_kinds, replica_kinds}
+use Rattle.cx_inv_run.proofs.Senders.{unbatcher_kinds}
 use Rattle.cx_inv_run.proofs.LeaderSenders.{leader_kinds, replacer_kinds}
 use Rattle.cx_inv_run.proofs.Sends.{keeps_only, replica_keeps}
 use Rattle.cx_inv_run.proofs.Steps.{always}
@@ -84,7 +90,14 @@ held_renewed d first =
     let ps = map (λ x. kept.Pairs x) (pieces 255 d.machine.map) in
     let ns = map (notes_of d.machine.table) d.machine.table.floors in
     let ts = map (λ vs. kept.Tail vs) (pieces 32 (drop (first - d.first) d.log)) in
-    omega (arith, appended_both (ps ++ ns) ts, appended_both ps ns, no_pairs (pieces 255 d.machine.map), no_notes d.machine.table d.machine.table.floors, no_tail (pieces 32 (drop (first - d.first) d.log)))
+    omega (
+      arith,
+      appended_both (ps ++ ns) ts,
+      appended_both ps ns,
+      no_pairs (pieces 255 d.machine.map),
+      no_notes d.machine.table d.machine.table.floors,
+      no_tail (pieces 32 (drop (first - d.first) d.log)),
+    )
 
 -- the list of a store after one change more, of its own role or of another
 
@@ -93,14 +106,18 @@ change_by me w = record { role = me; what = w }
 
 list_mine : (me : RoleId) (w : Written) (ks : List KeptRecord)
     → list_of replica_rules me (reverse (change_by me w ∷ ks)) ≡ list_after replica_rules (list_of replica_rules me (reverse ks)) w
-list_mine me w ks = ap (λ (l : List KeptRecord). list_of replica_rules me l) (reverse-append (change_by me w ∷ []) ks) ∙ list_own replica_rules me (reverse ks) (Some w)
+list_mine me w ks = ap (λ (l : List KeptRecord). list_of replica_rules me l) (reverse-append (change_by me w ∷ []) ks)
+    ∙ list_own replica_rules me (reverse ks) (Some w)
 
 list_others : (a me : RoleId) (w : Written) (ks : List KeptRecord) → same_role a me ≡ false
     → list_of replica_rules a (reverse (change_by me w ∷ ks)) ≡ list_of replica_rules a (reverse ks)
-list_others a me w ks e = ap (λ (l : List KeptRecord). list_of replica_rules a l) (reverse-append (change_by me w ∷ []) ks) ∙ list_other replica_rules a me (reverse ks) (Some w) e
+list_others a me w ks e = ap (λ (l : List KeptRecord). list_of replica_rules a l) (reverse-append (change_by me w ∷ []) ks)
+    ∙ list_other replica_rules a me (reverse ks) (Some w) e
 
-turned : (me : RoleId) (ks : List KeptRecord) → folded replica_rules (list_of replica_rules me (reverse ks)) ≡ durable_of replica_rules me ks
-turned me ks = durable_by_time replica_rules me (reverse ks) ∙ ap (λ (l : List KeptRecord). durable_of replica_rules me l) (reverse-reverse ks)
+turned : (me : RoleId) (ks : List KeptRecord)
+    → folded replica_rules (list_of replica_rules me (reverse ks)) ≡ durable_of replica_rules me ks
+turned me ks =
+    durable_by_time replica_rules me (reverse ks) ∙ ap (λ (l : List KeptRecord). durable_of replica_rules me l) (reverse-reverse ks)
 
 -- a record that a role keeps leaves the first slot
 
@@ -122,13 +139,13 @@ module _ (c : Cluster) (history : List KeptRecord) (me : RoleId) (d : ReplicaDur
   IsFew o = o.volatile.fetched ≤ n
 
   chosen_few : (s : ℕ) (value : Value) → IsFew (chosen_row c me d v s value)
-  chosen_few s value =
-      either_way IsFew (nat_lt s (held d)) _ _ few (either_way IsFew (nat_le (held d + 32) s) _ _ few (either_way IsFew (nat_lt (held d) s) _ _ few few))
+  chosen_few s value = either_way IsFew (nat_lt s (held d)) _ _ few
+      (either_way IsFew (nat_le (held d + 32) s) _ _ few (either_way IsFew (nat_lt (held d) s) _ _ few few))
 
   read_few : (r : Deferred) → IsFew (read_row me d v r)
   read_few r =
-      either_way IsFew (nat_le r.mark (held d)) _ _ few
-      (either_way IsFew (list_any (λ (other : Deferred). same_read r.token other.token) v.deferred) _ _ few (either_way IsFew (nat_le 64 (length v.deferred)) _ _ few few))
+      either_way IsFew (nat_le r.mark (held d)) _ _ few (either_way IsFew (list_any (λ (other : Deferred). same_read r.token other.token)
+      v.deferred) _ _ few (either_way IsFew (nat_le 64 (length v.deferred)) _ _ few few))
 
   found_few : (x : ReplicaVolatile) → x.fetched ≤ n → (from : RoleId) (s : ℕ) (o : Option Value) → IsFew (fetch_found me x from s o)
   found_few x l from s None = l
@@ -137,23 +154,27 @@ module _ (c : Cluster) (history : List KeptRecord) (me : RoleId) (d : ReplicaDur
   by_few : (from : RoleId) (s : ℕ) → s ≤ slots_held history from.index → (fetched_by c me v from s).fetched ≤ n
   by_few from s says =
       by_test (λ (x : ReplicaVolatile). x.fetched ≤ n) (from.index == before c me) (record v { fetched = max v.fetched s }) v
-      (λ t. let own : s ≤ slots_held history (before c me) = subst (λ (k : ℕ). s ≤ slots_held history k) (eqb-true from.index (before c me) t) says in
+      (λ t. let own : s ≤ slots_held history (before c me) =
+      subst (λ (k : ℕ). s ≤ slots_held history k) (eqb-true from.index (before c me) t) says in
       grind (arith, own, known, few))
       (λ f. few)
 
   fetch_few : (from : RoleId) (s : ℕ) → s ≤ slots_held history from.index → IsFew (fetch_row c me d v from s)
-  fetch_few from s says =
-      either_way IsFew (nat_lt s d.first) _ _ (by_few from s says) (found_few (fetched_by c me v from s) (by_few from s says) from s (slice_get d.log (s - d.first)))
+  fetch_few from s says = either_way IsFew (nat_lt s d.first) _ _ (by_few from s says)
+      (found_few (fetched_by c me v from s) (by_few from s says) from s (slice_get d.log (s - d.first)))
 
   takes_few : (from : RoleId) (m : Msg) → SaysLow c history from m → IsFew (replica_takes c me d v from m)
   takes_few from (msg.Chosen s value) says = chosen_few s value
   takes_few from (msg.Read t k key) says = read_few (record { token = t; mark = k; key = key })
-  takes_few from (msg.SessRead seq k key) says = read_few (record { token = record { client = from.index; seq = seq }; mark = k; key = key })
+  takes_few from (msg.SessRead seq k key) says =
+      read_few (record { token = record { client = from.index; seq = seq }; mark = k; key = key })
   takes_few from (msg.Fetch s) says = fetch_few from s says
   takes_few from other says = few
 
-  row_few : (sent : List Letter) → ((x : Letter) → Member x sent → SaysLow c history x.from x.msg) → (i : Input) → Given sent me i → IsFew (replica_row c me d v i)
-  row_few sent says (input.Take x) given = either_way IsFew (same_role x.to me && names c x) _ _ (takes_few x.from x.msg (says x given.1)) few
+  row_few : (sent : List Letter) → ((x : Letter) → Member x sent → SaysLow c history x.from x.msg) → (i : Input) → Given sent me i
+      → IsFew (replica_row c me d v i)
+  row_few sent says (input.Take x) given =
+      either_way IsFew (same_role x.to me && names c x) _ _ (takes_few x.from x.msg (says x given.1)) few
   row_few sent says input.Tick given = few
   row_few sent says (input.Order order) given = few
 
@@ -162,8 +183,8 @@ module _ (c : Cluster) (history : List KeptRecord) (sent : List Letter) (states 
   IsListedIn after p = held_in (list_of replica_rules (role kind.Replica p) (reverse after)) ≡ slots_held after p
 
   other_listed : (me : RoleId) (p : ℕ) (r : Record) → same_role (role kind.Replica p) me ≡ false → IsListedIn (entry_by me r ∷ history) p
-  other_listed me p r e =
-      ap (λ l. held_in l) (list_others (role kind.Replica p) me (written.Record r) history e) ∙ h.lists p ∙ sym (ap (λ l. length l) (log_other me p r history e))
+  other_listed me p r e = ap (λ l. held_in l) (list_others (role kind.Replica p) me (written.Record r) history e) ∙ h.lists p
+      ∙ sym (ap (λ l. length l) (log_other me p r history e))
 
   own_listed : (p : ℕ) (r : Record) → IsKeeper kind.Replica r → IsListedIn (entry_by (role kind.Replica p) r ∷ history) p
   own_listed p = replica_keeps (λ r. IsListedIn (entry_by (role kind.Replica p) r ∷ history) p)
@@ -173,9 +194,11 @@ module _ (c : Cluster) (history : List KeptRecord) (sent : List Letter) (states 
       ∙ sym (ap (λ l. length l) (log_own p (kept.Log vs) history) ∙ length-append (log_in history p) vs))
 
   replica_listed : (p : ℕ) (r : Record) → IsKeeper kind.Replica r → (q : ℕ) → IsListedIn (entry_by (role kind.Replica p) r ∷ history) q
-  replica_listed p r k q = by_replica (IsListedIn (entry_by (role kind.Replica p) r ∷ history)) p q (own_listed p r k) (other_listed (role kind.Replica p) q r)
+  replica_listed p r k q =
+      by_replica (IsListedIn (entry_by (role kind.Replica p) r ∷ history)) p q (own_listed p r k) (other_listed (role kind.Replica p) q r)
 
-  still_fetched : (longer : List KeptRecord) → Lengthens history longer → (q : ℕ) (s : State) → IsFetched c history q s → IsFetched c longer q s
+  still_fetched : (longer : List KeptRecord) → Lengthens history longer → (q : ℕ) (s : State) → IsFetched c history q s
+      → IsFetched c longer q s
   still_fetched longer more q (ReplicaIn v) l = (let k = more (before c (role kind.Replica q)) in omega arith)
   still_fetched longer more q other l = tt
 
@@ -183,16 +206,16 @@ module _ (c : Cluster) (history : List KeptRecord) (sent : List Letter) (states 
   first_of after a = (durable_of replica_rules a after).first
 
   -- a history that isn't shorter, a new state of one role, and any datagrams
-  after : (longer : List KeptRecord) → Lengthens history longer → ((p : ℕ) → IsListedIn longer p) → ((a : RoleId) → first_of longer a ≡ first_of history a)
+  after : (longer : List KeptRecord) → Lengthens history longer → ((p : ℕ) → IsListedIn longer p)
+      → ((a : RoleId) → first_of longer a ≡ first_of history a)
       → (me : RoleId) (s : State) → ((p : ℕ) → me ≡ role kind.Replica p → p < c.replicas → IsFetched c history p s)
       → (ds : List Letter) → Stores c longer ds (set_state me s states)
   after longer more listed firsts me s own ds = record {
     lists = listed;
     fetched = λ p l.
         set_running (λ a x. (q : ℕ) → a ≡ role kind.Replica q → q < c.replicas → IsFetched c longer q x) me s states
-        (λ q is k. still_fetched longer more q s (own q is k))
-        (λ a e q is k. still_fetched longer more q (states a) (subst (λ (x : RoleId). IsFetched c history q (states x)) (sym is) (h.fetched q k)))
-        (role kind.Replica p) p refl l;
+        (λ q is k. still_fetched longer more q s (own q is k)) (λ a e q is k. still_fetched longer more q (states a)
+        (subst (λ (x : RoleId). IsFetched c history q (states x)) (sym is) (h.fetched q k))) (role kind.Replica p) p refl l;
     forgotten = λ p l.
         let same = firsts (role kind.Replica p) in
         let old = h.forgotten p l in
@@ -200,17 +223,19 @@ module _ (c : Cluster) (history : List KeptRecord) (sent : List Letter) (states 
         omega (arith, same, old, k);
   }
 
-  record_listed : (me : RoleId) (o : Option Record) → ((r : Record) → o ≡ Some r → (p : ℕ) → IsListedIn (entry_by me r ∷ history) p) → (p : ℕ) → IsListedIn (with_record me o history) p
+  record_listed : (me : RoleId) (o : Option Record) → ((r : Record) → o ≡ Some r → (p : ℕ) → IsListedIn (entry_by me r ∷ history) p)
+      → (p : ℕ) → IsListedIn (with_record me o history) p
   record_listed me None new p = h.lists p
   record_listed me (Some r) new p = new r refl p
 
   one_first : (me : RoleId) (r : Record) → IsKeeper me.kind r → (a : RoleId) → first_of (entry_by me r ∷ history) a ≡ first_of history a
   one_first me r k =
-      by_role (λ a. first_of (entry_by me r ∷ history) a ≡ first_of history a) me
-      (ap (λ (d : ReplicaDurable). d.first) (durable_own replica_rules me r history) ∙ first_kept (durable_of replica_rules me history) me.kind r k)
+      by_role (λ a. first_of (entry_by me r ∷ history) a ≡ first_of history a) me (ap (λ (d : ReplicaDurable). d.first)
+      (durable_own replica_rules me r history) ∙ first_kept (durable_of replica_rules me history) me.kind r k)
       (λ a e. ap (λ (d : ReplicaDurable). d.first) (durable_other replica_rules me a r history e))
 
-  record_first : (me : RoleId) (o : Option Record) → IsKept me.kind o → (a : RoleId) → first_of (with_record me o history) a ≡ first_of history a
+  record_first : (me : RoleId) (o : Option Record) → IsKept me.kind o → (a : RoleId)
+      → first_of (with_record me o history) a ≡ first_of history a
   record_first me None k a = refl
   record_first me (Some r) k a = one_first me r k a
 
@@ -218,20 +243,27 @@ module _ (c : Cluster) (history : List KeptRecord) (sent : List Letter) (states 
   record_longer me None p = omega arith
   record_longer me (Some r) p = lengthens history (entry_by me r) p
 
-  landed : {V : Type 0} (me : RoleId) (make : V → State) (o : Outcome V) → OfKind me o → ((r : Record) → o.kept ≡ Some r → (p : ℕ) → IsListedIn (entry_by me r ∷ history) p)
-      → ((p : ℕ) → me ≡ role kind.Replica p → p < c.replicas → IsFetched c history p (make o.volatile)) → Lands (Stores c) history sent states me make o
+  landed : {V : Type 0} (me : RoleId) (make : V → State) (o : Outcome V) → OfKind me o
+      → ((r : Record) → o.kept ≡ Some r → (p : ℕ) → IsListedIn (entry_by me r ∷ history) p)
+      → ((p : ℕ) → me ≡ role kind.Replica p → p < c.replicas → IsFetched c history p (make o.volatile))
+      → Lands (Stores c) history sent states me make o
   landed me make o kinds listed own = record {
-    whole = after (with_record me o.kept history) (record_longer me o.kept) (record_listed me o.kept listed) (record_first me o.kept kinds.keeps) me (make o.volatile) own (sent ++ o.sends);
-    cut = λ r e. after (entry_by me r ∷ history) (lengthens history (entry_by me r)) (listed r e) (one_first me r (keeps_only me o r kinds e)) me Down (λ p is l. tt) sent;
+    whole = after (with_record me o.kept history) (record_longer me o.kept) (record_listed me o.kept listed)
+        (record_first me o.kept kinds.keeps) me (make o.volatile) own (sent ++ o.sends);
+    cut = λ r e. after (entry_by me r ∷ history) (lengthens history (entry_by me r)) (listed r e)
+        (one_first me r (keeps_only me o r kinds e)) me Down (λ p is l. tt) sent;
   }
 
   -- a row of another role
-  elsewhere : {V : Type 0} (me : RoleId) (make : V → State) (o : Outcome V) → OfKind me o → ((p : ℕ) → same_role (role kind.Replica p) me ≡ false)
+  elsewhere : {V : Type 0} (me : RoleId) (make : V → State) (o : Outcome V) → OfKind me o
+      → ((p : ℕ) → same_role (role kind.Replica p) me ≡ false)
       → ((p : ℕ) → IsFetched c history p (make o.volatile)) → Lands (Stores c) history sent states me make o
   elsewhere me make o kinds others none = landed me make o kinds (λ r e p. other_listed me p r (others p)) (λ p is l. none p)
 
-  replica_landed : LowFacts c history sent states → (p : ℕ) (v : ReplicaVolatile) (i : Input) → states (role kind.Replica p) ≡ ReplicaIn v → Given sent (role kind.Replica p) i
-      → Lands (Stores c) history sent states (role kind.Replica p) ReplicaIn (replica_row c (role kind.Replica p) (durable_of replica_rules (role kind.Replica p) history) v i)
+  replica_landed : LowFacts c history sent states → (p : ℕ) (v : ReplicaVolatile) (i : Input) → states (role kind.Replica p) ≡ ReplicaIn v
+      → Given sent (role kind.Replica p) i
+      → Lands (Stores c) history sent states (role kind.Replica p) ReplicaIn
+      (replica_row c (role kind.Replica p) (durable_of replica_rules (role kind.Replica p) history) v i)
   replica_landed lows p v i is given =
       let me = role kind.Replica p in
       let d = durable_of replica_rules me history in
@@ -253,22 +285,24 @@ module _ (c : Cluster) (history : List KeptRecord) (sent : List Letter) (states 
       ∙ held_renewed (folded replica_rules (list_of replica_rules me (reverse history))) first
       ∙ ap (λ (d : ReplicaDurable). held d) (turned me history)
       ∙ held_is (durable_of replica_rules me history) (log_in history p) (ties.tied p)
-      ∙ sym (ap (λ l. length l) (log_snap me p first history)))
-      (λ f. ap (λ l. held_in l) (list_others (role kind.Replica q) me (written.Snap first) history f) ∙ h.lists q ∙ sym (ap (λ l. length l) (log_snap me q first history)))
+      ∙ sym (ap (λ l. length l) (log_snap me p first history))) (λ f. ap (λ l. held_in l) (list_others (role kind.Replica q) me
+      (written.Snap first) history f) ∙ h.lists q ∙ sym (ap (λ l. length l) (log_snap me q first history)))
 
-  limit_known : (p : ℕ) (d : ReplicaDurable) (v : ReplicaVolatile) → p < c.replicas → held d ≡ slots_held history p
-      → v.fetched ≤ slots_held history (before c (role kind.Replica p)) → snap_limit c d v ≤ slots_held history (before c (role kind.Replica p))
+  limit_known : (p : ℕ) (d : ReplicaDurable) (v : ReplicaVolatile) → p < c.replicas → held d ≡ slots_held history p → v.fetched
+      ≤ slots_held history (before c (role kind.Replica p)) → snap_limit c d v ≤ slots_held history (before c (role kind.Replica p))
   limit_known p d v within is few =
       by_test (λ (n : ℕ). n ≤ slots_held history (before c (role kind.Replica p))) (c.replicas == 1) (held d) (min (held d) v.fetched)
       (λ t. subst (λ (k : ℕ). held d ≤ slots_held history k) (sym (alone c p t within)) (omega (arith, is)))
       (λ f. grind (arith, few))
 
-  snap_first : (p first : ℕ) → (d : ReplicaDurable) → durable_of replica_rules (role kind.Replica p) history ≡ d → IsTied d (log_in history p) → d.first ≤ first
-      → first_of (snap_by (role kind.Replica p) first ∷ history) (role kind.Replica p) ≡ first
+  snap_first : (p first : ℕ) → (d : ReplicaDurable) → durable_of replica_rules (role kind.Replica p) history ≡ d → IsTied d
+      (log_in history p) → d.first ≤ first → first_of (snap_by (role kind.Replica p) first ∷ history) (role kind.Replica p) ≡ first
   snap_first p first d is tied from =
       let me = role kind.Replica p in
-      let ordered : IsOrdered d.machine.table = subst (λ (m : Machine). IsOrdered m.table) (sym tied.machine) (machine_ordered (log_in history p)) in
-      ap (λ (x : ReplicaDurable). x.first) (durable_snap replica_rules me first history ∙ ap (λ (x : ReplicaDurable). folded replica_rules (replica_renewed x first)) is ∙ renewed_folds d first from ordered)
+      let ordered : IsOrdered d.machine.table =
+      subst (λ (m : Machine). IsOrdered m.table) (sym tied.machine) (machine_ordered (log_in history p)) in
+      ap (λ (x : ReplicaDurable). x.first) (durable_snap replica_rules me first history
+      ∙ ap (λ (x : ReplicaDurable). folded replica_rules (replica_renewed x first)) is ∙ renewed_folds d first from ordered)
 
   module _ (ties : Ties history sent states) (p : ℕ) (v : ReplicaVolatile) (first : ℕ) (up : states (role kind.Replica p) ≡ ReplicaIn v)
       (e : replica_rules.snap c (role kind.Replica p) (durable_of replica_rules (role kind.Replica p) history) v ≡ Some first) where
@@ -290,13 +324,15 @@ module _ (c : Cluster) (history : List KeptRecord) (sent : List Letter) (states 
         let above = is.1 in
         let from : d.first ≤ first = omega (arith, above) in
         let few : v.fetched ≤ slots_held history (before c me) = subst (λ s. IsFetched c history p s) up (h.fetched p within) in
-        let limit : snap_limit c d v ≤ slots_held history (before c me) = limit_known p d v within (held_is d (log_in history p) (ties.tied p)) few in
+        let limit : snap_limit c d v ≤ slots_held history (before c me) =
+        limit_known p d v within (held_is d (log_in history p) (ties.tied p)) few in
         let l = more (before c me) in
         let same : first_of longer me ≡ first = snap_first p first d refl (ties.tied p) from in
         let at = is.0 in
         omega (arith, limit, l, same, at)
 
-    others : (q : ℕ) → same_role (role kind.Replica q) me ≡ false → q < c.replicas → first_of longer (role kind.Replica q) ≤ slots_held longer (before c (role kind.Replica q))
+    others : (q : ℕ) → same_role (role kind.Replica q) me ≡ false → q < c.replicas
+        → first_of longer (role kind.Replica q) ≤ slots_held longer (before c (role kind.Replica q))
     others q f within =
         let same = ap (λ (x : ReplicaDurable). x.first) (durable_else replica_rules me (role kind.Replica q) first history f) in
         let old = h.forgotten q within in
@@ -307,7 +343,8 @@ module _ (c : Cluster) (history : List KeptRecord) (sent : List Letter) (states 
     snapped = record {
       lists = snap_listed ties p first;
       fetched = λ q l. still_fetched longer more q (states (role kind.Replica q)) (h.fetched q l);
-      forgotten = λ q. by_replica (λ k. k < c.replicas → first_of longer (role kind.Replica k) ≤ slots_held longer (before c (role kind.Replica k))) p q own (others q);
+      forgotten = λ q. by_replica (λ k.
+          k < c.replicas → first_of longer (role kind.Replica k) ≤ slots_held longer (before c (role kind.Replica k))) p q own (others q);
     }
 
 -- nothing has happened, and a role that was just opened
@@ -334,31 +371,39 @@ Known c history sent states = Ties history sent states × LowFacts c history sen
 
 stores_laws : (c : Cluster) → Laws c (λ n e. Unit {0}) (Known c) (Stores c)
 stores_laws c = record {
-  same = λ history sent states others e h. record { lists = h.lists; fetched = λ p l. subst (λ s. IsFetched c history p s) (e (role kind.Replica p)) (h.fetched p l); forgotten = h.forgotten };
+  same = λ history sent states others e h. record {
+    lists = h.lists;
+    fetched = λ p l. subst (λ s. IsFetched c history p s) (e (role kind.Replica p)) (h.fetched p l);
+    forgotten = h.forgotten;
+  };
   start = λ states fresh. record {
     lists = λ p. sym (ap (λ l. length l) (log_none p));
     fetched = λ p l. start_fetched c p kind.Replica (states (role kind.Replica p)) (fresh (role kind.Replica p));
     forgotten = λ p l. omega (arith, none_forgotten p);
   };
   stop = λ history sent states me h. set_stores c history sent states h me Down (λ p. tt);
-  wake = λ history sent states me h down. set_stores c history sent states h me (fresh_state c me.kind) (λ p. fresh_fetched c history p me.kind);
+  wake = λ history sent states me h down.
+      set_stores c history sent states h me (fresh_state c me.kind) (λ p. fresh_fetched c history p me.kind);
   ask = λ history sent states n e allowed known h. record { lists = h.lists; fetched = h.fetched; forgotten = h.forgotten };
-  batcher = λ history sent states b v i known h is given. elsewhere c history sent states h (role kind.Batcher b) BatcherIn _ (batcher_kinds c (role kind.Batcher b) refl v i) (λ p. refl) (λ p. tt);
-  leader = λ history sent states l v i known h is given.
-      elsewhere c history sent states h (role kind.Leader l) LeaderIn _ (leader_kinds c (role kind.Leader l) refl (durable_of leader_rules (role kind.Leader l) history) v i) (λ p. refl) (λ p. tt);
-  proxy = λ history sent states p v i known h is given. elsewhere c history sent states h (role kind.Proxy p) ProxyIn _ (proxy_kinds c (role kind.Proxy p) refl v i) (λ q. refl) (λ q. tt);
-  acceptor = λ history sent states a i known h is given.
-      elsewhere c history sent states h (role kind.Acceptor a) plain _ (acceptor_kinds c (role kind.Acceptor a) refl (durable_of acceptor_rules (role kind.Acceptor a) history) i) (λ p. refl) (λ p. tt);
+  batcher = λ history sent states b v i known h is given. elsewhere c history sent states h (role kind.Batcher b) BatcherIn
+      _ (batcher_kinds c (role kind.Batcher b) refl v i) (λ p. refl) (λ p. tt);
+  leader = λ history sent states l v i known h is given. elsewhere c history sent states h (role kind.Leader l) LeaderIn
+      _ (leader_kinds c (role kind.Leader l) refl (durable_of leader_rules (role kind.Leader l) history) v i) (λ p. refl) (λ p. tt);
+  proxy = λ history sent states p v i known h is given.
+      elsewhere c history sent states h (role kind.Proxy p) ProxyIn _ (proxy_kinds c (role kind.Proxy p) refl v i) (λ q. refl) (λ q. tt);
+  acceptor = λ history sent states a i known h is given. elsewhere c history sent states h (role kind.Acceptor a) plain
+      _ (acceptor_kinds c (role kind.Acceptor a) refl (durable_of acceptor_rules (role kind.Acceptor a) history) i) (λ p. refl) (λ p. tt);
   matchmaker = λ history sent states m i known h is given.
-      elsewhere c history sent states h (role kind.Matchmaker m) plain _ (matchmaker_kinds c (role kind.Matchmaker m) refl (durable_of matchmaker_rules (role kind.Matchmaker m) history) i) (λ p. refl) (λ p. tt);
+      elsewhere c history sent states h (role kind.Matchmaker m) plain _ (matchmaker_kinds c (role kind.Matchmaker m) refl
+      (durable_of matchmaker_rules (role kind.Matchmaker m) history) i) (λ p. refl) (λ p. tt);
   replica = λ history sent states p v i known h is given. replica_landed c history sent states h known.1 p v i is given;
   snap = λ history sent states p v first known h is e. snapped c history sent states h known.0 p v first is e;
-  unbatcher = λ history sent states u i known h is given.
-      elsewhere c history sent states h (role kind.Unbatcher u) plain _ (unbatcher_kinds c (role kind.Unbatcher u) refl i) (λ p. refl) (λ p. tt);
-  reader = λ history sent states r v i known h is given.
-      elsewhere c history sent states h (role kind.Reader r) ReaderIn _ (reader_kinds c (role kind.Reader r) refl (durable_of reader_rules (role kind.Reader r) history) v i) (λ p. refl) (λ p. tt);
-  replacer = λ history sent states x v i known h is given.
-      elsewhere c history sent states h (role kind.Replacer x) ReplacerIn _ (replacer_kinds c (role kind.Replacer x) refl (durable_of replacer_rules (role kind.Replacer x) history) v i) (λ p. refl) (λ p. tt);
+  unbatcher = λ history sent states u i known h is given. elsewhere c history sent states h (role kind.Unbatcher u) plain
+      _ (unbatcher_kinds c (role kind.Unbatcher u) refl i) (λ p. refl) (λ p. tt);
+  reader = λ history sent states r v i known h is given. elsewhere c history sent states h (role kind.Reader r) ReaderIn
+      _ (reader_kinds c (role kind.Reader r) refl (durable_of reader_rules (role kind.Reader r) history) v i) (λ p. refl) (λ p. tt);
+  replacer = λ history sent states x v i known h is given. elsewhere c history sent states h (role kind.Replacer x) ReplacerIn
+      _ (replacer_kinds c (role kind.Replacer x) refl (durable_of replacer_rules (role kind.Replacer x) history) v i) (λ p. refl) (λ p. tt);
 }
 
 module _ (low_facts : (c : Cluster) (es : List Event) → HoldsIn (LowFacts c) (run c es)) where
@@ -366,7 +411,8 @@ module _ (low_facts : (c : Cluster) (es : List Event) → HoldsIn (LowFacts c) (
   stores_hold c es = always c (Known c) (Stores c) (stores_laws c) (λ more. (ties_hold c more, low_facts c more)) es
 
   -- by time
-  pub lists_hold : (c : Cluster) (es : List Event) (p : ℕ) → held_in (list_of replica_rules (role kind.Replica p) (run c es).kept) ≡ length (log_of p (run c es).kept)
+  pub lists_hold : (c : Cluster) (es : List Event) (p : ℕ)
+      → held_in (list_of replica_rules (role kind.Replica p) (run c es).kept) ≡ length (log_of p (run c es).kept)
   lists_hold c es p =
       ap (λ (l : List KeptRecord). held_in (list_of replica_rules (role kind.Replica p) l)) (sym (reverse-reverse (run c es).kept))
       ∙ (stores_hold c es).lists p ∙ sym (ap (λ l. length l) (log_by_time p (run c es).kept))

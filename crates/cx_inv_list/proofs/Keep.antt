@@ -1,5 +1,6 @@
 -- What is said of the list stays so when a record is kept; and what a row gives lands.
-use Rattle.std.proofs.Common.{◌≡◌, ◌⊎◌, ℕ, true, false, List, [], ◌∷◌, ◌++◌, take, length, inl, inr, ap, sym, subst, ◌∙◌, ⊎_elim, arith, append-nil}
+use Rattle.std.proofs.Common.{◌≡◌, ◌⊎◌, ℕ, true, false, List, [], ◌∷◌, ◌++◌, take, length, inl, inr, ap, sym, subst, ◌∙◌, ⊎_elim, arith}
+use Rattle.std.proofs.Common.{append-nil}
 use Rattle.std.specs.Prelude.{Option, None, Some}
 use Rattle.std.proofs.lemmas.Bool.{cases_Bool}
 use Rattle.std.proofs.lemmas.List.{length-append, take-append-le}
@@ -24,15 +25,18 @@ use Rattle.cx_inv_run.specs.Laws.{Lands}
 use Rattle.cx_inv_run.specs.States.{State, Down, set_state, entry_by, snap_by, with_record, log_in}
 use Rattle.cx_inv_run.proofs.Histories.{log_other, log_own, log_snap, same_role-true, set_running}
 use Rattle.cx_inv_run.proofs.Members.{Member-cases}
-use Rattle.cx_inv_list.specs.Told.{RequestPredicates, IsRightByReplica, IsAnswerToRead, ListSays, ListKeeps, InList, ListFacts, ListKeepsRecord, IsListed}
+use Rattle.cx_inv_list.specs.Told.{RequestPredicates, IsRightByReplica, IsAnswerToRead, ListSays, ListKeeps, InList, ListFacts}
+use Rattle.cx_inv_list.specs.Told.{ListKeepsRecord, IsListed}
 use Rattle.cx_inv_list.proofs.Right.{grown_right}
 
 -- a replica's values only grow
 
-pub log_grows : (me : RoleId) (r : Record) (history : List KeptRecord) (p : ℕ) → Begins (log_in history p) (log_in (entry_by me r ∷ history) p)
+pub log_grows : (me : RoleId) (r : Record) (history : List KeptRecord) (p : ℕ)
+    → Begins (log_in history p) (log_in (entry_by me r ∷ history) p)
 log_grows me r history p = go (cases_Bool (same_role (role kind.Replica p) me))
   where
-    go : (same_role (role kind.Replica p) me ≡ true) ⊎ (same_role (role kind.Replica p) me ≡ false) → Begins (log_in history p) (log_in (entry_by me r ∷ history) p)
+    go : (same_role (role kind.Replica p) me ≡ true) ⊎ (same_role (role kind.Replica p) me ≡ false)
+        → Begins (log_in history p) (log_in (entry_by me r ∷ history) p)
     go (inl t) =
         subst (λ a. Begins (log_in history p) (log_in (entry_by a r ∷ history) p)) (same_role-true (role kind.Replica p) me t)
         (values_in (written.Record r), log_own p r history)
@@ -41,15 +45,18 @@ log_grows me r history p = go (cases_Bool (same_role (role kind.Replica p) me))
 -- so what is said by them stays so
 
 module _ (q : RequestPredicates) (history longer : List KeptRecord) (grows : (p : ℕ) → Begins (log_in history p) (log_in longer p)) where
-  still_right : (p client seq at : ℕ) (reply : Reply) → IsRight (log_in history p) client seq at reply → IsRight (log_in longer p) client seq at reply
+  still_right : (p client seq at : ℕ) (reply : Reply) → IsRight (log_in history p) client seq at reply
+      → IsRight (log_in longer p) client seq at reply
   still_right p client seq at reply h =
       let more = grows p in
       subst (λ vs. IsRight vs client seq at reply) (sym more.1) (grown_right (log_in history p) more.0 client seq at reply h)
 
-  still_noted : (client seq at : ℕ) (reply : Reply) → IsRightByReplica history client seq at reply → IsRightByReplica longer client seq at reply
+  still_noted : (client seq at : ℕ) (reply : Reply) → IsRightByReplica history client seq at reply
+      → IsRightByReplica longer client seq at reply
   still_noted client seq at reply (p, h) = (p, still_right p client seq at reply h)
 
-  still_told : (p : ℕ) (t : Token) (n : ℕ) (found : Option (List ℕ)) → IsAnswerToRead q history p t n found → IsAnswerToRead q longer p t n found
+  still_told : (p : ℕ) (t : Token) (n : ℕ) (found : Option (List ℕ)) → IsAnswerToRead q history p t n found
+      → IsAnswerToRead q longer p t n found
   still_told p t n found h =
       let more = grows p in
       let l = h.within in
@@ -58,7 +65,8 @@ module _ (q : RequestPredicates) (history longer : List KeptRecord) (grows : (p 
         key = h.key;
         wanted = h.wanted;
         within = omega (arith, sum, length-append (log_in history p) more.0, l);
-        found_is = h.found_is ∙ ap (λ vs. text_at h.key (fold vs)) (sym (ap (λ vs. take n vs) more.1 ∙ take-append-le n (log_in history p) more.0 l));
+        found_is = h.found_is
+            ∙ ap (λ vs. text_at h.key (fold vs)) (sym (ap (λ vs. take n vs) more.1 ∙ take-append-le n (log_in history p) more.0 l));
       }
 
   pub still_says : (from to : RoleId) (m : Msg) → ListSays q history from to m → ListSays q longer from to m
@@ -80,15 +88,16 @@ with_says : (q : RequestPredicates) (history : List KeptRecord) (me : RoleId) (o
 with_says q history me None from to m h = h
 with_says q history me (Some r) from to m h = still_says q history (entry_by me r ∷ history) (log_grows me r history) from to m h
 
-with_keeps : (q : RequestPredicates) (history : List KeptRecord) (me : RoleId) (o : Option Record) → ListKeepsRecord q o → ((k : KeptRecord) → Member k history → ListKeeps q k.what)
+with_keeps : (q : RequestPredicates) (history : List KeptRecord) (me : RoleId) (o : Option Record) → ListKeepsRecord q o
+    → ((k : KeptRecord) → Member k history → ListKeeps q k.what)
     → (k : KeptRecord) → Member k (with_record me o history) → ListKeeps q k.what
 with_keeps q history me None h old k m = old k m
 with_keeps q history me (Some r) h old k (inl e) = subst (λ (x : KeptRecord). ListKeeps q x.what) (sym e) h
 with_keeps q history me (Some r) h old k (inr m) = old k m
 
 -- the facts after a record or none, more datagrams, and a new state of one role
-pub list_after : (q : RequestPredicates) (history : List KeptRecord) (sent : List Letter) (states : RoleId → State) → ListFacts q history sent states
-    → (me : RoleId) (o : Option Record) (ds : List Letter) (s : State) → ListKeepsRecord q o
+pub list_after : (q : RequestPredicates) (history : List KeptRecord) (sent : List Letter) (states : RoleId → State)
+    → ListFacts q history sent states → (me : RoleId) (o : Option Record) (ds : List Letter) (s : State) → ListKeepsRecord q o
     → ((d : Letter) → Member d ds → ListSays q (with_record me o history) d.from d.to d.msg) → InList q s
     → ListFacts q (with_record me o history) (sent ++ ds) (set_state me s states)
 list_after q history sent states facts me o ds s keeps says running = record {
@@ -97,7 +106,8 @@ list_after q history sent states facts me o ds s keeps says running = record {
   running = set_running (λ a x. InList q x) me s states running (λ a e. facts.running a);
 }
 
-pub listed_lands : {V : Type 0} (q : RequestPredicates) (history : List KeptRecord) (sent : List Letter) (states : RoleId → State) → ListFacts q history sent states
+pub listed_lands : {V : Type 0} (q : RequestPredicates) (history : List KeptRecord) (sent : List Letter) (states : RoleId → State)
+    → ListFacts q history sent states
     → (me : RoleId) (make : V → State) (o : Outcome V) → IsListed q history me make o → Lands (ListFacts q) history sent states me make o
 listed_lands q history sent states facts me make o h = record {
   whole = list_after q history sent states facts me o.kept o.sends (make o.volatile) h.keeps h.sends h.state;
@@ -107,11 +117,12 @@ listed_lands q history sent states facts me make o h = record {
 }
 
 -- a replica forgets values
-pub list_snapped : (q : RequestPredicates) (history : List KeptRecord) (sent : List Letter) (states : RoleId → State) → ListFacts q history sent states
-    → (me : RoleId) (first : ℕ) → ListFacts q (snap_by me first ∷ history) sent states
+pub list_snapped : (q : RequestPredicates) (history : List KeptRecord) (sent : List Letter) (states : RoleId → State)
+    → ListFacts q history sent states → (me : RoleId) (first : ℕ) → ListFacts q (snap_by me first ∷ history) sent states
 list_snapped q history sent states facts me first = record {
   keeps = kept_one;
-  says = λ d m. still_says q history (snap_by me first ∷ history) (λ p. ([], log_snap me p first history ∙ sym (append-nil (log_in history p)))) d.from d.to d.msg (facts.says d m);
+  says = λ d m. still_says q history (snap_by me first ∷ history)
+      (λ p. ([], log_snap me p first history ∙ sym (append-nil (log_in history p)))) d.from d.to d.msg (facts.says d m);
   running = facts.running;
 }
   where

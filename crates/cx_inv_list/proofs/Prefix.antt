@@ -1,5 +1,6 @@
 -- The chosen prefix: each of its values is chosen, it is the longest such list, and it grows with the history.
-use Rattle.std.proofs.Common.{◌≡◌, ◌⊎◌, ℕ, zero, suc, ◌+◌, ◌<◌, ◌≤◌, Bool, true, false, not, ◌&&◌, List, [], ◌∷◌, ◌++◌, length, filter, inl, inr, ap, sym, subst, ◌∙◌, ⊎_elim, refl, arith}
+use Rattle.std.proofs.Common.{◌≡◌, ◌⊎◌, ℕ, zero, suc, ◌+◌, ◌<◌, ◌≤◌, Bool, true, false, not, ◌&&◌, List, [], ◌∷◌, ◌++◌, length, filter, inl}
+use Rattle.std.proofs.Common.{inr, ap, sym, subst, ◌∙◌, ⊎_elim, refl, arith}
 use Rattle.std.specs.Prelude.{◌==◌, slice_get, Option, None, Some}
 use Rattle.std.proofs.lemmas.Bool.{and_parts, and_from, both_ways, eq-eqb, not_from_false, not_from_true, ne_eqb}
 use Rattle.std.proofs.lemmas.Option.{same_Some}
@@ -40,7 +41,8 @@ chosen_voted history s v h =
 -- the first chosen value of a slot
 
 module _ (history : List KeptRecord) (s : ℕ) where
-  vote_true : (v : Value) (what : Written) (later : Option Value) → chosen_vote history s what later ≡ Some v → (is_chosen history s v ≡ true) ⊎ (later ≡ Some v)
+  vote_true : (v : Value) (what : Written) (later : Option Value) → chosen_vote history s what later ≡ Some v
+      → (is_chosen history s v ≡ true) ⊎ (later ≡ Some v)
   vote_true v (written.Record (kept.Vote j t cw u)) later h =
       by_test (λ o. o ≡ Some v → (is_chosen history s v ≡ true) ⊎ (later ≡ Some v)) ((t == s) && is_chosen history s u) (Some u) later
       (λ e q. inl (subst (λ x. is_chosen history s x ≡ true) (same_Some u v q) (and_parts (t == s) (is_chosen history s u) e).1))
@@ -55,15 +57,18 @@ module _ (history : List KeptRecord) (s : ℕ) where
   IsSome o = (u : Value) × (o ≡ Some u)
 
   later_some : (what : Written) (later : Option Value) → IsSome later → IsSome (chosen_vote history s what later)
-  later_some (written.Record (kept.Vote j t cw u)) later h = by_test IsSome ((t == s) && is_chosen history s u) (Some u) later (λ e. (u, refl)) (λ e. h)
+  later_some (written.Record (kept.Vote j t cw u)) later h =
+      by_test IsSome ((t == s) && is_chosen history s u) (Some u) later (λ e. (u, refl)) (λ e. h)
   later_some other later h = h
 
-  vote_some : (i : Round) (cw : ℕ) (v : Value) (later : Option Value) → is_chosen history s v ≡ true → IsSome (chosen_vote history s (written.Record (kept.Vote i s cw v)) later)
+  vote_some : (i : Round) (cw : ℕ) (v : Value) (later : Option Value) → is_chosen history s v ≡ true
+      → IsSome (chosen_vote history s (written.Record (kept.Vote i s cw v)) later)
   vote_some i cw v later h =
       by_test IsSome ((s == s) && is_chosen history s v) (Some v) later (λ e. (v, refl))
       (λ e. absurd (both_ways ((s == s) && is_chosen history s v) e (and_from (s == s) (is_chosen history s v) (eq-eqb s s refl) h)))
 
-  first_some : (v : Value) → is_chosen history s v ≡ true → (ks : List KeptRecord) (k : KeptRecord) → Member k ks → IsVoteFor s v k.what → IsSome (first_chosen history s ks)
+  first_some : (v : Value) → is_chosen history s v ≡ true → (ks : List KeptRecord) (k : KeptRecord) → Member k ks → IsVoteFor s v k.what
+      → IsSome (first_chosen history s ks)
   first_some v h [] k m is = absurd m
   first_some v h (x ∷ ks) k (inl e) is =
       subst (λ what. IsSome (chosen_vote history s what (first_chosen history s ks))) (sym is.2 ∙ ap (λ (y : KeptRecord). y.what) e)
@@ -89,16 +94,19 @@ at_other : (s t : ℕ) (v : Value) (what : Written) → (s ≡ t → ⊥) → Is
 at_other s t v what d is = subst (λ x. is_at t x ≡ false) (sym is.2) (ne_eqb s t d)
 
 filter_one : (p : KeptRecord → Bool) (x : KeptRecord) (xs : List KeptRecord) → length (filter p (x ∷ xs)) ≤ suc (length (filter p xs))
-filter_one p x xs = either_way (λ (ys : List KeptRecord). length ys ≤ suc (length (filter p xs))) (p x) (x ∷ filter p xs) (filter p xs) (omega arith) (omega arith)
+filter_one p x xs = either_way (λ (ys : List KeptRecord). length ys ≤ suc (length (filter p xs))) (p x) (x ∷ filter p xs) (filter p xs)
+    (omega arith) (omega arith)
 
 filter_within : (p : KeptRecord → Bool) (xs : List KeptRecord) → length (filter p xs) ≤ length xs
 filter_within p [] = omega arith
 filter_within p (x ∷ xs) = let l = filter_one p x xs in let k = filter_within p xs in omega arith
 
-filter_out : (p : KeptRecord → Bool) (x : KeptRecord) (xs : List KeptRecord) → p x ≡ false → length (filter p (x ∷ xs)) ≤ length (filter p xs)
+filter_out : (p : KeptRecord → Bool) (x : KeptRecord) (xs : List KeptRecord) → p x ≡ false
+    → length (filter p (x ∷ xs)) ≤ length (filter p xs)
 filter_out p x xs e = rw e (omega arith)
 
-filter_short : (p : KeptRecord → Bool) (k : KeptRecord) (xs : List KeptRecord) → Member k xs → p k ≡ false → length (filter p xs) < length xs
+filter_short : (p : KeptRecord → Bool) (k : KeptRecord) (xs : List KeptRecord) → Member k xs → p k ≡ false
+    → length (filter p xs) < length xs
 filter_short p k [] m e = absurd m
 filter_short p k (x ∷ xs) (inl q) e = let l = filter_out p x xs (subst (λ y. p y ≡ false) q e) in let n = filter_within p xs in omega arith
 filter_short p k (x ∷ xs) (inr m) e = let l = filter_one p x xs in let n = filter_short p k xs m e in omega arith
@@ -109,22 +117,26 @@ enough_records zero history h = omega arith
 enough_records (suc n) history h =
     let last = h n (omega arith) in
     let fewer : length (filter (λ (k : KeptRecord). not (is_at n k.what)) history) < length history =
-    filter_short (λ (k : KeptRecord). not (is_at n k.what)) (last.1).0 history (last.1).1 (not_from_true (is_at n ((last.1).0).what) (at_true n last.0 ((last.1).0).what (last.1).2)) in
-    let rest : n ≤ length (filter (λ (k : KeptRecord). not (is_at n k.what)) history) =
-    enough_records n (filter (λ (k : KeptRecord). not (is_at n k.what)) history) (λ s l. let one = h s (omega arith) in (one.0, still s l one.0 one.1)) in
+    filter_short (λ (k : KeptRecord). not (is_at n k.what)) (last.1).0 history (last.1).1
+    (not_from_true (is_at n ((last.1).0).what) (at_true n last.0 ((last.1).0).what (last.1).2)) in
+    let rest : n ≤ length (filter (λ (k : KeptRecord). not (is_at n k.what)) history) = enough_records n
+    (filter (λ (k : KeptRecord). not (is_at n k.what)) history) (λ s l. let one = h s (omega arith) in (one.0, still s l one.0 one.1)) in
     omega arith
   where
-    still : (s : ℕ) → s < n → (v : Value) → HasVoteFor history s v → HasVoteFor (filter (λ (k : KeptRecord). not (is_at n k.what)) history) s v
+    still : (s : ℕ) → s < n → (v : Value) → HasVoteFor history s v
+        → HasVoteFor (filter (λ (k : KeptRecord). not (is_at n k.what)) history) s v
     still s l v (k, m, is) = (
       k,
-      filter-Member (λ (x : KeptRecord). not (is_at n x.what)) k history m (not_from_false (is_at n k.what) (at_other s n v k.what (λ e. omega (arith, e, l)) is)),
+      filter-Member (λ (x : KeptRecord). not (is_at n x.what)) k history m
+          (not_from_false (is_at n k.what) (at_other s n v k.what (λ e. omega (arith, e, l)) is)),
       is,
     )
 
 -- the prefix
 
 module _ (history : List KeptRecord) where
-  following_at : (o : Option Value) (later : List Value) (i : ℕ) (v : Value) → slice_get (before_following o later) (suc i) ≡ Some v → slice_get later i ≡ Some v
+  following_at : (o : Option Value) (later : List Value) (i : ℕ) (v : Value) → slice_get (before_following o later) (suc i) ≡ Some v
+      → slice_get later i ≡ Some v
   following_at None later i v h = cc
   following_at (Some u) later i v h = h
 
@@ -144,7 +156,8 @@ module _ (history : List KeptRecord) where
   prefix_chosen s v h =
       chosen_at-true history s v (subst (λ n. chosen_at history n ≡ Some v) (omega arith) (from_chosen (length history) 0 s v h))
 
-  begins_more : (o : Option Value) (v : Value) (vs later : List Value) → o ≡ Some v → Begins vs later → Begins (v ∷ vs) (before_following o later)
+  begins_more : (o : Option Value) (v : Value) (vs later : List Value) → o ≡ Some v → Begins vs later
+      → Begins (v ∷ vs) (before_following o later)
   begins_more o v vs later e b = (b.0, rw e (ap (λ xs. v ∷ xs) b.1))
 
   from_longest : (vs : List Value) (s most : ℕ) → ((i : ℕ) (v : Value) → slice_get vs i ≡ Some v → chosen_at history (s + i) ≡ Some v)
@@ -163,13 +176,15 @@ module _ (history : List KeptRecord) where
         x.1 ∙ ap (λ u. Some u) (once s x.0 v (chosen_at-true history s x.0 x.1) h)
 
     -- a list of chosen values begins it
-    pub prefix_longest : (vs : List Value) → ((s : ℕ) (v : Value) → slice_get vs s ≡ Some v → is_chosen history s v ≡ true) → Begins vs (chosen_prefix history)
+    pub prefix_longest : (vs : List Value) → ((s : ℕ) (v : Value) → slice_get vs s ≡ Some v → is_chosen history s v ≡ true)
+        → Begins vs (chosen_prefix history)
     prefix_longest vs h =
         from_longest vs 0 (length history) (λ i v e. subst (λ n. chosen_at history n ≡ Some v) (omega arith) (chosen_at-is i v (h i v e)))
         (enough_records (length vs) history (λ s l. let x = get_there vs s l in (x.0, chosen_voted history s x.0 (h s x.0 x.1))))
 
 -- what is chosen stays chosen
-pub still_chosen : (history more : List KeptRecord) (s : ℕ) (v : Value) → is_chosen history s v ≡ true → is_chosen (history ++ more) s v ≡ true
+pub still_chosen : (history more : List KeptRecord) (s : ℕ) (v : Value) → is_chosen history s v ≡ true
+    → is_chosen (history ++ more) s v ≡ true
 still_chosen history more s v h =
     let x = chosen-true history s v h in
     let y = x.1 in

@@ -24,7 +24,8 @@ use Rattle.cx_model.specs.Replacer.{replacer_rules}
 use Rattle.cx_model.specs.Request.{request, token_of}
 use Rattle.cx_model.specs.World.{World, change, step, run_from, run}
 use Rattle.cx_inv_run.specs.Laws.{Laws, heard_of, AllAllowed}
-use Rattle.cx_inv_run.specs.States.{State, Down, BatcherIn, LeaderIn, ProxyIn, ReplicaIn, ReaderIn, ReplacerIn, plain, fresh_state, set_state, durable_of, HoldsIn}
+use Rattle.cx_inv_run.specs.States.{State, Down, BatcherIn, LeaderIn, ProxyIn, ReplicaIn, ReaderIn, ReplacerIn, plain, fresh_state}
+use Rattle.cx_inv_run.specs.States.{set_state, durable_of, HoldsIn}
 use Rattle.cx_inv_run.specs.Ties.{Ties}
 use Rattle.cx_inv_run.proofs.Members.{Member-first, Member-second, Member-cases}
 use Rattle.cx_inv_run.proofs.Senders.{matchmaker_kinds}
@@ -46,7 +47,8 @@ IsAllowed q n other = Unit {0}
 
 request_says : (q : RequestPredicates) (history : List KeptRecord) (n : ℕ) (e : Event) → IsAllowed q n e
     → (d : Letter) → Member d (request n e) → ListSays q history d.from d.to d.msg
-request_says q history n (event.Write command batcher) h = one_send q history (role kind.Client command.client) (role kind.Batcher batcher) (msg.Submit command) h
+request_says q history n (event.Write command batcher) h =
+    one_send q history (role kind.Client command.client) (role kind.Batcher batcher) (msg.Submit command) h
 request_says q history n (event.Read client seq floor reader replica key) h =
     one_send q history (role kind.Client client) (role kind.Reader reader) (msg.ReadReq seq replica key) h
 request_says q history n (event.Session client seq floor replica key) h =
@@ -72,13 +74,13 @@ fresh_in q c kind.Reader = (λ r m. absurd m, tt)
 fresh_in q c kind.Replacer = tt
 
 -- one role's new state, and nothing else
-new_state : (q : RequestPredicates) (history : List KeptRecord) (sent : List Letter) (states : RoleId → State) → ListFacts q history sent states
-    → (me : RoleId) (s : State) → InList q s → ListFacts q history sent (set_state me s states)
-new_state q history sent states facts me s h =
-    subst (λ ds. ListFacts q history ds (set_state me s states)) (append-nil sent) (list_after q history sent states facts me None [] s tt (λ d m. absurd m) h)
+new_state : (q : RequestPredicates) (history : List KeptRecord) (sent : List Letter) (states : RoleId → State)
+    → ListFacts q history sent states → (me : RoleId) (s : State) → InList q s → ListFacts q history sent (set_state me s states)
+new_state q history sent states facts me s h = subst (λ ds. ListFacts q history ds (set_state me s states)) (append-nil sent)
+    (list_after q history sent states facts me None [] s tt (λ d m. absurd m) h)
 
-running_in : (q : RequestPredicates) (history : List KeptRecord) (sent : List Letter) (states : RoleId → State) → ListFacts q history sent states
-    → (me : RoleId) (s : State) → states me ≡ s → InList q s
+running_in : (q : RequestPredicates) (history : List KeptRecord) (sent : List Letter) (states : RoleId → State)
+    → ListFacts q history sent states → (me : RoleId) (s : State) → states me ≡ s → InList q s
 running_in q history sent states facts me s e = subst (λ x. InList q x) e (facts.running me)
 
 pub list_laws : (q : RequestPredicates) (c : Cluster) → Laws c (IsAllowed q) Ties (ListFacts q)
@@ -102,34 +104,37 @@ list_laws q c = record {
   };
   batcher = λ history sent states b v i known facts e given.
       listed_lands q history sent states facts (role kind.Batcher b) BatcherIn _
-      (batcher_listed q c history (role kind.Batcher b) v (running_in q history sent states facts (role kind.Batcher b) (BatcherIn v) e) i (heard q history sent facts.says (role kind.Batcher b) i given));
+      (batcher_listed q c history (role kind.Batcher b) v (running_in q history sent states facts (role kind.Batcher b) (BatcherIn v) e) i
+      (heard q history sent facts.says (role kind.Batcher b) i given));
   leader = λ history sent states l v i known facts e given.
       listed_lands q history sent states facts (role kind.Leader l) LeaderIn _
-      (leader_listed q c history (role kind.Leader l) (durable_of leader_rules (role kind.Leader l) history) v
-      (running_in q history sent states facts (role kind.Leader l) (LeaderIn v) e) i (heard q history sent facts.says (role kind.Leader l) i given));
+      (leader_listed q c history (role kind.Leader l) (durable_of leader_rules (role kind.Leader l) history) v (running_in q history sent
+      states facts (role kind.Leader l) (LeaderIn v) e) i (heard q history sent facts.says (role kind.Leader l) i given));
   proxy = λ history sent states p v i known facts e given.
-      listed_lands q history sent states facts (role kind.Proxy p) ProxyIn _
-      (proxy_listed q c history (role kind.Proxy p) v (running_in q history sent states facts (role kind.Proxy p) (ProxyIn v) e) i (heard q history sent facts.says (role kind.Proxy p) i given));
+      listed_lands q history sent states facts (role kind.Proxy p) ProxyIn _ (proxy_listed q c history (role kind.Proxy p) v (running_in q
+      history sent states facts (role kind.Proxy p) (ProxyIn v) e) i (heard q history sent facts.says (role kind.Proxy p) i given));
   acceptor = λ history sent states a i known facts e given.
       listed_lands q history sent states facts (role kind.Acceptor a) plain _
       (acceptor_listed q c history (role kind.Acceptor a) (durable_of acceptor_rules (role kind.Acceptor a) history)
       (votes_asked q history (role kind.Acceptor a) facts.keeps) i (heard q history sent facts.says (role kind.Acceptor a) i given));
   matchmaker = λ history sent states m i known facts e given.
-      listed_lands q history sent states facts (role kind.Matchmaker m) plain _
-      (calm_listed q history plain (role kind.Matchmaker m) _ tt tt (matchmaker_kinds c (role kind.Matchmaker m) refl (durable_of matchmaker_rules (role kind.Matchmaker m) history) i));
+      listed_lands q history sent states facts (role kind.Matchmaker m) plain _ (calm_listed q history plain (role kind.Matchmaker m) _ tt
+      tt (matchmaker_kinds c (role kind.Matchmaker m) refl (durable_of matchmaker_rules (role kind.Matchmaker m) history) i));
   replica = λ history sent states p v i known facts e given.
       listed_lands q history sent states facts (role kind.Replica p) ReplicaIn _
-      (replica_listed q c history p (known.tied p) v (running_in q history sent states facts (role kind.Replica p) (ReplicaIn v) e) i (heard q history sent facts.says (role kind.Replica p) i given));
+      (replica_listed q c history p (known.tied p) v (running_in q history sent states facts (role kind.Replica p) (ReplicaIn v) e) i
+      (heard q history sent facts.says (role kind.Replica p) i given));
   snap = λ history sent states p v first known facts is e. list_snapped q history sent states facts (role kind.Replica p) first;
   unbatcher = λ history sent states u i known facts e given.
       listed_lands q history sent states facts (role kind.Unbatcher u) plain _
       (unbatcher_listed q c history (role kind.Unbatcher u) i (heard q history sent facts.says (role kind.Unbatcher u) i given));
   reader = λ history sent states r v i known facts e given.
       listed_lands q history sent states facts (role kind.Reader r) ReaderIn _
-      (reader_listed q c history (role kind.Reader r) (durable_of reader_rules (role kind.Reader r) history) v (running_in q history sent states facts (role kind.Reader r) (ReaderIn v) e) i (heard q history sent facts.says (role kind.Reader r) i given));
+      (reader_listed q c history (role kind.Reader r) (durable_of reader_rules (role kind.Reader r) history) v (running_in q history sent
+      states facts (role kind.Reader r) (ReaderIn v) e) i (heard q history sent facts.says (role kind.Reader r) i given));
   replacer = λ history sent states x v i known facts e given.
-      listed_lands q history sent states facts (role kind.Replacer x) ReplacerIn _
-      (calm_listed q history ReplacerIn (role kind.Replacer x) _ tt tt (replacer_kinds c (role kind.Replacer x) refl (durable_of replacer_rules (role kind.Replacer x) history) v i));
+      listed_lands q history sent states facts (role kind.Replacer x) ReplacerIn _ (calm_listed q history ReplacerIn (role kind.Replacer x)
+      _ tt tt (replacer_kinds c (role kind.Replacer x) refl (durable_of replacer_rules (role kind.Replacer x) history) v i));
 }
 
 -- the events of a run only grow
@@ -177,12 +182,12 @@ allowed_by events n (event.Restart r) m = tt
 all_allowed_by : (w : World) (es : List Event) → AllAllowed (IsAllowed (requests_in (run_from w es).events)) w es
 all_allowed_by w [] = tt
 all_allowed_by w (e ∷ es) = (
-  λ sent. allowed_by (run_from (step w e) es).events (heard_of w (token_of e)) e (run_has (step w e) es (sent_request e) (step_sent w e sent)),
+  λ sent.
+      allowed_by (run_from (step w e) es).events (heard_of w (token_of e)) e (run_has (step w e) es (sent_request e) (step_sent w e sent)),
   all_allowed_by (step w e) es,
 )
 
 -- every run has it, by its own events
 pub run_listed : (c : Cluster) (es : List Event) → HoldsIn (ListFacts (requests_in (run c es).events)) (run c es)
-run_listed c es =
-    run_keeps c (IsAllowed (requests_in (run c es).events)) Ties (ListFacts (requests_in (run c es).events)) (list_laws (requests_in (run c es).events) c) es
-    (along c Ties (ties_hold c) [] es) (all_allowed_by (run c []) es)
+run_listed c es = run_keeps c (IsAllowed (requests_in (run c es).events)) Ties (ListFacts (requests_in (run c es).events))
+    (list_laws (requests_in (run c es).events) c) es (along c Ties (ties_hold c) [] es) (all_allowed_by (run c []) es)

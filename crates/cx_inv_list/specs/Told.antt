@@ -48,7 +48,8 @@ abbrev pub IsRightByReplica : List KeptRecord → ℕ → ℕ → ℕ → Reply 
 IsRightByReplica history client seq at reply = (p : ℕ) × IsRight (log_in history p) client seq at reply
 
 -- a read's answer has the text of its key in the map that the first n values of this replica leave
-pub record IsAnswerToRead (q : RequestPredicates) (history : List KeptRecord) (replica : ℕ) (t : Token) (n : ℕ) (found : Option (List ℕ)) : Type 0 where
+pub record IsAnswerToRead (q : RequestPredicates) (history : List KeptRecord) (replica : ℕ) (t : Token) (n : ℕ)
+    (found : Option (List ℕ)) : Type 0 where
   pub key : List ℕ
   pub wanted : Wants q t key
   pub within : n ≤ length (log_in history replica)
@@ -60,7 +61,8 @@ ListSays q history from to (msg.Batch ks) = AreAsked q ks
 ListSays q history from to (msg.Phase1B i cw votes) = AreVotesAsked q votes
 ListSays q history from to (msg.Propose i g s cw v) = AreAsked q (commands_of v)
 ListSays q history from to (msg.Phase2A i s cw v) = AreAsked q (commands_of v)
-ListSays q history from to (msg.Results s answers) = (a : Answered) → Member a answers → IsRight (log_in history from.index) a.client a.seq a.at a.reply
+ListSays q history from to (msg.Results s answers) =
+    (a : Answered) → Member a answers → IsRight (log_in history from.index) a.client a.seq a.at a.reply
 ListSays q history from to (msg.Answer seq at reply) = IsRightByReplica history to.index seq at reply
 ListSays q history from to (msg.ReadReq seq replica key) = q.wanted (make_token from.index seq) key
 ListSays q history from to (msg.Read t n key) = q.wanted t key
@@ -85,8 +87,8 @@ abbrev pub InList : RequestPredicates → State → Type 0
 InList q Down = Unit {0}
 InList q Plain = Unit {0}
 InList q (BatcherIn v) = AreAsked q v.waiting
-InList q (LeaderIn v) =
-    ((p : Promised) → Member p v.promises → AreVotesAsked q p.votes) × ((p : Placed) → Member p v.proposed → AreAsked q (commands_of p.value))
+InList q (LeaderIn v) = ((p : Promised) → Member p v.promises → AreVotesAsked q p.votes)
+    × ((p : Placed) → Member p v.proposed → AreAsked q (commands_of p.value))
 InList q (ProxyIn v) = (p : Pending) → Member p v.pending → AreAsked q (commands_of p.value)
 InList q (ReplicaIn v) = (r : Deferred) → Member r v.deferred → Wants q r.token r.key
 InList q (ReaderIn v) = AreWanted q v.waiting × BatchWanted q v.running
@@ -103,7 +105,8 @@ ListKeepsRecord q None = Unit {0}
 ListKeepsRecord q (Some r) = ListKeeps q (written.Record r)
 
 -- what a row gives
-pub record IsListed {V : Type 0} (q : RequestPredicates) (history : List KeptRecord) (me : RoleId) (make : V → State) (o : Outcome V) : Type 0 where
+pub record IsListed {V : Type 0} (q : RequestPredicates) (history : List KeptRecord) (me : RoleId) (make : V → State)
+    (o : Outcome V) : Type 0 where
   pub state : InList q (make o.volatile)
   pub keeps : ListKeepsRecord q o.kept
   pub sends : (d : Letter) → Member d o.sends → ListSays q (with_record me o.kept history) d.from d.to d.msg

@@ -21,7 +21,8 @@ use Rattle.cx_inv_match.specs.Facts.{IsAcceptor, Facts}
 use Rattle.cx_inv_match.proofs.Grow.{Grows}
 use Rattle.cx_inv_match.proofs.Parts.{put-itself, put-cases, put-older, from-member, from-there}
 use Rattle.cx_inv_match.proofs.Keep.{old_boots, old_nexts, old_matches, old_garbages, old_votes, old_marks, more_mark, more_low}
-use Rattle.cx_inv_match.proofs.KeepFacts.{old_sets, old_accepted, old_balloter, old_last_ballot, kept_facts, new_acceptors, old_owner, old_one_grid, old_last, old_asked, old_garbaged, old_logs, old_voted, old_logged}
+use Rattle.cx_inv_match.proofs.KeepFacts.{old_sets, old_accepted, old_balloter, old_last_ballot, kept_facts, new_acceptors, old_owner}
+use Rattle.cx_inv_match.proofs.KeepFacts.{old_one_grid, old_last, old_asked, old_garbaged, old_logs, old_voted, old_logged}
 use Rattle.cx_inv_match.proofs.Records.{no, grows_else}
 
 -- an acceptor's records: a round that isn't below its promise isn't below any that it has promised
@@ -32,8 +33,8 @@ module _ (c : Cluster) (history : List KeptRecord) (sent : List Letter) (states 
   promised_below x h = at_most-trans x (durable_of acceptor_rules me history).promise i ((facts.acceptors me).bound x h) at_least
 
   not_past : (a : RoleId) (j : Round) → a ≡ me → j ≡ i → IsPast history a j → ⊥
-  not_past a j p q past =
-      before-both i past.0 (subst (λ x. is_before x past.0 ≡ true) q past.1) (promised_below past.0 (subst (λ x. HasPromise history x past.0) p past.2))
+  not_past a j p q past = before-both i past.0 (subst (λ x. is_before x past.0 ≡ true) q past.1)
+      (promised_below past.0 (subst (λ x. HasPromise history x past.0) p past.2))
 
 -- a promise
 
@@ -43,20 +44,22 @@ module _ (c : Cluster) (history : List KeptRecord) (sent : List Letter) (states 
   grows_promise = grows_else history sent me (kept.Promise i) no no no no no no
 
   promise_bound : (x : Round) → HasPromise (entry_by me (kept.Promise i) ∷ history) me x → is_before i x ≡ false
-  promise_bound x (inl m) = ⊎_elim
-      (λ q. let e : kept.Promise x ≡ kept.Promise i = q.1 in let p : x ≡ i = cc in subst (λ y. is_before i y ≡ false) (sym p) (itself-not_before i))
-      (λ o. promised_below c history sent states facts me i at_least x (inl o))
+  promise_bound x (inl m) = ⊎_elim (λ q. let e : kept.Promise x ≡ kept.Promise i = q.1 in let p : x ≡ i = cc in subst (λ y.
+      is_before i y ≡ false) (sym p) (itself-not_before i)) (λ o. promised_below c history sent states facts me i at_least x (inl o))
       (kept_cases me me (kept.Promise i) (kept.Promise x) history m)
-  promise_bound x (inr h) = promised_below c history sent states facts me i at_least x (inr (h.0, old_marks me (kept.Promise i) history no no me x h.0 h.1))
+  promise_bound x (inr h) =
+      promised_below c history sent states facts me i at_least x (inr (h.0, old_marks me (kept.Promise i) history no no me x h.0 h.1))
 
-  promise_own : IsAcceptor (entry_by me (kept.Promise i) ∷ history) me (acceptor_after (durable_of acceptor_rules me history) (kept.Promise i))
+  promise_own : IsAcceptor (entry_by me (kept.Promise i) ∷ history) me
+      (acceptor_after (durable_of acceptor_rules me history) (kept.Promise i))
   promise_own = record {
     bound = promise_bound;
     promised = λ j l. inl (inl refl);
     last = λ j s v l x. (facts.acceptors me).last j s v l (old_votes me (kept.Promise i) history no me j s v x);
     only = λ u m. let x = (facts.acceptors me).only u m in ((x.0.0, inr x.0.1), x.1);
     mark = λ j n x. (facts.acceptors me).mark j n (old_marks me (kept.Promise i) history no no me j n x);
-    low = more_low history (entry_by me (kept.Promise i) ∷ history) (λ k m. inr m) me (durable_of acceptor_rules me history) (facts.acceptors me).low;
+    low = more_low history (entry_by me (kept.Promise i) ∷ history) (λ k m. inr m) me (durable_of acceptor_rules me history)
+        (facts.acceptors me).low;
     top = λ j s v x. (facts.acceptors me).top j s v (old_votes me (kept.Promise i) history no me j s v x);
   }
 
@@ -141,33 +144,40 @@ module _ (c : Cluster) (history : List KeptRecord) (sent : List Letter) (states 
           → (u : Vote) × Member u (with_vote new_vote old_votes_left) × (u.slot ≡ t) × (is_before u.round j ≡ false)
       new q = (new_vote, put-itself new_vote old_votes_left, sym q.2, subst (λ y. is_before i y ≡ false) (sym q.1) (itself-not_before i))
 
-      old : HasVoted history me j t w → (u : Vote) × Member u (with_vote new_vote old_votes_left) × (u.slot ≡ t) × (is_before u.round j ≡ false)
-      old h = ⊎_elim
-          (λ e. (new_vote, put-itself new_vote old_votes_left, e, promised_below c history sent states facts me i at_least j (inr (h.0, inl (t, w, h.1)))))
-          (λ d. let u = (facts.acceptors me).last j t w (omega arith) h in (
-            u.0,
-            put-older new_vote old_votes_left u.0 (λ e. d (sym e ∙ u.2))
-                (from-there (max (durable_of acceptor_rules me history).cw low) (durable_of acceptor_rules me history).votes u.0 (rw u.2 l) u.1),
-            u.2,
-            u.3,
-          ))
+      old : HasVoted history me j t w
+          → (u : Vote) × Member u (with_vote new_vote old_votes_left) × (u.slot ≡ t) × (is_before u.round j ≡ false)
+      old h = ⊎_elim (λ e. (
+        new_vote,
+        put-itself new_vote old_votes_left,
+        e,
+        promised_below c history sent states facts me i at_least j (inr (h.0, inl (t, w, h.1))),
+      )) (λ d. let u = (facts.acceptors me).last j t w (omega arith) h in (
+        u.0,
+        put-older new_vote old_votes_left u.0 (λ e. d (sym e ∙ u.2))
+            (from-there (max (durable_of acceptor_rules me history).cw low) (durable_of acceptor_rules me history).votes u.0
+            (rw u.2 l) u.1),
+        u.2,
+        u.3,
+      ))
           (cases_eq s t)
 
-  vote_only : (u : Vote) → Member u (with_vote new_vote old_votes_left)
-      → HasVoted (entry_by me (kept.Vote i s low v) ∷ history) me u.round u.slot u.value × (max (durable_of acceptor_rules me history).cw low ≤ u.slot)
-  vote_only u m = ⊎_elim
-      (λ e. subst (λ (x : Vote). HasVoted (entry_by me (kept.Vote i s low v) ∷ history) me x.round x.slot x.value × (max (durable_of acceptor_rules me history).cw low ≤ x.slot))
-      (sym e) ((low, inl refl), omega arith))
+  vote_only : (u : Vote) → Member u (with_vote new_vote old_votes_left) → HasVoted (entry_by me (kept.Vote i s low v) ∷ history) me u.round
+      u.slot u.value × (max (durable_of acceptor_rules me history).cw low ≤ u.slot)
+  vote_only u m = ⊎_elim (λ e. subst (λ (x : Vote). HasVoted (entry_by me (kept.Vote i s low v) ∷ history) me x.round x.slot x.value
+      × (max (durable_of acceptor_rules me history).cw low ≤ x.slot)) (sym e) ((low, inl refl), omega arith))
       (λ k. let f = from-member (max (durable_of acceptor_rules me history).cw low) (durable_of acceptor_rules me history).votes u k in
       let x = (facts.acceptors me).only u f.0 in ((x.0.0, inr x.0.1), f.1))
       (put-cases new_vote old_votes_left u m)
 
-  vote_mark : (j : Round) (n : ℕ) → HasMark (entry_by me (kept.Vote i s low v) ∷ history) me j n → n ≤ max (durable_of acceptor_rules me history).cw low
-  vote_mark j n x = ⊎_elim (λ q. let p = q.2 in omega arith) (λ h. let p = (facts.acceptors me).mark j n h in omega arith) (vote_mark_cases me j n x)
+  vote_mark : (j : Round) (n : ℕ) → HasMark (entry_by me (kept.Vote i s low v) ∷ history) me j n
+      → n ≤ max (durable_of acceptor_rules me history).cw low
+  vote_mark j n x =
+      ⊎_elim (λ q. let p = q.2 in omega arith) (λ h. let p = (facts.acceptors me).mark j n h in omega arith) (vote_mark_cases me j n x)
 
   vote_top : (j : Round) (t : ℕ) (w : Value) → HasVoted (entry_by me (kept.Vote i s low v) ∷ history) me j t w
       → t < max (durable_of acceptor_rules me history).top (s + 1)
-  vote_top j t w x = ⊎_elim (λ q. let p = q.2 in omega arith) (λ h. let p = (facts.acceptors me).top j t w h in omega arith) (vote_cases me j t w x)
+  vote_top j t w x =
+      ⊎_elim (λ q. let p = q.2 in omega arith) (λ h. let p = (facts.acceptors me).top j t w h in omega arith) (vote_cases me j t w x)
 
   vote_low : (max (durable_of acceptor_rules me history).cw low ≡ 0)
       ⊎ ((j : Round) × HasMark (entry_by me (kept.Vote i s low v) ∷ history) me j (max (durable_of acceptor_rules me history).cw low))
@@ -176,14 +186,15 @@ module _ (c : Cluster) (history : List KeptRecord) (sent : List Letter) (states 
       (λ z. inl (e ∙ z))
       (λ h. inr (
         h.0,
-        subst (λ n. HasMark (entry_by me (kept.Vote i s low v) ∷ history) me h.0 n) (sym e)
-            (more_mark history (entry_by me (kept.Vote i s low v) ∷ history) (λ k m. inr m) me h.0 (durable_of acceptor_rules me history).cw h.1),
+        subst (λ n. HasMark (entry_by me (kept.Vote i s low v) ∷ history) me h.0 n) (sym e) (more_mark history
+            (entry_by me (kept.Vote i s low v) ∷ history) (λ k m. inr m) me h.0 (durable_of acceptor_rules me history).cw h.1),
       ))
       (facts.acceptors me).low)
       (λ e. inr (i, subst (λ n. HasMark (entry_by me (kept.Vote i s low v) ∷ history) me i n) (sym e) (inl (s, v, inl refl))))
       (max_cases (durable_of acceptor_rules me history).cw low)
 
-  vote_own : IsAcceptor (entry_by me (kept.Vote i s low v) ∷ history) me (acceptor_after (durable_of acceptor_rules me history) (kept.Vote i s low v))
+  vote_own : IsAcceptor (entry_by me (kept.Vote i s low v) ∷ history) me
+      (acceptor_after (durable_of acceptor_rules me history) (kept.Vote i s low v))
   vote_own = record {
     bound = vote_bound;
     promised = λ j l. inr (low, inl (s, v, inl refl));
@@ -194,7 +205,8 @@ module _ (c : Cluster) (history : List KeptRecord) (sent : List Letter) (states 
     top = vote_top;
   }
 
-  vote_voted : (a : RoleId) (j : Round) (t : ℕ) (w : Value) → HasVoted (entry_by me (kept.Vote i s low v) ∷ history) a j t w → IsProposed sent j t w
+  vote_voted : (a : RoleId) (j : Round) (t : ℕ) (w : Value) → HasVoted (entry_by me (kept.Vote i s low v) ∷ history) a j t w
+      → IsProposed sent j t w
   vote_voted a j t w x = ⊎_elim (λ q. rw (q.1, q.2, q.3) proposed) (λ h. facts.voted a j t w h) (vote_cases a j t w x)
 
   pub keep_vote : Facts c (entry_by me (kept.Vote i s low v) ∷ history) sent (set_state me Down states)
@@ -250,21 +262,29 @@ module _ (c : Cluster) (history : List KeptRecord) (sent : List Letter) (states 
       (water_mark_cases me x h.0 h.1)
 
   water_last : (j : Round) (t : ℕ) (w : Value) → max (durable_of acceptor_rules me history).cw low ≤ t
-      → HasVoted (entry_by me (kept.Water i low) ∷ history) me j t w
-      → (u : Vote) × Member u (votes_from_slot (max (durable_of acceptor_rules me history).cw low) (durable_of acceptor_rules me history).votes)
+      → HasVoted (entry_by me (kept.Water i low) ∷ history) me j t w → (u : Vote)
+      × Member u (votes_from_slot (max (durable_of acceptor_rules me history).cw low) (durable_of acceptor_rules me history).votes)
       × (u.slot ≡ t) × (is_before u.round j ≡ false)
   water_last j t w l x =
-      let u = (facts.acceptors me).last j t w (omega arith) (old_votes me (kept.Water i low) history no me j t w x) in
-      (u.0, from-there (max (durable_of acceptor_rules me history).cw low) (durable_of acceptor_rules me history).votes u.0 (rw u.2 l) u.1, u.2, u.3)
+      let u = (facts.acceptors me).last j t w (omega arith) (old_votes me (kept.Water i low) history no me j t w x) in (
+        u.0,
+        from-there (max (durable_of acceptor_rules me history).cw low) (durable_of acceptor_rules me history).votes u.0 (rw u.2 l) u.1,
+        u.2,
+        u.3,
+      )
 
-  water_only : (u : Vote) → Member u (votes_from_slot (max (durable_of acceptor_rules me history).cw low) (durable_of acceptor_rules me history).votes)
-      → HasVoted (entry_by me (kept.Water i low) ∷ history) me u.round u.slot u.value × (max (durable_of acceptor_rules me history).cw low ≤ u.slot)
+  water_only : (u : Vote)
+      → Member u (votes_from_slot (max (durable_of acceptor_rules me history).cw low) (durable_of acceptor_rules me history).votes)
+      → HasVoted (entry_by me (kept.Water i low) ∷ history) me u.round u.slot u.value
+      × (max (durable_of acceptor_rules me history).cw low ≤ u.slot)
   water_only u m =
       let f = from-member (max (durable_of acceptor_rules me history).cw low) (durable_of acceptor_rules me history).votes u m in
       let x = (facts.acceptors me).only u f.0 in ((x.0.0, inr x.0.1), f.1)
 
-  water_mark : (j : Round) (n : ℕ) → HasMark (entry_by me (kept.Water i low) ∷ history) me j n → n ≤ max (durable_of acceptor_rules me history).cw low
-  water_mark j n x = ⊎_elim (λ q. let p = q.2 in omega arith) (λ h. let p = (facts.acceptors me).mark j n h in omega arith) (water_mark_cases me j n x)
+  water_mark : (j : Round) (n : ℕ) → HasMark (entry_by me (kept.Water i low) ∷ history) me j n
+      → n ≤ max (durable_of acceptor_rules me history).cw low
+  water_mark j n x =
+      ⊎_elim (λ q. let p = q.2 in omega arith) (λ h. let p = (facts.acceptors me).mark j n h in omega arith) (water_mark_cases me j n x)
 
   water_low : (max (durable_of acceptor_rules me history).cw low ≡ 0)
       ⊎ ((j : Round) × HasMark (entry_by me (kept.Water i low) ∷ history) me j (max (durable_of acceptor_rules me history).cw low))
@@ -273,14 +293,15 @@ module _ (c : Cluster) (history : List KeptRecord) (sent : List Letter) (states 
       (λ z. inl (e ∙ z))
       (λ h. inr (
         h.0,
-        subst (λ n. HasMark (entry_by me (kept.Water i low) ∷ history) me h.0 n) (sym e)
-            (more_mark history (entry_by me (kept.Water i low) ∷ history) (λ k m. inr m) me h.0 (durable_of acceptor_rules me history).cw h.1),
+        subst (λ n. HasMark (entry_by me (kept.Water i low) ∷ history) me h.0 n) (sym e) (more_mark history
+            (entry_by me (kept.Water i low) ∷ history) (λ k m. inr m) me h.0 (durable_of acceptor_rules me history).cw h.1),
       ))
       (facts.acceptors me).low)
       (λ e. inr (i, subst (λ n. HasMark (entry_by me (kept.Water i low) ∷ history) me i n) (sym e) (inr (inl refl))))
       (max_cases (durable_of acceptor_rules me history).cw low)
 
-  water_own : IsAcceptor (entry_by me (kept.Water i low) ∷ history) me (acceptor_after (durable_of acceptor_rules me history) (kept.Water i low))
+  water_own : IsAcceptor (entry_by me (kept.Water i low) ∷ history) me
+      (acceptor_after (durable_of acceptor_rules me history) (kept.Water i low))
   water_own = record {
     bound = water_bound;
     promised = λ j l. inr (low, inr (inl refl));

@@ -1,5 +1,5 @@
--- Going on with another grid: what a leading leader proposed may be proposed in its next round, before anybody is asked; and when enough matchmakers
--- took that round, it leads.
+-- Going on with another grid: what a leading leader proposed may be proposed in its next round, before anybody is asked; and when enough
+-- matchmakers took that round, it leads.
 use Rattle.std.proofs.Common.{◌≡◌, ℕ, ◌+◌, ◌<◌, ◌≤◌, true, ◌⊎◌, List, [], inl, inr, sym, subst, arith}
 use Rattle.std.proofs.lemmas.Bool.Decides.{nat_tests}
 use Rattle.cx_base.specs.declared.cluster.Cluster.{Cluster}
@@ -47,7 +47,8 @@ module _ (c : Cluster) (history : List KeptRecord) (sent : List Letter) (own : E
   left = (next, g, later, begun)
 
   -- what is safe in the round, and all that was proposed there in the slot, is safe in the next one
-  next_safe : (s : ℕ) (u : Value) → IsSafe c history sent own.round s u → ((w : Value) → IsProposed sent own.round s w → w ≡ u) → IsSafe c history sent next s u
+  next_safe : (s : ℕ) (u : Value) → IsSafe c history sent own.round s u → ((w : Value) → IsProposed sent own.round s w → w ≡ u)
+      → IsSafe c history sent next s u
   next_safe s u safe only j l = go (before_next own.round j l)
     where
       go : (is_before j own.round ≡ true) ⊎ (j ≡ own.round) → IsShut c history j ⊎ (IsSettled history j s u ⊎ IsSpent history sent j s u)
@@ -58,17 +59,20 @@ module _ (c : Cluster) (history : List KeptRecord) (sent : List Letter) (own : E
   remembered_only : (p : Placed) → Member p v.proposed → (w : Value) → IsProposed sent own.round p.slot w → w ≡ p.value
   remembered_only p m w x = go (leading.remembered p.slot w x) (leading.window p m)
     where
-      go : (p.slot < v.cw) ⊎ Member {X = Placed} (record { slot = p.slot; value = w }) v.proposed → (v.cw ≤ p.slot) × (p.slot < v.next) → w ≡ p.value
+      go : (p.slot < v.cw) ⊎ Member {X = Placed} (record { slot = p.slot; value = w }) v.proposed → (v.cw ≤ p.slot) × (p.slot < v.next)
+          → w ≡ p.value
       go (inl l) k = let a = k.0 in absurd (omega arith)
       go (inr n) k = leading.once p.slot w p.value n m
 
   -- after the order to change
-  pub change_ready : IsReady c history sent (record { round = next; grid = g }) (record v { mode = Matching; told = []; promises = []; collection = not_collecting })
+  pub change_ready : IsReady c history sent (record { round = next; grid = g })
+      (record v { mode = Matching; told = []; promises = []; collection = not_collecting })
   change_ready = record {
     once = leading.once;
     window = leading.window;
     safe = λ p m. next_safe p.slot p.value (leading.safe p m) (remembered_only p m);
-    free = λ s u l. let k = leading.end_next in next_safe s u (leading.free s u (omega arith)) (λ w x. let b = leading.below_next s w x in absurd (omega arith));
+    free = λ s u l. let k = leading.end_next in next_safe s u (leading.free s u (omega arith))
+        (λ w x. let b = leading.below_next s w x in absurd (omega arith));
     cw_next = leading.cw_next;
   }
 

@@ -1,5 +1,6 @@
 -- The chain of sets: one set at each place, sets at two places without a common member; and a round that was matched isn't shut.
-use Rattle.std.proofs.Common.{◌≡◌, ◌≤◌, ◌<◌, ◌+◌, ◌*◌, ℕ, zero, suc, true, ◌⊎◌, List, [], ◌∷◌, length, ap, sym, ◌∙◌, subst, refl, inl, inr, ⊎_elim, arith}
+use Rattle.std.proofs.Common.{◌≡◌, ◌≤◌, ◌<◌, ◌+◌, ◌*◌, ℕ, zero, suc, true, ◌⊎◌, List, [], ◌∷◌, length, ap, sym, ◌∙◌, subst, refl, inl, inr}
+use Rattle.std.proofs.Common.{⊎_elim, arith}
 use Rattle.std.specs.Prelude.{nat_lt}
 use Rattle.std.specs.List.{list_all}
 use Rattle.std.proofs.lemmas.Bool.{true≢false, and_parts, cases_Bool, cases_lt, ltb-true}
@@ -22,7 +23,8 @@ use Rattle.cx_model.specs.Names.{names_set}
 use Rattle.cx_inv_run.proofs.Members.{all-Member}
 use Rattle.cx_inv_run.proofs.Quorums.{length-below, most_meet, some_passes}
 use Rattle.cx_inv_run.proofs.Rounds.{before_cases, before-both, before-trans, before-to_at_least, before-not, least}
-use Rattle.cx_inv_match.specs.Words.{how_many, HasBoot, HasRound, HasTaken, HasNext, IsDecided, IsNth, IsClosed, IsMatched, IsMatchable, CanTake, IsShut, IsWatermark, IsJoin, IsMember, SetFacts}
+use Rattle.cx_inv_match.specs.Words.{how_many, HasBoot, HasRound, HasTaken, HasNext, IsDecided, IsNth, IsClosed, IsMatched, IsMatchable}
+use Rattle.cx_inv_match.specs.Words.{CanTake, IsShut, IsWatermark, IsJoin, IsMember, SetFacts}
 
 -- sets without a common member
 
@@ -63,7 +65,8 @@ module _ (c : Cluster) (history : List KeptRecord) (sent : List Letter) (facts :
   abbrev OnceTo : ℕ → Type 0
   OnceTo n = (k : ℕ) (s t : List ℕ) → k ≤ n → IsNth c history k s → IsNth c history k t → s ≡ t
 
-  meet_to : (n : ℕ) → OnceTo n → (k : ℕ) (s p : List ℕ) → IsNth c history k s → IsNth c history n p → (m : ℕ) → Member m s → Member m p → (k ≡ n) × (s ≡ p)
+  meet_to : (n : ℕ) → OnceTo n → (k : ℕ) (s p : List ℕ) → IsNth c history k s → IsNth c history n p → (m : ℕ) → Member m s → Member m p
+      → (k ≡ n) × (s ≡ p)
   meet_to n once k s p h q m i j = go (cases_lt k n) (cases_lt n k)
     where
       go : (k < n) ⊎ (n ≤ k) → (n < k) ⊎ (k ≤ n) → (k ≡ n) × (s ≡ p)
@@ -126,12 +129,14 @@ module _ (c : Cluster) (history : List KeptRecord) (sent : List Letter) (facts :
   pub decided_once : (n : ℕ) (p s t : List ℕ) → IsNth c history n p → IsDecided c history p s → IsDecided c history p t → s ≡ t
   decided_once n p s t h d e = decided_to n (once_to n) p s t h d e
 
-  pub nth_meet : (k n : ℕ) (s p : List ℕ) → IsNth c history k s → IsNth c history n p → (m : ℕ) → Member m s → Member m p → (k ≡ n) × (s ≡ p)
+  pub nth_meet : (k n : ℕ) (s p : List ℕ) → IsNth c history k s → IsNth c history n p → (m : ℕ) → Member m s → Member m p
+      → (k ≡ n) × (s ≡ p)
   nth_meet k n s p h q m i j = meet_to n (once_to n) k s p h q m i j
 
   -- a member that began is a member of the set in which it began
   pub boot_at : (n : ℕ) (p : List ℕ) → IsNth c history n p → (m : ℕ) → Member m p → (s : List ℕ) (w : Round) (es : List Entry)
-      → HasBoot history (role kind.Matchmaker m) s w es → (q : ℕ) × (n ≡ suc q) × (r : List ℕ) × IsNth c history q r × IsDecided c history r p × IsJoin c history r w es
+      → HasBoot history (role kind.Matchmaker m) s w es
+      → (q : ℕ) × (n ≡ suc q) × (r : List ℕ) × IsNth c history q r × IsDecided c history r p × IsJoin c history r w es
   boot_at n p h m i s w es x =
       let b = facts.booted (role kind.Matchmaker m) s w es x in
       let r = nth_meet (suc b.1.place) n s p (b.1.set, b.1.nth, b.1.decided) h m b.0 i in
@@ -155,18 +160,20 @@ module _ (c : Cluster) (history : List KeptRecord) (sent : List Letter) (facts :
     tells_join (suc n) s w es l h join = go (cases_lt from (suc n)) (λ r v xs b k j. tells_join n r v xs b k j)
       where
         go : (from < suc n) ⊎ (suc n ≤ from)
-            → ((r : List ℕ) (v : Round) (xs : List Entry) → from ≤ n → IsNth c history n r → IsJoin c history r v xs → Tells v xs) → Tells w es
+            → ((r : List ℕ) (v : Round) (xs : List Entry) → from ≤ n → IsNth c history n r → IsJoin c history r v xs → Tells v xs)
+            → Tells w es
         go (inr b) earlier = let e : suc n ≡ from = omega arith in base s w es (subst (λ x. IsNth c history x s) e h) join
         go (inl b) earlier =
             let x = some_passes c s join.who join.most in
             let k = began n s h x.0 x.1 (facts.members (role kind.Matchmaker x.0) (inr (join.stopped x.0 x.2))) in
             let a = boot_at (suc n) s h x.0 x.1 k.0 k.1 k.2 k.3 in
             let e = a.1 in
-            on s w es join x.0 x.2 k.0 k.1 k.2 k.3 (earlier a.2 k.1 k.2 (omega arith) (subst (λ q. IsNth c history q a.2) (let p : a.0 ≡ n = omega arith in p) a.3) a.5)
+            on s w es join x.0 x.2 k.0 k.1 k.2 k.3
+            (earlier a.2 k.1 k.2 (omega arith) (subst (λ q. IsNth c history q a.2) (let p : a.0 ≡ n = omega arith in p) a.3) a.5)
 
     -- so it holds of the log with which each member of a later set begins
-    pub tells_boot : (n : ℕ) (p : List ℕ) → from < n → IsNth c history n p → (m : ℕ) → Member m p → (s : List ℕ) (w : Round) (es : List Entry)
-        → HasBoot history (role kind.Matchmaker m) s w es → Tells w es
+    pub tells_boot : (n : ℕ) (p : List ℕ) → from < n → IsNth c history n p → (m : ℕ) → Member m p
+        → (s : List ℕ) (w : Round) (es : List Entry) → HasBoot history (role kind.Matchmaker m) s w es → Tells w es
     tells_boot n p l h m i s w es x =
         let a = boot_at n p h m i s w es x in
         let e = a.1 in
@@ -200,7 +207,8 @@ module _ (c : Cluster) (history : List KeptRecord) (sent : List Letter) (facts :
         base : (s : List ℕ) (w : Round) (es : List Entry) → IsNth c history may.known.0 s → IsJoin c history s w es → Covers w es
         base s w es h join =
             let e : s ≡ may.set = nth_once may.known.0 s may.set h may.known.1 in
-            let x = most_meet c s join.who may.who (nth_length may.known.0 s h) join.most (subst (λ q. c.f < how_many q may.who) (sym e) may.most) in
+            let x = most_meet c s join.who may.who (nth_length may.known.0 s h) join.most
+            (subst (λ q. c.f < how_many q may.who) (sym e) may.most) in
             ⊎_elim
             (λ r. ⊎_elim inl (λ k. inr (r.0, k)) (told_or_below s w es join x.0 x.2 j r.0 (taken_round (role kind.Matchmaker x.0) r.0 r.1)))
             (λ can. absurd (can.1 (join.stopped x.0 x.2)))
@@ -227,7 +235,8 @@ module _ (c : Cluster) (history : List KeptRecord) (sent : List Letter) (facts :
         base : (s : List ℕ) (w : Round) (es : List Entry) → IsNth c history shut.known.0 s → IsJoin c history s w es → IsBehind w es
         base s w es h join =
             let e : s ≡ shut.set = nth_once shut.known.0 s shut.set h shut.known.1 in
-            let x = most_meet c s join.who shut.who (nth_length shut.known.0 s h) join.most (subst (λ q. c.f < how_many q shut.who) (sym e) shut.most) in
+            let x = most_meet c s join.who shut.who (nth_length shut.known.0 s h) join.most
+            (subst (λ q. c.f < how_many q shut.who) (sym e) shut.most) in
             let r = shut.later x.0 x.3 in
             later s w es join x.0 x.2 r.0 r.1 r.2 r.3
 
@@ -239,8 +248,8 @@ module _ (c : Cluster) (history : List KeptRecord) (sent : List Letter) (facts :
     member_of : (m : RoleId) (i : Round) (g : Shape) → HasRound history m i g → IsMember c history m
     member_of m i g x = facts.members m (inl (i, (g, inl x)))
 
-    open_shut : (may : IsMatchable c history j) (shut : IsShut c history j) (k n : ℕ) → IsNth c history n may.set → IsNth c history k shut.set
-        → n ≡ may.known.0 → k ≡ shut.known.0 → (n < k) ⊎ (k ≤ n) → (k < n) ⊎ (n ≤ k) → ⊥
+    open_shut : (may : IsMatchable c history j) (shut : IsShut c history j) (k n : ℕ) → IsNth c history n may.set
+        → IsNth c history k shut.set → n ≡ may.known.0 → k ≡ shut.known.0 → (n < k) ⊎ (k ≤ n) → (k < n) ⊎ (n ≤ k) → ⊥
     open_shut may shut zero n hn hk en ek (inl l) o = absurd (omega arith)
     open_shut may shut (suc k) n hn hk en ek (inl l) o =
         let x = some_passes c shut.set shut.who shut.most in
@@ -255,7 +264,8 @@ module _ (c : Cluster) (history : List KeptRecord) (sent : List Letter) (facts :
         let x = some_passes c may.set may.who may.most in
         ⊎_elim (λ r. taken x.0 x.1 r.0 r.1) (λ can. can_take x.0 x.1 can) (may.each x.0 x.2)
       where
-        behind : (m : ℕ) → Member m may.set → (s : List ℕ) (w : Round) (es : List Entry) → HasBoot history (role kind.Matchmaker m) s w es → IsBehind w es
+        behind : (m : ℕ) → Member m may.set → (s : List ℕ) (w : Round) (es : List Entry) → HasBoot history (role kind.Matchmaker m) s w es
+            → IsBehind w es
         behind m i s w es y = shut_behind shut (suc n) may.set (subst (λ z. z < suc n) ek b) hn m i s w es y
 
         taken : (m : ℕ) → Member m may.set → (g : Shape) → HasTaken history (role kind.Matchmaker m) j g → ⊥
@@ -273,8 +283,10 @@ module _ (c : Cluster) (history : List KeptRecord) (sent : List Letter) (facts :
             let y = behind m i k.0 k.1 k.2 k.3 in
             can.2 y.0.round y.0.grid y.2 (inr (k.0, k.1, k.2, k.3, y.1))
     open_shut may shut k n hn hk en ek (inr l) (inr b) =
-        let e : may.set ≡ shut.set = nth_once n may.set shut.set hn (subst (λ z. IsNth c history z shut.set) (let q : k ≡ n = omega arith in q) hk) in
-        let x = most_meet c shut.set may.who shut.who (nth_length k shut.set hk) (subst (λ q. c.f < how_many q may.who) e may.most) shut.most in
+        let e : may.set ≡ shut.set =
+        nth_once n may.set shut.set hn (subst (λ z. IsNth c history z shut.set) (let q : k ≡ n = omega arith in q) hk) in
+        let x =
+        most_meet c shut.set may.who shut.who (nth_length k shut.set hk) (subst (λ q. c.f < how_many q may.who) e may.most) shut.most in
         ⊎_elim
         (λ r. shut.never x.0 x.3 r.0 (taken_round (role kind.Matchmaker x.0) r.0 r.1))
         (λ can. let y = shut.later x.0 x.3 in can.2 y.0 y.1 y.2 y.3)
@@ -288,4 +300,6 @@ module _ (c : Cluster) (history : List KeptRecord) (sent : List Letter) (facts :
 
     pub matched_open : IsMatched c history j → IsShut c history j → ⊥
     matched_open matched shut =
-        open_not_shut (record { set = matched.set; known = matched.known; who = matched.who; most = matched.most; each = λ m t. inl (matched.each m t) }) shut
+        open_not_shut
+        (record { set = matched.set; known = matched.known; who = matched.who; most = matched.most; each = λ m t. inl (matched.each m t) })
+        shut

@@ -1,6 +1,7 @@
--- What a replacer may ask once enough matchmakers of the known set have stopped: the set to decide can be decided in no earlier ballot but as it
--- is, and what they told is a join.
-use Rattle.std.proofs.Common.{◌≡◌, ℕ, ◌<◌, Bool, true, false, not, ◌⊎◌, List, [], ◌∷◌, length, Option, Some, None, inl, inr, ap, sym, subst, ◌∙◌, refl, ⊎_elim, arith}
+-- What a replacer may ask once enough matchmakers of the known set have stopped: the set to decide can be decided in no earlier ballot but
+-- as it is, and what they told is a join.
+use Rattle.std.proofs.Common.{◌≡◌, ℕ, ◌<◌, Bool, true, false, not, ◌⊎◌, List, [], ◌∷◌, length, Option, Some, None, inl, inr, ap, sym, subst}
+use Rattle.std.proofs.Common.{◌∙◌, refl, ⊎_elim, arith}
 use Rattle.std.specs.Prelude.{if◌then◌else◌}
 use Rattle.std.proofs.lemmas.Bool.{true≢false, cond_both}
 use Rattle.cx_base.specs.declared.cluster.Cluster.{Cluster}
@@ -38,10 +39,11 @@ halted_length : (halts : List Halt) → length (halted_by halts) ≡ length halt
 halted_length [] = refl
 halted_length (h ∷ halts) = let e = halted_length halts in omega arith
 
-pub halted_count : (c : Cluster) (set : List ℕ) (halts : List Halt) → AreOnce (halted_by halts) → ((m : ℕ) → Member m (halted_by halts) → Member m set)
-    → c.f < length halts → c.f < how_many set (λ m. is_in m (halted_by halts))
+pub halted_count : (c : Cluster) (set : List ℕ) (halts : List Halt) → AreOnce (halted_by halts)
+    → ((m : ℕ) → Member m (halted_by halts) → Member m set) → c.f < length halts → c.f < how_many set (λ m. is_in m (halted_by halts))
 halted_count c set halts once known enough =
-    let l = once_count AreOnce (λ m ms o. o) (λ m. is_in m (halted_by halts)) (halted_by halts) set once known (λ m k. Member-is_in m (halted_by halts) k) in
+    let l = once_count AreOnce (λ m ms o. o) (λ m. is_in m (halted_by halts)) (halted_by halts) set once known
+    (λ m k. Member-is_in m (halted_by halts) k) in
     let e = halted_length halts in
     omega arith
 
@@ -103,7 +105,8 @@ sorted_has : (sorted es : List Entry) (e : Entry) → Member e es → Has e.roun
 sorted_has sorted [] e m = absurd m
 sorted_has sorted (x ∷ es) e (inl p) =
     let r = with_has x sorted in
-    subst (λ (y : Entry). Has y.round (sorted_into (with_entry x sorted) es)) (sym p) (r.0, sorted_stays (with_entry x sorted) es (entry x.round r.0) r.1)
+    subst (λ (y : Entry). Has y.round (sorted_into (with_entry x sorted) es)) (sym p)
+    (r.0, sorted_stays (with_entry x sorted) es (entry x.round r.0) r.1)
 sorted_has sorted (x ∷ es) e (inr m) = sorted_has (with_entry x sorted) es e m
 
 -- the answer of the greatest ballot
@@ -112,12 +115,13 @@ same_one : (h x : Halt) → Some h ≡ Some x → h ≡ x
 same_one h x e = cc
 
 later_one : (x : Halt) (halts : List Halt) (o : Option Halt) → latest halts ≡ o
-    → ((later_halt x o ≡ x) × ((y : Halt) → o ≡ Some y → is_before x.accepted y.accepted ≡ false)) ⊎ ((y : Halt) × (o ≡ Some y) × (later_halt x o ≡ y) × (is_before x.accepted y.accepted ≡ true))
+    → ((later_halt x o ≡ x) × ((y : Halt) → o ≡ Some y → is_before x.accepted y.accepted ≡ false))
+    ⊎ ((y : Halt) × (o ≡ Some y) × (later_halt x o ≡ y) × (is_before x.accepted y.accepted ≡ true))
 later_one x halts None e = inl (refl, λ y p. cc)
 later_one x halts (Some y) e =
     cond_both (is_before x.accepted y.accepted) y x
-    (λ z. ((z ≡ x) × ((v : Halt) → Some y ≡ Some v → is_before x.accepted v.accepted ≡ false)) ⊎ ((v : Halt) × (Some y ≡ Some v) × (z ≡ v) × (is_before x.accepted v.accepted ≡ true)))
-    (λ t. inr (y, refl, refl, t))
+    (λ z. ((z ≡ x) × ((v : Halt) → Some y ≡ Some v → is_before x.accepted v.accepted ≡ false))
+    ⊎ ((v : Halt) × (Some y ≡ Some v) × (z ≡ v) × (is_before x.accepted v.accepted ≡ true))) (λ t. inr (y, refl, refl, t))
     (λ f. inl (refl, λ v p. subst (λ (z : Halt). is_before x.accepted z.accepted ≡ false) (same_one y v p) f))
 
 latest_none : (x : Halt) (halts : List Halt) → latest halts ≡ None → Member x halts → {A : Type 0} → A
@@ -131,7 +135,8 @@ latest_member (x ∷ halts) h e = ⊎_elim
     (λ r. inr (latest_member halts h (r.1 ∙ ap (λ y. Some y) (sym r.2 ∙ same_one _ h e))))
     (later_one x halts (latest halts) refl)
 
-latest_above : (halts : List Halt) (h : Halt) → latest halts ≡ Some h → (y : Halt) → Member y halts → is_before h.accepted y.accepted ≡ false
+latest_above : (halts : List Halt) (h : Halt) → latest halts ≡ Some h → (y : Halt) → Member y halts
+    → is_before h.accepted y.accepted ≡ false
 latest_above [] h e y m = absurd m
 latest_above (x ∷ halts) h e y m = ⊎_elim
     (λ r. let is : x ≡ h = sym r.0 ∙ same_one _ h e in
@@ -140,21 +145,21 @@ latest_above (x ∷ halts) h e y m = ⊎_elim
     subst (λ (z : Halt). is_before z.accepted y.accepted ≡ false) is (other r.0 r.3 m (λ k. latest_above halts r.0 r.1 y k)))
     (later_one x halts (latest halts) refl)
   where
-    own : ((v : Halt) → latest halts ≡ Some v → is_before x.accepted v.accepted ≡ false) → (y ≡ x) ⊎ Member y halts
-        → (o : Option Halt) → latest halts ≡ o → ((v : Halt) → latest halts ≡ Some v → Member y halts → is_before v.accepted y.accepted ≡ false)
+    own : ((v : Halt) → latest halts ≡ Some v → is_before x.accepted v.accepted ≡ false) → (y ≡ x) ⊎ Member y halts → (o : Option Halt)
+        → latest halts ≡ o → ((v : Halt) → latest halts ≡ Some v → Member y halts → is_before v.accepted y.accepted ≡ false)
         → is_before x.accepted y.accepted ≡ false
     own least (inl p) o q rest = subst (λ (z : Halt). is_before x.accepted z.accepted ≡ false) (sym p) (itself-not_before x.accepted)
     own least (inr k) None q rest = latest_none y halts q k
     own least (inr k) (Some v) q rest = at_most-trans y.accepted v.accepted x.accepted (rest v q k) (least v q)
 
-    other : (v : Halt) → is_before x.accepted v.accepted ≡ true → (y ≡ x) ⊎ Member y halts → (Member y halts → is_before v.accepted y.accepted ≡ false)
-        → is_before v.accepted y.accepted ≡ false
+    other : (v : Halt) → is_before x.accepted v.accepted ≡ true → (y ≡ x) ⊎ Member y halts
+        → (Member y halts → is_before v.accepted y.accepted ≡ false) → is_before v.accepted y.accepted ≡ false
     other v t (inl p) rest = subst (λ (z : Halt). is_before v.accepted z.accepted ≡ false) (sym p) (before-not x.accepted v.accepted t)
     other v t (inr k) rest = rest k
 
 module _ (c : Cluster) (history : List KeptRecord) (sent : List Letter) (facts : SetFacts c history) (own : Round) (set : List ℕ)
-    (is_known : IsKnown c history set) (halts : List Halt)
-    (says : (h : Halt) → Member h halts → IsHalt c history (role kind.Matchmaker h.answer.matchmaker) own h.answer.watermark h.answer.entries h.accepted h.next)
+    (is_known : IsKnown c history set) (halts : List Halt) (says : (h : Halt) → Member h halts
+    → IsHalt c history (role kind.Matchmaker h.answer.matchmaker) own h.answer.watermark h.answer.entries h.accepted h.next)
     (once : AreOnce (halted_by halts)) (known : (m : ℕ) → Member m (halted_by halts) → Member m set) (enough : c.f < length halts) where
   abbrev who : ℕ → Bool
   who m = is_in m (halted_by halts)
@@ -169,14 +174,19 @@ module _ (c : Cluster) (history : List KeptRecord) (sent : List Letter) (facts :
   halted : (m : ℕ) (t : who m ≡ true) → (h : Halt) × Member h halts
       × IsHalt c history (role kind.Matchmaker m) own h.answer.watermark h.answer.entries h.accepted h.next
   halted m t =
-      let r = counted m t in
-      (r.0, r.1, subst (λ n. IsHalt c history (role kind.Matchmaker n) own r.0.answer.watermark r.0.answer.entries r.0.accepted r.0.next) (sym r.2) (says r.0 r.1))
+      let r = counted m t in (
+        r.0,
+        r.1,
+        subst (λ n. IsHalt c history (role kind.Matchmaker n) own r.0.answer.watermark r.0.answer.entries r.0.accepted r.0.next) (sym r.2)
+            (says r.0 r.1),
+      )
 
   low_water : (h : Halt) → Member h halts → is_before water h.answer.watermark ≡ false
   low_water h m = top_above (answers_of halts) h.answer (answer_in halts h m)
 
   -- WHAT THEY TOLD IS A JOIN
-  join_told : (h : Halt) → Member h halts → (e : Entry) → is_before e.round water ≡ false → Member e h.answer.entries → Has e.round (joined_entries halts)
+  join_told : (h : Halt) → Member h halts → (e : Entry) → is_before e.round water ≡ false → Member e h.answer.entries
+      → Has e.round (joined_entries halts)
   join_told h m e l k =
       sorted_has [] (live_entries (answers_of halts)) e (live_has (answers_of halts) h.answer e l (answer_in halts h m) k)
 
@@ -197,7 +207,8 @@ module _ (c : Cluster) (history : List KeptRecord) (sent : List Letter) (facts :
 
   module _ (one_grid : (i : Round) (g h : Shape) → IsConfig history i g → IsConfig history i h → g ≡ h) where
     -- an entry that is told stands in the join itself, since a round has one grid
-    join_exact : (h : Halt) → Member h halts → (e : Entry) → is_before e.round water ≡ false → Member e h.answer.entries → Member e (joined_entries halts)
+    join_exact : (h : Halt) → Member h halts → (e : Entry) → is_before e.round water ≡ false → Member e h.answer.entries
+        → Member e (joined_entries halts)
     join_exact h m e l k =
         let r = join_told h m e l k in
         let same : r.0 ≡ e.grid = one_grid e.round r.0 e.grid (join_only (entry e.round r.0) r.1).0 ((says h m).only e k) in
@@ -216,7 +227,8 @@ module _ (c : Cluster) (history : List KeptRecord) (sent : List Letter) (facts :
               (x.1.0, join_exact h m (entry water x.1.0) (itself-not_before water) k),
             )
 
-        go : (water ≡ no_round) ⊎ ((a : MatchAnswer) × Member a (answers_of halts) × (water ≡ a.watermark)) → IsWatermark history water (joined_entries halts)
+        go : (water ≡ no_round) ⊎ ((a : MatchAnswer) × Member a (answers_of halts) × (water ≡ a.watermark))
+            → IsWatermark history water (joined_entries halts)
         go (inl e) = inl e
         go (inr r) =
             let h = answer_from halts r.0 r.1 in
@@ -253,7 +265,8 @@ module _ (c : Cluster) (history : List KeptRecord) (sent : List Letter) (facts :
       only = λ m p u x. let h = halted m p in only m p h.0 h.1 (h.2.nexts a u l x) u x;
     }
 
-    closed_by : (z : Halt) → latest halts ≡ Some z → (b : Bool) → is_before no_round z.accepted ≡ b → IsClosed c history set a (if b then z.next else ordered)
+    closed_by : (z : Halt) → latest halts ≡ Some z → (b : Bool) → is_before no_round z.accepted ≡ b
+        → IsClosed c history set a (if b then z.next else ordered)
     closed_by z e false f =
         closed_here ordered (λ m p h k low u x.
         let real = (facts.nexted (role kind.Matchmaker m) a u x).real in
@@ -268,17 +281,17 @@ module _ (c : Cluster) (history : List KeptRecord) (sent : List Letter) (facts :
             → (is_before a z.accepted ≡ true) ⊎ ((a ≡ z.accepted) ⊎ (is_before z.accepted a ≡ true)) → IsClosed c history set a z.next
         accepted has (inl b) =
             let next = facts.nexted (role kind.Matchmaker z.answer.matchmaker) z.accepted z.next has in
-            subst (λ q. IsClosed c history q a z.next)
-            (nth_meet c history sent facts next.known.0 is_known.0 next.set set next.known.1 is_known.1 z.answer.matchmaker next.member m_z).1
-            (next.closed a b)
+            subst (λ q. IsClosed c history q a z.next) (nth_meet c history sent facts next.known.0 is_known.0 next.set set next.known.1
+            is_known.1 z.answer.matchmaker next.member m_z).1 (next.closed a b)
         accepted has (inr (inl q)) =
             closed_here z.next (λ m p h k low u x.
             facts.one_next (role kind.Matchmaker m) (role kind.Matchmaker z.answer.matchmaker) a u z.next x
             (subst (λ b. HasNext history (role kind.Matchmaker z.answer.matchmaker) b z.next) (sym q) has))
-        accepted has (inr (inr b)) =
-            closed_here z.next (λ m p h k low u x. absurd (true≢false (sym b ∙ at_most-trans a h.accepted z.accepted low (latest_above halts z e h k))))
+        accepted has (inr (inr b)) = closed_here z.next
+            (λ m p h k low u x. absurd (true≢false (sym b ∙ at_most-trans a h.accepted z.accepted low (latest_above halts z e h k))))
 
-        go : (z.accepted ≡ no_round) ⊎ HasNext history (role kind.Matchmaker z.answer.matchmaker) z.accepted z.next → IsClosed c history set a z.next
+        go : (z.accepted ≡ no_round) ⊎ HasNext history (role kind.Matchmaker z.answer.matchmaker) z.accepted z.next
+            → IsClosed c history set a z.next
         go (inl none) = absurd (true≢false (sym t ∙ subst (λ b. is_before no_round b ≡ false) (sym none) (itself-not_before no_round)))
         go (inr has) = accepted has (before_cases a z.accepted)
 

@@ -21,14 +21,20 @@ use Rattle.cx_model.specs.Promises.{HasKept, IsConfig}
 use Rattle.cx_model.specs.Replacer.{ReplacerDurable, replacer_rules, replacer_after}
 use Rattle.cx_model.specs.World.{values_in}
 use Rattle.cx_inv_run.specs.Kinds.{Kinds}
-use Rattle.cx_inv_run.specs.States.{State, Down, Plain, BatcherIn, LeaderIn, ProxyIn, ReplicaIn, ReaderIn, ReplacerIn, set_state, entry_by, snap_by, durable_of, log_in}
+use Rattle.cx_inv_run.specs.States.{State, Down, Plain, BatcherIn, LeaderIn, ProxyIn, ReplicaIn, ReaderIn, ReplacerIn, set_state, entry_by}
+use Rattle.cx_inv_run.specs.States.{snap_by, durable_of, log_in}
 use Rattle.cx_inv_run.proofs.Histories.{by_role, durable_own, durable_other, set_running, kept_other}
 use Rattle.cx_inv_run.proofs.Snaps.{SameKept, log_else, snap_same}
-use Rattle.cx_inv_match.specs.Words.{HasMatch, HasGarbage, HasRound, HasNext, HasBallot, IsUsed, HasMark, HasPromise, IsChosen, IsCollected, IsKnown, SetFacts}
+use Rattle.cx_inv_match.specs.Words.{HasMatch, HasGarbage, HasRound, HasNext, HasBallot, IsUsed, HasMark, HasPromise, IsChosen, IsCollected}
+use Rattle.cx_inv_match.specs.Words.{IsKnown, SetFacts}
 use Rattle.cx_inv_match.specs.Facts.{IsAcceptor, IsMatchmaker, IsLastRound, IsLastBallot, IsAsked, InMode, InWork, InState, Facts}
-use Rattle.cx_inv_match.proofs.Grow.{Grows, grown_config, grown_known, grown_next, grown_collected, grown_chosen_somewhere, grown_says, grown_mode, grown_work, grown_pending}
+use Rattle.cx_inv_match.proofs.Grow.{Grows, grown_config, grown_known, grown_next, grown_collected, grown_chosen_somewhere, grown_says}
+use Rattle.cx_inv_match.proofs.Grow.{grown_mode, grown_work, grown_pending}
 use Rattle.cx_inv_match.proofs.SetLaws.{grown_sets}
-use Rattle.cx_inv_match.proofs.Keep.{IsRoundRecord, IsMatchRecord, IsGarbageRecord, IsPromiseRecord, IsVoteRecord, IsWaterRecord, IsStopRecord, IsNextRecord, IsBootRecord, IsBallotRecord, old_rounds, old_matches, old_garbages, old_votes, old_marks, old_promises, old_boots, old_nexts, old_ballots, old_begun, old_had, old_used, other_had, other_ballots, other_votes, other_marks, other_promises, same_acceptor, same_last, same_log}
+use Rattle.cx_inv_match.proofs.Keep.{IsRoundRecord, IsMatchRecord, IsGarbageRecord, IsPromiseRecord, IsVoteRecord, IsWaterRecord}
+use Rattle.cx_inv_match.proofs.Keep.{IsStopRecord, IsNextRecord, IsBootRecord, IsBallotRecord, old_rounds, old_matches, old_garbages}
+use Rattle.cx_inv_match.proofs.Keep.{old_votes, old_marks, old_promises, old_boots, old_nexts, old_ballots, old_begun, old_had, old_used}
+use Rattle.cx_inv_match.proofs.Keep.{other_had, other_ballots, other_votes, other_marks, other_promises, same_acceptor, same_last, same_log}
 
 -- the facts, from those that differ by the kind of record
 module _ (c : Cluster) (history : List KeptRecord) (sent : List Letter) (states : RoleId → State) (facts : Facts c history sent states)
@@ -36,21 +42,26 @@ module _ (c : Cluster) (history : List KeptRecord) (sent : List Letter) (states 
   abbrev longer : List KeptRecord
   longer = entry_by me r ∷ history
 
-  pub grown_state : (a : RoleId) → same_role a me ≡ false → (s : State) → InState c history sent a s → InState c (entry_by me r ∷ history) sent a s
+  pub grown_state : (a : RoleId) → same_role a me ≡ false → (s : State) → InState c history sent a s
+      → InState c (entry_by me r ∷ history) sent a s
   grown_state a e Down h = tt
   grown_state a e Plain h = tt
   grown_state a e (BatcherIn v) h = h
-  grown_state a e (LeaderIn v) h =
-      subst (λ (d : LeaderDurable). LeaderWasTold sent a (round_of d.own) v × InMode c (entry_by me r ∷ history) sent d.own v v.mode × IsKnown c (entry_by me r ∷ history) v.set)
-      (sym (durable_other leader_rules me a r history e))
-      (h.0, grown_mode c history sent longer grows (durable_of leader_rules a history).own v v.mode h.1, grown_known c history sent longer sent grows v.set h.2)
+  grown_state a e (LeaderIn v) h = subst (λ (d : LeaderDurable). LeaderWasTold sent a (round_of d.own) v × InMode c (entry_by me r
+      ∷ history) sent d.own v v.mode × IsKnown c (entry_by me r ∷ history) v.set) (sym (durable_other leader_rules me a r history e)) (
+        h.0,
+        grown_mode c history sent longer grows (durable_of leader_rules a history).own v v.mode h.1,
+        grown_known c history sent longer sent grows v.set h.2,
+      )
   grown_state a e (ProxyIn v) h = (h.0, λ p m. grown_pending c history sent longer sent grows p (h.1 p m))
   grown_state a e (ReplicaIn v) h = h
   grown_state a e (ReaderIn v) h = (h.0, h.1, grown_known c history sent longer sent grows v.set h.2)
   grown_state a e (ReplacerIn v) h =
       subst (λ (d : ReplacerDurable). IsKnown c longer v.set × InWork c longer sent a d.own v v.mode)
-      (sym (durable_other replacer_rules me a r history e))
-      (grown_known c history sent longer sent grows v.set h.0, grown_work c history sent longer grows a (durable_of replacer_rules a history).own v v.mode h.1)
+      (sym (durable_other replacer_rules me a r history e)) (
+        grown_known c history sent longer sent grows v.set h.0,
+        grown_work c history sent longer grows a (durable_of replacer_rules a history).own v v.mode h.1,
+      )
 
   pub kept_facts :
       ((a : RoleId) (i : Round) (g : Shape) → HasKept (entry_by me r ∷ history) a (kept.Round i g) → a ≡ role kind.Leader i.id)
@@ -86,7 +97,8 @@ module _ (c : Cluster) (history : List KeptRecord) (sent : List Letter) (states 
     one_value = facts.one_value;
     logged = logged;
     says = λ d m. grown_says c history sent longer sent grows d.from d.msg (facts.says d m);
-    running = set_running (λ a s. InState c (entry_by me r ∷ history) sent a s) me Down states tt (λ a e. grown_state a e (states a) (facts.running a));
+    running = set_running (λ a s. InState c (entry_by me r ∷ history) sent a s) me Down states tt
+        (λ a e. grown_state a e (states a) (facts.running a));
   }
 
   -- of all roles, from the one that kept the record
@@ -96,8 +108,8 @@ module _ (c : Cluster) (history : List KeptRecord) (sent : List Letter) (states 
   new_last own =
       by_role (λ a. IsLastRound (entry_by me r ∷ history) a (durable_of leader_rules a (entry_by me r ∷ history)).own) me
       (subst (λ (d : LeaderDurable). IsLastRound (entry_by me r ∷ history) me d.own) (sym (durable_own leader_rules me r history)) own)
-      (λ a e. subst (λ (d : LeaderDurable). IsLastRound (entry_by me r ∷ history) a d.own) (sym (durable_other leader_rules me a r history e))
-      (same_last history (entry_by me r ∷ history) grows.more a (durable_of leader_rules a history).own
+      (λ a e. subst (λ (d : LeaderDurable). IsLastRound (entry_by me r ∷ history) a d.own) (sym (durable_other leader_rules me a r history
+      e)) (same_last history (entry_by me r ∷ history) grows.more a (durable_of leader_rules a history).own
       (λ i g x. kept_other me a r (kept.Round i g) history e x) (facts.last a)))
 
   pub new_logs : IsMatchmaker c (entry_by me r ∷ history) sent me (matchmaker_after (durable_of matchmaker_rules me history) r)
@@ -106,8 +118,8 @@ module _ (c : Cluster) (history : List KeptRecord) (sent : List Letter) (states 
       by_role (λ a. IsMatchmaker c (entry_by me r ∷ history) sent a (durable_of matchmaker_rules a (entry_by me r ∷ history))) me
       (subst (λ d. IsMatchmaker c (entry_by me r ∷ history) sent me d) (sym (durable_own matchmaker_rules me r history)) own)
       (λ a e. subst (λ d. IsMatchmaker c (entry_by me r ∷ history) sent a d) (sym (durable_other matchmaker_rules me a r history e))
-      (same_log c history sent longer sent grows a (durable_of matchmaker_rules a history)
-      (other_had me r history a e) (λ i g x. kept_other me a r (kept.Garbage i g) history e x) (λ s w es x. kept_other me a r (kept.Boot s w es) history e x)
+      (same_log c history sent longer sent grows a (durable_of matchmaker_rules a history) (other_had me r history a e)
+      (λ i g x. kept_other me a r (kept.Garbage i g) history e x) (λ s w es x. kept_other me a r (kept.Boot s w es) history e x)
       (other_ballots me r history a e) (λ b s x. kept_other me a r (kept.Next b s) history e x) (facts.logs a)))
 
   pub new_acceptors : IsAcceptor (entry_by me r ∷ history) me (acceptor_after (durable_of acceptor_rules me history) r)
@@ -159,16 +171,20 @@ module _ (c : Cluster) (history : List KeptRecord) (sent : List Letter) (states 
 
   -- of sets
 
-  pub old_sets : (IsMatchRecord r → ⊥) → (IsGarbageRecord r → ⊥) → (IsBootRecord r → ⊥) → (IsStopRecord r → ⊥) → (IsNextRecord r → ⊥) → SetFacts c (entry_by me r ∷ history)
+  pub old_sets : (IsMatchRecord r → ⊥) → (IsGarbageRecord r → ⊥) → (IsBootRecord r → ⊥) → (IsStopRecord r → ⊥) → (IsNextRecord r → ⊥)
+      → SetFacts c (entry_by me r ∷ history)
   old_sets matches garbages boots stops nexts =
       grown_sets c history sent longer sent grows facts.sets
       (λ m b t x. inl (old_nexts me r history nexts m b t x)) (λ m s w es x. inl (old_boots me r history boots m s w es x))
-      (λ m i g x. inl (old_matches me r history matches m i g x)) (λ m x. inl (old_used me r history matches garbages boots stops nexts m x))
+      (λ m i g x. inl (old_matches me r history matches m i g x))
+      (λ m x. inl (old_used me r history matches garbages boots stops nexts m x))
 
-  pub old_accepted : (IsNextRecord r → ⊥) → (m : RoleId) (b : Round) (t : List ℕ) → HasNext (entry_by me r ∷ history) m b t → IsAsked sent m b t
+  pub old_accepted : (IsNextRecord r → ⊥) → (m : RoleId) (b : Round) (t : List ℕ) → HasNext (entry_by me r ∷ history) m b t
+      → IsAsked sent m b t
   old_accepted d m b t x = facts.accepted m b t (old_nexts me r history d m b t x)
 
-  pub old_balloter : (IsBallotRecord r → ⊥) → (a : RoleId) (b : Round) → HasKept (entry_by me r ∷ history) a (kept.Ballot b) → a ≡ role kind.Replacer b.id
+  pub old_balloter : (IsBallotRecord r → ⊥) → (a : RoleId) (b : Round) → HasKept (entry_by me r ∷ history) a (kept.Ballot b)
+      → a ≡ role kind.Replacer b.id
   old_balloter d a b x = facts.balloter a b (old_begun me r history d a b x)
 
   pub new_last_ballot : IsLastBallot (entry_by me r ∷ history) me (replacer_after (durable_of replacer_rules me history) r)
@@ -176,10 +192,13 @@ module _ (c : Cluster) (history : List KeptRecord) (sent : List Letter) (states 
   new_last_ballot own =
       by_role (λ a. IsLastBallot (entry_by me r ∷ history) a (durable_of replacer_rules a (entry_by me r ∷ history))) me
       (subst (λ d. IsLastBallot (entry_by me r ∷ history) me d) (sym (durable_own replacer_rules me r history)) own)
-      (λ a e. subst (λ d. IsLastBallot (entry_by me r ∷ history) a d) (sym (durable_other replacer_rules me a r history e))
-      (λ b x. (facts.last_ballot a).0 b (kept_other me a r (kept.Ballot b) history e x), ⊎_elim inl (λ x. inr (inr x)) (facts.last_ballot a).1))
+      (λ a e. subst (λ d. IsLastBallot (entry_by me r ∷ history) a d) (sym (durable_other replacer_rules me a r history e)) (
+        λ b x. (facts.last_ballot a).0 b (kept_other me a r (kept.Ballot b) history e x),
+        ⊎_elim inl (λ x. inr (inr x)) (facts.last_ballot a).1,
+      ))
 
-  pub old_last_ballot : (IsBallotRecord r → ⊥) → replacer_after (durable_of replacer_rules me history) r ≡ durable_of replacer_rules me history
+  pub old_last_ballot : (IsBallotRecord r → ⊥)
+      → replacer_after (durable_of replacer_rules me history) r ≡ durable_of replacer_rules me history
       → (a : RoleId) → IsLastBallot (entry_by me r ∷ history) a (durable_of replacer_rules a (entry_by me r ∷ history))
   old_last_ballot d e =
       new_last_ballot (subst (λ x. IsLastBallot (entry_by me r ∷ history) me x) (sym e)
@@ -191,10 +210,11 @@ module _ (c : Cluster) (history : List KeptRecord) (sent : List Letter) (states 
   old_acceptors promises votes waters e =
       new_acceptors
       (subst (λ d. IsAcceptor (entry_by me r ∷ history) me d) (sym e)
-      (same_acceptor history (entry_by me r ∷ history) grows.more me (durable_of acceptor_rules me history)
-      (old_promises me r history promises votes waters me) (old_votes me r history votes me) (old_marks me r history votes waters me) (facts.acceptors me)))
+      (same_acceptor history (entry_by me r ∷ history) grows.more me (durable_of acceptor_rules me history) (old_promises me r history
+      promises votes waters me) (old_votes me r history votes me) (old_marks me r history votes waters me) (facts.acceptors me)))
 
-  pub old_voted : (IsVoteRecord r → ⊥) → (a : RoleId) (i : Round) (s : ℕ) (v : Value) → HasVoted (entry_by me r ∷ history) a i s v → IsProposed sent i s v
+  pub old_voted : (IsVoteRecord r → ⊥) → (a : RoleId) (i : Round) (s : ℕ) (v : Value) → HasVoted (entry_by me r ∷ history) a i s v
+      → IsProposed sent i s v
   old_voted d a i s v h = facts.voted a i s v (old_votes me r history d a i s v h)
 
   pub old_logged : values_in (written.Record r) ≡ []
@@ -225,7 +245,8 @@ module _ (c : Cluster) (history longer : List KeptRecord) (sent : List Letter) (
   back_ballot m b (inr h) = inr (h.0, same.back m (kept.Next b h.0) h.1)
 
   back_used : (m : RoleId) → IsUsed longer m → IsUsed history m
-  back_used m (inl h) = inl (h.0, (h.1.0, ⊎_elim (λ x. inl (back_had m h.0 h.1.0 x)) (λ x. inr (same.back m (kept.Garbage h.0 h.1.0) x)) h.1.1))
+  back_used m (inl h) =
+      inl (h.0, (h.1.0, ⊎_elim (λ x. inl (back_had m h.0 h.1.0 x)) (λ x. inr (same.back m (kept.Garbage h.0 h.1.0) x)) h.1.1))
   back_used m (inr h) = inr (h.0, back_ballot m h.0 h.1)
 
   pub grows_same : Grows history sent longer sent
@@ -247,21 +268,27 @@ module _ (c : Cluster) (history longer : List KeptRecord) (sent : List Letter) (
   same_state a Plain h = tt
   same_state a (BatcherIn v) h = h
   same_state a (LeaderIn v) h =
-      subst (λ (d : LeaderDurable). LeaderWasTold sent a (round_of d.own) v × InMode c longer sent d.own v v.mode × IsKnown c longer v.set) (sym (same.leaders a))
-      (h.0, grown_mode c history sent longer grows_same (durable_of leader_rules a history).own v v.mode h.1, grown_known c history sent longer sent grows_same v.set h.2)
+      subst (λ (d : LeaderDurable). LeaderWasTold sent a (round_of d.own) v × InMode c longer sent d.own v v.mode × IsKnown c longer v.set)
+      (sym (same.leaders a)) (
+        h.0,
+        grown_mode c history sent longer grows_same (durable_of leader_rules a history).own v v.mode h.1,
+        grown_known c history sent longer sent grows_same v.set h.2,
+      )
   same_state a (ProxyIn v) h = (h.0, λ p m. grown_pending c history sent longer sent grows_same p (h.1 p m))
   same_state a (ReplicaIn v) h = h
   same_state a (ReaderIn v) h = (h.0, h.1, grown_known c history sent longer sent grows_same v.set h.2)
   same_state a (ReplacerIn v) h =
-      subst (λ (d : ReplacerDurable). IsKnown c longer v.set × InWork c longer sent a d.own v v.mode) (sym (same.replacers a))
-      (grown_known c history sent longer sent grows_same v.set h.0, grown_work c history sent longer grows_same a (durable_of replacer_rules a history).own v v.mode h.1)
+      subst (λ (d : ReplacerDurable). IsKnown c longer v.set × InWork c longer sent a d.own v v.mode) (sym (same.replacers a)) (
+        grown_known c history sent longer sent grows_same v.set h.0,
+        grown_work c history sent longer grows_same a (durable_of replacer_rules a history).own v v.mode h.1,
+      )
 
   pub same_facts : (states : RoleId → State) → Facts c history sent states → Facts c longer sent states
   same_facts states facts = record {
     owner = λ a i g h. facts.owner a i g (same.back a (kept.Round i g) h);
     one_grid = λ i g h x y. facts.one_grid i g h (x.0, same.back x.0 (kept.Round i g) x.1) (y.0, same.back y.0 (kept.Round i h) y.1);
-    last = λ a. subst (λ (d : LeaderDurable). IsLastRound longer a d.own) (sym (same.leaders a))
-        (same_last history longer same.more a (durable_of leader_rules a history).own (λ i g x. same.back a (kept.Round i g) x) (facts.last a));
+    last = λ a. subst (λ (d : LeaderDurable). IsLastRound longer a d.own) (sym (same.leaders a)) (same_last history longer same.more a
+        (durable_of leader_rules a history).own (λ i g x. same.back a (kept.Round i g) x) (facts.last a));
     asked = λ m i g x. grown_config c history sent longer sent grows_same i g (facts.asked m i g (same.back m (kept.Match i g) x));
     garbaged = λ m i g x.
         let y = facts.garbaged m i g (same.back m (kept.Garbage i g) x) in
@@ -270,20 +297,22 @@ module _ (c : Cluster) (history longer : List KeptRecord) (sent : List Letter) (
         (same_log c history sent longer sent grows_same m (durable_of matchmaker_rules m history)
         (back_had m) (λ i g x. same.back m (kept.Garbage i g) x) (λ s w es x. same.back m (kept.Boot s w es) x)
         (back_ballot m) (λ b s x. same.back m (kept.Next b s) x) (facts.logs m));
-    acceptors = λ a. subst (λ d. IsAcceptor longer a d) (sym (same.acceptors a))
-        (same_acceptor history longer same.more a (durable_of acceptor_rules a history) (back_promise a) (back_vote a) (back_mark a) (facts.acceptors a));
+    acceptors = λ a. subst (λ d. IsAcceptor longer a d) (sym (same.acceptors a)) (same_acceptor history longer same.more a
+        (durable_of acceptor_rules a history) (back_promise a) (back_vote a) (back_mark a) (facts.acceptors a));
     sets = grown_sets c history sent longer sent grows_same facts.sets
         (λ m b t x. inl (same.back m (kept.Next b t) x)) (λ m s w es x. inl (same.back m (kept.Boot s w es) x))
         (λ m i g x. inl (same.back m (kept.Match i g) x)) (λ m x. inl (back_used m x));
     accepted = λ m b t x. facts.accepted m b t (same.back m (kept.Next b t) x);
     one_asked = facts.one_asked;
-    asks = λ from to b t m. let x = facts.asks from to b t m in (grown_next c history sent longer sent grows_same to b t x.0, same.more _ x.1);
+    asks =
+        λ from to b t m. let x = facts.asks from to b t m in (grown_next c history sent longer sent grows_same to b t x.0, same.more _ x.1);
     balloter = λ a b x. facts.balloter a b (same.back a (kept.Ballot b) x);
     last_ballot = λ a. subst (λ d. IsLastBallot longer a d) (sym (same.replacers a))
         (λ b x. (facts.last_ballot a).0 b (same.back a (kept.Ballot b) x), ⊎_elim inl (λ x. inr (same.more _ x)) (facts.last_ballot a).1);
     voted = λ a i s v h. facts.voted a i s v (back_vote a i s v h);
     one_value = facts.one_value;
-    logged = λ p s v x. grown_chosen_somewhere c history sent longer sent grows_same s v (facts.logged p s v (subst (λ l. slice_get l s ≡ Some v) (same.logs p) x));
+    logged = λ p s v x. grown_chosen_somewhere c history sent longer sent grows_same s v
+        (facts.logged p s v (subst (λ l. slice_get l s ≡ Some v) (same.logs p) x));
     says = λ d m. grown_says c history sent longer sent grows_same d.from d.msg (facts.says d m);
     running = λ a. same_state a (states a) (facts.running a);
   }

@@ -1,5 +1,5 @@
--- A set that works has stopped each earlier one. So an answer that is given later than some moment comes from no earlier set than those that worked
--- then: what a reader and a leader count after that moment tells what was so then.
+-- A set that works has stopped each earlier one. So an answer that is given later than some moment comes from no earlier set than those
+-- that worked then: what a reader and a leader count after that moment tells what was so then.
 use Rattle.std.proofs.Common.{◌≡◌, ◌≤◌, ◌<◌, ℕ, zero, suc, Bool, true, false, ◌⊎◌, List, sym, subst, refl, inl, inr, ⊎_elim, arith}
 use Rattle.std.proofs.lemmas.Bool.{cases_Bool, cases_lt}
 use Rattle.cx_base.specs.declared.cluster.Cluster.{Cluster}
@@ -17,7 +17,8 @@ use Rattle.cx_model.specs.Matchmaker.{entry}
 use Rattle.cx_model.specs.Member.{Member}
 use Rattle.cx_inv_run.proofs.Quorums.{most_meet, some_passes}
 use Rattle.cx_inv_run.proofs.Rounds.{before-to_at_least, at_most-trans}
-use Rattle.cx_inv_match.specs.Words.{how_many, HasGarbage, HasBoot, HasRound, HasTaken, HasStopped, IsNth, IsMatched, IsMember, IsJoin, SetFacts}
+use Rattle.cx_inv_match.specs.Words.{how_many, HasGarbage, HasBoot, HasRound, HasTaken, HasStopped, IsNth, IsMatched, IsMember, IsJoin}
+use Rattle.cx_inv_match.specs.Words.{SetFacts}
 use Rattle.cx_inv_match.proofs.Chains.{nth_length, nth_back, nth_once, nth_meet, began, boot_at, tells_boot, open_covers}
 use Rattle.cx_inv_match.proofs.Grow.{more_nth}
 
@@ -45,9 +46,8 @@ stopped_below c history sent facts (suc n) p h m i member k s l q =
         let e = a.1 in
         (a.2, subst (λ z. IsNth c history z a.2) (let x : a.0 ≡ n = omega arith in x) a.3, (b.1, b.2, a.5))
 
-    go : (k < n) ⊎ (n ≤ k)
-        → ((r : List ℕ) → IsNth c history n r → (y : ℕ) → Member y r → IsMember c history (role kind.Matchmaker y) → k < n → IsNth c history k s → IsHalted c history s)
-        → IsHalted c history s
+    go : (k < n) ⊎ (n ≤ k) → ((r : List ℕ) → IsNth c history n r → (y : ℕ) → Member y r → IsMember c history (role kind.Matchmaker y)
+        → k < n → IsNth c history k s → IsHalted c history s) → IsHalted c history s
     go (inl b) earlier =
         let r = before in
         let join = r.2.2 in
@@ -56,12 +56,13 @@ stopped_below c history sent facts (suc n) p h m i member k s l q =
     go (inr b) earlier =
         let r = before in
         let join = r.2.2 in
-        let same : r.0 ≡ s = nth_once c history sent facts n r.0 s r.1 (subst (λ z. IsNth c history z s) (let x : k ≡ n = omega arith in x) q) in
+        let same : r.0 ≡ s =
+        nth_once c history sent facts n r.0 s r.1 (subst (λ z. IsNth c history z s) (let x : k ≡ n = omega arith in x) q) in
         record { who = join.who; most = subst (λ z. c.f < how_many z join.who) same join.most; each = join.stopped }
 
 -- A later moment, and an earlier one of the same run.
-module _ (c : Cluster) (past history : List KeptRecord) (passed sent : List Letter) (more : (k : KeptRecord) → Member k past → Member k history)
-    (then : SetFacts c past) (facts : SetFacts c history) where
+module _ (c : Cluster) (past history : List KeptRecord) (passed sent : List Letter)
+    (more : (k : KeptRecord) → Member k past → Member k history) (then : SetFacts c past) (facts : SetFacts c history) where
   -- members of a known set that answered later had not stopped at the earlier moment; so no later set worked then
   no_later : (n : ℕ) (p : List ℕ) → IsNth c past n p → (m : ℕ) → Member m p → IsMember c past (role kind.Matchmaker m)
       → (k : ℕ) (s : List ℕ) → IsNth c history k s → k < n → (who : ℕ → Bool) → c.f < how_many s who
@@ -70,12 +71,13 @@ module _ (c : Cluster) (past history : List KeptRecord) (passed sent : List Lett
       let r = nth_back c past passed then n k p l h in
       let halted = stopped_below c past passed then n p h m i member k r.0 l r.1 in
       let same : r.0 ≡ s = nth_once c history sent facts k r.0 s (more_nth c past history more k r.0 r.1) q in
-      let x = most_meet c s halted.who who (nth_length c history sent facts k s q) (subst (λ z. c.f < how_many z halted.who) same halted.most) most in
+      let x = most_meet c s halted.who who (nth_length c history sent facts k s q)
+      (subst (λ z. c.f < how_many z halted.who) same halted.most) most in
       running x.0 x.3 (halted.each x.0 x.2)
 
   -- WHAT A READER COUNTS
-  -- An answer of a member that hadn't stopped when the read was asked for: all that it had then, from the answer's watermark on; it is one of the
-  -- first set, or tells all that it began with, and a watermark that isn't below that one.
+  -- An answer of a member that hadn't stopped when the read was asked for: all that it had then, from the answer's watermark on; it is one
+  -- of the first set, or tells all that it began with, and a watermark that isn't below that one.
   pub record Tells (m : ℕ) (w : Round) (es : List Entry) : Type 0 where
     pub running : HasStopped past (role kind.Matchmaker m) → ⊥
     pub all : (j : Round) (g : Shape) → is_before j w ≡ false → HasRound past (role kind.Matchmaker m) j g → Member (entry j g) es
@@ -96,7 +98,8 @@ module _ (c : Cluster) (past history : List KeptRecord) (passed sent : List Lett
     known_now : IsNth c history matched.known.0 matched.set
     known_now = more_nth c past history more matched.known.0 matched.set matched.known.1
 
-    unless_below : (m : ℕ) (t : who m ≡ true) → ((is_before j (tells m t).0 ≡ false) → (g : Shape) × Member (entry j g) (tells m t).1) → Told
+    unless_below : (m : ℕ) (t : who m ≡ true)
+        → ((is_before j (tells m t).0 ≡ false) → (g : Shape) × Member (entry j g) (tells m t).1) → Told
     unless_below m t h = ⊎_elim (λ l. (m, t, inl l)) (λ l. (m, t, inr (h l))) (cases_Bool (is_before j (tells m t).0))
 
     had : (m : RoleId) (g : Shape) → HasTaken past m j g → HasRound past m j g
@@ -118,23 +121,29 @@ module _ (c : Cluster) (past history : List KeptRecord) (passed sent : List Lett
         later (suc i) e l =
             let x = some_passes c s who most in
             let h = subst (λ z. IsNth c history z s) (sym e) nth in
-            ⊎_elim
-            (λ first. let r = nth_meet c history sent facts 0 (suc i) (first_set c) s refl h x.0 first x.1 in let q = r.0 in absurd (omega arith))
-            (λ b. covers x.0 x.2 b.0 b.1 b.2 b.4 b.5
-            (open_covers c history sent facts j (record { set = matched.set; known = (matched.known.0, known_now); who = matched.who; most = matched.most; each = λ m t. let r = matched.each m t in inl (r.0, grown_taken (role kind.Matchmaker m) r.0 r.1) })
-            (suc i) s l h x.0 x.1 b.0 b.1 b.2 b.3))
-            (tells x.0 x.2).2.began
+            ⊎_elim (λ first. let r = nth_meet c history sent facts 0 (suc i) (first_set c) s refl h x.0 first x.1 in let q = r.0 in
+            absurd (omega arith)) (λ b. covers x.0 x.2 b.0 b.1 b.2 b.4 b.5
+            (open_covers c history sent facts j (record {
+              set = matched.set;
+              known = (matched.known.0, known_now);
+              who = matched.who;
+              most = matched.most;
+              each = λ m t. let r = matched.each m t in inl (r.0, grown_taken (role kind.Matchmaker m) r.0 r.1);
+            }) (suc i) s l h x.0 x.1 b.0 b.1 b.2 b.3)) (tells x.0 x.2).2.began
 
         go : (matched.known.0 < k) ⊎ (k ≤ matched.known.0) → (k < matched.known.0) ⊎ (matched.known.0 ≤ k) → Told
         go (inl l) o = later k refl l
         go (inr l) (inl b) =
             let x = some_passes c matched.set matched.who matched.most in
             let r = matched.each x.0 x.2 in
-            absurd (no_later matched.known.0 matched.set matched.known.1 x.0 x.1 (then.members (role kind.Matchmaker x.0) (inl (j, (r.0, inl (had (role kind.Matchmaker x.0) r.0 r.1))))) k s nth b who most (λ m t. (tells m t).2.running))
+            absurd (no_later matched.known.0 matched.set matched.known.1 x.0 x.1 (then.members (role kind.Matchmaker x.0)
+            (inl (j, (r.0, inl (had (role kind.Matchmaker x.0) r.0 r.1))))) k s nth b who most (λ m t. (tells m t).2.running))
         go (inr l) (inr b) =
             let e : k ≡ matched.known.0 = omega arith in
-            let same : matched.set ≡ s = nth_once c history sent facts matched.known.0 matched.set s known_now (subst (λ z. IsNth c history z s) e nth) in
-            let x = most_meet c s matched.who who (nth_length c history sent facts k s nth) (subst (λ z. c.f < how_many z matched.who) same matched.most) most in
+            let same : matched.set ≡ s =
+            nth_once c history sent facts matched.known.0 matched.set s known_now (subst (λ z. IsNth c history z s) e nth) in
+            let x = most_meet c s matched.who who (nth_length c history sent facts k s nth)
+            (subst (λ z. c.f < how_many z matched.who) same matched.most) most in
             let r = matched.each x.0 x.2 in
             unless_below x.0 x.3 (λ l. (r.0, (tells x.0 x.3).2.all j r.0 l (had (role kind.Matchmaker x.0) r.0 r.1)))
 
@@ -145,7 +154,8 @@ module _ (c : Cluster) (past history : List KeptRecord) (passed sent : List Lett
       ((w : Round) × (g : Shape) × HasGarbage past (role kind.Matchmaker m) w g × (is_before w i ≡ false))
       ⊎ ((t : List ℕ) × (w : Round) × (es : List Entry) × HasBoot past (role kind.Matchmaker m) t w es × (is_before w i ≡ false))
 
-  -- an answer that is given later: its watermark isn't below any that the member had at the earlier moment, nor below the one with which it began
+  -- an answer that is given later: its watermark isn't below any that the member had at the earlier moment, nor below the one with which it
+  -- began
   pub record IsLaterAnswer (m : ℕ) (w : Round) : Type 0 where
     pub running : HasStopped past (role kind.Matchmaker m) → ⊥
     pub garbages : (v : Round) (g : Shape) → HasGarbage past (role kind.Matchmaker m) v g → is_before w v ≡ false
@@ -167,7 +177,8 @@ module _ (c : Cluster) (past history : List KeptRecord) (passed sent : List Lett
         at_common m t (inl y) = (m, t, at_most-trans i y.0 (later_answers m t).0 y.3 ((later_answers m t).1.garbages y.0 y.1 y.2))
         at_common m t (inr y) = (m, t, at_most-trans i y.1 (later_answers m t).0 y.4 ((later_answers m t).1.boots y.0 y.1 y.2 y.3))
 
-        joined : (w : Round) (es : List Entry) (join : IsJoin c history p w es) (m : ℕ) → join.who m ≡ true → Forgot m i → is_before w i ≡ false
+        joined : (w : Round) (es : List Entry) (join : IsJoin c history p w es) (m : ℕ) → join.who m ≡ true → Forgot m i
+            → is_before w i ≡ false
         joined w es join m t (inl y) = at_most-trans i y.0 w y.3 (join.garbages m t y.0 y.1 (more _ y.2))
         joined w es join m t (inr y) = at_most-trans i y.1 w y.4 (join.boots m t y.0 y.1 y.2 (more _ y.3))
 
@@ -178,8 +189,8 @@ module _ (c : Cluster) (past history : List KeptRecord) (passed sent : List Lett
             let x = most_meet c p joined_p.who forgot (nth_length c history sent facts n p now) joined_p.most enough in
             joined w es joined_p x.0 x.2 (have x.0 x.3)
 
-        on : (r : List ℕ) (w : Round) (es : List Entry) (join : IsJoin c history r w es) (m : ℕ) → join.who m ≡ true
-            → (t : List ℕ) (v : Round) (xs : List Entry) → HasBoot history (role kind.Matchmaker m) t v xs → is_before v i ≡ false → is_before w i ≡ false
+        on : (r : List ℕ) (w : Round) (es : List Entry) (join : IsJoin c history r w es) (m : ℕ) → join.who m ≡ true → (t : List ℕ)
+            (v : Round) (xs : List Entry) → HasBoot history (role kind.Matchmaker m) t v xs → is_before v i ≡ false → is_before w i ≡ false
         on r w es join m t u v xs x low = at_most-trans i v w low (join.boots m t u v xs x)
 
         later : (a : ℕ) → a ≡ k → n < a → (x : ℕ) × (t : who x ≡ true) × (is_before (later_answers x t).0 i ≡ false)
@@ -187,9 +198,10 @@ module _ (c : Cluster) (past history : List KeptRecord) (passed sent : List Lett
         later (suc a) e l =
             let x = some_passes c s who most in
             let h = subst (λ z. IsNth c history z s) (sym e) nth in
-            ⊎_elim
-            (λ first. let r = nth_meet c history sent facts 0 (suc a) (first_set c) s refl h x.0 first x.1 in let q = r.0 in absurd (omega arith))
-            (λ b. let low = tells_boot c history sent facts n (λ w es. is_before w i ≡ false) base on (suc a) s l h x.0 x.1 b.0 b.1 b.2 b.3 in
+            ⊎_elim (λ first.
+            let r = nth_meet c history sent facts 0 (suc a) (first_set c) s refl h x.0 first x.1 in let q = r.0 in absurd (omega arith))
+            (λ b.
+            let low = tells_boot c history sent facts n (λ w es. is_before w i ≡ false) base on (suc a) s l h x.0 x.1 b.0 b.1 b.2 b.3 in
             (x.0, x.2, at_most-trans i b.1 (later_answers x.0 x.2).0 low b.4))
             (later_answers x.0 x.2).1.began
 
@@ -205,5 +217,6 @@ module _ (c : Cluster) (past history : List KeptRecord) (passed sent : List Lett
         go (inr l) (inr b) =
             let e : k ≡ n = omega arith in
             let same : p ≡ s = nth_once c history sent facts n p s now (subst (λ z. IsNth c history z s) e nth) in
-            let x = most_meet c s forgot who (nth_length c history sent facts k s nth) (subst (λ z. c.f < how_many z forgot) same enough) most in
+            let x =
+            most_meet c s forgot who (nth_length c history sent facts k s nth) (subst (λ z. c.f < how_many z forgot) same enough) most in
             at_common x.0 x.3 (have x.0 x.2)

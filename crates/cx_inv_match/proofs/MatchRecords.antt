@@ -16,20 +16,24 @@ use Rattle.cx_model.specs.Promises.{IsConfig}
 use Rattle.cx_inv_run.specs.States.{State, Down, set_state, entry_by, durable_of}
 use Rattle.cx_inv_run.proofs.Histories.{kept_cases}
 use Rattle.cx_inv_run.proofs.Members.{Member-cases, Member-first, Member-second}
-use Rattle.cx_inv_run.proofs.Rounds.{before-trans, before-itself, itself-not_before, before-not, before-from_at_most, before-to_at_least, least}
-use Rattle.cx_inv_match.specs.Words.{HasMatch, HasGarbage, HasBoot, HasRound, HasLog, HasStopped, IsUsed, IsCollected, IsMember, IsWatermark, SetFacts}
+use Rattle.cx_inv_run.proofs.Rounds.{before-trans, before-itself, itself-not_before, before-not, before-from_at_most, before-to_at_least}
+use Rattle.cx_inv_run.proofs.Rounds.{least}
+use Rattle.cx_inv_match.specs.Words.{HasMatch, HasGarbage, HasBoot, HasRound, HasLog, HasStopped, IsUsed, IsCollected, IsMember}
+use Rattle.cx_inv_match.specs.Words.{IsWatermark, SetFacts}
 use Rattle.cx_inv_match.specs.Facts.{IsMatchmaker, Facts}
 use Rattle.cx_inv_match.proofs.Grow.{Grows, grown_config, grown_round, grown_ballot, grown_watermark, grown_collected}
 use Rattle.cx_inv_match.proofs.SetLaws.{grown_sets}
 use Rattle.cx_inv_match.proofs.Parts.{entries-member, entries-there, with-member, with-older, with-itself}
 use Rattle.cx_inv_match.proofs.Keep.{old_boots, old_nexts, old_ballots, old_had, more_own, old_matches, old_garbages}
-use Rattle.cx_inv_match.proofs.KeepFacts.{old_accepted, old_balloter, old_last_ballot, kept_facts, new_logs, old_owner, old_one_grid, old_last, old_asked, old_garbaged, old_acceptors, old_voted, old_logged}
+use Rattle.cx_inv_match.proofs.KeepFacts.{old_accepted, old_balloter, old_last_ballot, kept_facts, new_logs, old_owner, old_one_grid}
+use Rattle.cx_inv_match.proofs.KeepFacts.{old_last, old_asked, old_garbaged, old_acceptors, old_voted, old_logged}
 use Rattle.cx_inv_match.proofs.Records.{no, grows_with}
 
 -- A MATCHMAKER'S RECORDS
 
 module _ (c : Cluster) (history : List KeptRecord) (sent : List Letter) (states : RoleId → State) (facts : Facts c history sent states)
-    (me : RoleId) (i : Round) (g : Shape) (config : IsConfig history i g) (member : IsMember c history me) (running : HasStopped history me → ⊥) where
+    (me : RoleId) (i : Round) (g : Shape) (config : IsConfig history i g) (member : IsMember c history me)
+    (running : HasStopped history me → ⊥) where
   -- a match
 
   module _ (above : (j : Round) → HasLog history me j → is_before j i ≡ true)
@@ -43,10 +47,8 @@ module _ (c : Cluster) (history : List KeptRecord) (sent : List Letter) (states 
 
     match_below : (m : RoleId) (k j : Round) (h : Shape) → is_before j k ≡ true → HasLog history m k
         → HasMatch (entry_by me (kept.Match i g) ∷ history) m j h → HasMatch history m j h
-    match_below m k j h l y z = ⊎_elim
-        (λ q. absurd (before-itself i (before-trans i k i (subst (λ t. is_before t k ≡ true) q.1 l) (above k (subst (λ t. HasLog history t k) q.0 y)))))
-        (λ o. o)
-        (match_cases m j h z)
+    match_below m k j h l y z = ⊎_elim (λ q. absurd (before-itself i (before-trans i k i (subst (λ t. is_before t k ≡ true) q.1 l)
+        (above k (subst (λ t. HasLog history t k) q.0 y))))) (λ o. o) (match_cases m j h z)
 
     pub grows_match : Grows history sent (entry_by me (kept.Match i g) ∷ history) sent
     grows_match = grows_with history sent me (kept.Match i g) no no match_below
@@ -61,34 +63,38 @@ module _ (c : Cluster) (history : List KeptRecord) (sent : List Letter) (states 
         grown_config c history sent (entry_by me (kept.Match i g) ∷ history) sent grows_match j h
         (⊎_elim (λ q. rw (q.1, q.2) config) (λ o. facts.asked m j h o) (match_cases m j h x))
 
-    match_had : (j : Round) (h : Shape) → HasRound (entry_by me (kept.Match i g) ∷ history) me j h → ((j ≡ i) × (h ≡ g)) ⊎ HasRound history me j h
+    match_had : (j : Round) (h : Shape) → HasRound (entry_by me (kept.Match i g) ∷ history) me j h
+        → ((j ≡ i) × (h ≡ g)) ⊎ HasRound history me j h
     match_had j h (inl x) = ⊎_elim (λ q. inl (q.1, q.2)) (λ o. inr (inl o)) (match_cases me j h x)
     match_had j h (inr x) = inr (inr (x.0, x.1, x.2, old_boots me (kept.Match i g) history no me x.0 x.1 x.2 x.3, x.4))
 
-    match_own : IsMatchmaker c (entry_by me (kept.Match i g) ∷ history) sent me (matchmaker_after (durable_of matchmaker_rules me history) (kept.Match i g))
+    match_own : IsMatchmaker c (entry_by me (kept.Match i g) ∷ history) sent me
+        (matchmaker_after (durable_of matchmaker_rules me history) (kept.Match i g))
     match_own = record {
       all = λ j h l x. ⊎_elim
           (λ q. Member-second (entry j h) (durable_of matchmaker_rules me history).entries (entry i g ∷ []) (inl (rw (q.0, q.1) refl)))
           (λ o. Member-first (entry j h) (durable_of matchmaker_rules me history).entries (entry i g ∷ []) ((facts.logs me).all j h l o))
           (match_had j h x);
-      only = λ e m. ⊎_elim
-          (λ o. ⊎_elim (λ y. inl (grown_round c history sent (entry_by me (kept.Match i g) ∷ history) sent grows_match me e.round e.grid y)) (λ y. inr (inr y)) ((facts.logs me).only e o))
+      only = λ e m. ⊎_elim (λ o. ⊎_elim (λ y. inl (grown_round c history sent (entry_by me (kept.Match i g) ∷ history) sent grows_match me
+          e.round e.grid y)) (λ y. inr (inr y)) ((facts.logs me).only e o))
           (λ n. ⊎_elim (λ q. inl (inl (inl (ap (λ (y : Entry). entry_by me (kept.Match y.round y.grid)) q)))) (λ z. absurd z) n)
           (Member-cases e (durable_of matchmaker_rules me history).entries (entry i g ∷ []) m);
       from_watermark = λ e m. ⊎_elim
           (λ o. (facts.logs me).from_watermark e o)
-          (λ n. ⊎_elim
-          (λ q. subst (λ (y : Entry). is_before y.round (durable_of matchmaker_rules me history).watermark ≡ false) (sym q) at_watermark) (λ z. absurd z) n)
-          (Member-cases e (durable_of matchmaker_rules me history).entries (entry i g ∷ []) m);
+          (λ n. ⊎_elim (λ q. subst (λ (y : Entry). is_before y.round (durable_of matchmaker_rules me history).watermark ≡ false) (sym q)
+          at_watermark) (λ z. absurd z) n) (Member-cases e (durable_of matchmaker_rules me history).entries (entry i g ∷ []) m);
       bound = λ j h x. (facts.logs me).bound j h (old_garbages me (kept.Match i g) history no me j h x);
       boots = λ s w es x. (facts.logs me).boots s w es (old_boots me (kept.Match i g) history no me s w es x);
-      raised = more_entries (grown_watermark c history sent (entry_by me (kept.Match i g) ∷ history) sent grows_match _ (durable_of matchmaker_rules me history).entries (facts.logs me).raised);
+      raised = more_entries (grown_watermark c history sent (entry_by me (kept.Match i g) ∷ history) sent grows_match
+          _ (durable_of matchmaker_rules me history).entries (facts.logs me).raised);
       none = λ e j h x. (facts.logs me).none e j h (old_garbages me (kept.Match i g) history no me j h x);
-      own = more_own history (entry_by me (kept.Match i g) ∷ history) (λ k x. inr x) me (durable_of matchmaker_rules me history).watermark (facts.logs me).own;
+      own = more_own history (entry_by me (kept.Match i g) ∷ history) (λ k x. inr x) me (durable_of matchmaker_rules me history).watermark
+          (facts.logs me).own;
       began = λ s e. let x = (facts.logs me).began s e in (x.0, x.1, inr x.2);
       unbegun = λ e s w es x. (facts.logs me).unbegun e s w es (old_boots me (kept.Match i g) history no me s w es x);
       ballots = λ b x. (facts.logs me).ballots b (old_ballots me (kept.Match i g) history no no me b x);
-      ballot = ⊎_elim inl (λ x. inr (grown_ballot c history sent (entry_by me (kept.Match i g) ∷ history) sent grows_match me _ x)) (facts.logs me).ballot;
+      ballot = ⊎_elim inl (λ x. inr (grown_ballot c history sent (entry_by me (kept.Match i g) ∷ history) sent grows_match me _ x))
+          (facts.logs me).ballot;
       unstopped = λ e x. (facts.logs me).unstopped e (x.0, old_ballots me (kept.Match i g) history no no me x.0 x.1);
       nexts = λ b s x. (facts.logs me).nexts b s (old_nexts me (kept.Match i g) history no me b s x);
       accepted = ⊎_elim inl (λ x. inr (inr x)) (facts.logs me).accepted;
@@ -111,10 +117,12 @@ module _ (c : Cluster) (history : List KeptRecord) (sent : List Letter) (states 
         (match_cases m j h x))
         match_used
       where
-        match_used : (m : RoleId) → IsUsed (entry_by me (kept.Match i g) ∷ history) m → IsUsed history m ⊎ IsMember c (entry_by me (kept.Match i g) ∷ history) m
+        match_used : (m : RoleId) → IsUsed (entry_by me (kept.Match i g) ∷ history) m
+            → IsUsed history m ⊎ IsMember c (entry_by me (kept.Match i g) ∷ history) m
         match_used m (inr x) = inl (inr (x.0, old_ballots me (kept.Match i g) history no no m x.0 x.1))
         match_used m (inl (j, (h, inr x))) = inl (inl (j, (h, inr (old_garbages me (kept.Match i g) history no m j h x))))
-        match_used m (inl (j, (h, inl (inr x)))) = inl (inl (j, (h, inl (inr (x.0, x.1, x.2, old_boots me (kept.Match i g) history no m x.0 x.1 x.2 x.3, x.4)))))
+        match_used m (inl (j, (h, inl (inr x)))) =
+            inl (inl (j, (h, inl (inr (x.0, x.1, x.2, old_boots me (kept.Match i g) history no m x.0 x.1 x.2 x.3, x.4)))))
         match_used m (inl (j, (h, inl (inl x)))) = ⊎_elim
             (λ q. inr (subst (λ t. IsMember c (entry_by me (kept.Match i g) ∷ history) t) (sym q.0) (more_member member)))
             (λ o. inl (inl (j, (h, inl (inl o)))))
@@ -160,7 +168,8 @@ module _ (c : Cluster) (history : List KeptRecord) (sent : List Letter) (states 
         (λ m a b u l p x. old_nexts me (kept.Garbage i g) history no m a u x)
 
     garbage_garbaged : (m : RoleId) (j : Round) (h : Shape) → HasGarbage (entry_by me (kept.Garbage i g) ∷ history) m j h
-        → IsConfig (entry_by me (kept.Garbage i g) ∷ history) j h × IsCollected c (entry_by me (kept.Garbage i g) ∷ history) sent j × IsRetiring sent j
+        → IsConfig (entry_by me (kept.Garbage i g) ∷ history) j h × IsCollected c (entry_by me (kept.Garbage i g) ∷ history) sent j
+        × IsRetiring sent j
     garbage_garbaged m j h x =
         let y : IsConfig history j h × IsCollected c history sent j × IsRetiring sent j =
         ⊎_elim (λ q. rw (q.1, q.2) (config, collected, retiring)) (λ o. facts.garbaged m j h o) (garbage_cases m j h x) in (
@@ -169,16 +178,17 @@ module _ (c : Cluster) (history : List KeptRecord) (sent : List Letter) (states 
           y.2,
         )
 
-    garbage_own : IsMatchmaker c (entry_by me (kept.Garbage i g) ∷ history) sent me (matchmaker_after (durable_of matchmaker_rules me history) (kept.Garbage i g))
+    garbage_own : IsMatchmaker c (entry_by me (kept.Garbage i g) ∷ history) sent me
+        (matchmaker_after (durable_of matchmaker_rules me history) (kept.Garbage i g))
     garbage_own = record {
       all = λ j h l x.
           let above = before-to_at_least (durable_of matchmaker_rules me history).watermark i j raises l in
           with-older i g (entries_since i (durable_of matchmaker_rules me history).entries) (entry j h)
-          (entries-there i (durable_of matchmaker_rules me history).entries (entry j h) l
-          ((facts.logs me).all j h (before-not (durable_of matchmaker_rules me history).watermark j above) (old_had me (kept.Garbage i g) history no no me j h x)));
+          (entries-there i (durable_of matchmaker_rules me history).entries (entry j h) l ((facts.logs me).all j h
+          (before-not (durable_of matchmaker_rules me history).watermark j above) (old_had me (kept.Garbage i g) history no no me j h x)));
       only = λ e m. ⊎_elim
-          (λ q. inr (inl (ap (λ (y : Entry). entry_by me (kept.Garbage y.round y.grid)) q)))
-          (λ o. ⊎_elim (λ y. inl (grown_round c history sent (entry_by me (kept.Garbage i g) ∷ history) sent grows_garbage me e.round e.grid y)) (λ y. inr (inr y))
+          (λ q. inr (inl (ap (λ (y : Entry). entry_by me (kept.Garbage y.round y.grid)) q))) (λ o. ⊎_elim (λ y. inl (grown_round c history
+          sent (entry_by me (kept.Garbage i g) ∷ history) sent grows_garbage me e.round e.grid y)) (λ y. inr (inr y))
           ((facts.logs me).only e (entries-member i (durable_of matchmaker_rules me history).entries e o).0))
           (with-member i g (entries_since i (durable_of matchmaker_rules me history).entries) e m);
       from_watermark = λ e m. ⊎_elim
@@ -186,8 +196,8 @@ module _ (c : Cluster) (history : List KeptRecord) (sent : List Letter) (states 
           (λ o. (entries-member i (durable_of matchmaker_rules me history).entries e o).1)
           (with-member i g (entries_since i (durable_of matchmaker_rules me history).entries) e m);
       bound = λ j h x. ⊎_elim
-          (λ q. subst (λ y. is_before i y ≡ false) (sym q.1) (itself-not_before i))
-          (λ o. before-not j i (before-from_at_most j (durable_of matchmaker_rules me history).watermark i ((facts.logs me).bound j h o) raises))
+          (λ q. subst (λ y. is_before i y ≡ false) (sym q.1) (itself-not_before i)) (λ o.
+          before-not j i (before-from_at_most j (durable_of matchmaker_rules me history).watermark i ((facts.logs me).bound j h o) raises))
           (garbage_cases me j h x);
       boots = λ s w es x.
           before-not w i (before-from_at_most w (durable_of matchmaker_rules me history).watermark i
@@ -196,12 +206,14 @@ module _ (c : Cluster) (history : List KeptRecord) (sent : List Letter) (states 
         (me, g, inl refl),
         with-itself i g (entries_since i (durable_of matchmaker_rules me history).entries),
       );
-      none = λ e j h x. absurd (true≢false (sym raises ∙ subst (λ y. is_before (durable_of matchmaker_rules me history).watermark y ≡ false) (sym e) (least (durable_of matchmaker_rules me history).watermark)));
+      none = λ e j h x. absurd (true≢false (sym raises ∙ subst (λ y. is_before (durable_of matchmaker_rules me history).watermark y ≡ false)
+          (sym e) (least (durable_of matchmaker_rules me history).watermark)));
       own = inr (inl (g, inl refl));
       began = λ s e. let x = (facts.logs me).began s e in (x.0, x.1, inr x.2);
       unbegun = λ e s w es x. (facts.logs me).unbegun e s w es (old_boots me (kept.Garbage i g) history no me s w es x);
       ballots = λ b x. (facts.logs me).ballots b (old_ballots me (kept.Garbage i g) history no no me b x);
-      ballot = ⊎_elim inl (λ x. inr (grown_ballot c history sent (entry_by me (kept.Garbage i g) ∷ history) sent grows_garbage me _ x)) (facts.logs me).ballot;
+      ballot = ⊎_elim inl (λ x. inr (grown_ballot c history sent (entry_by me (kept.Garbage i g) ∷ history) sent grows_garbage me _ x))
+          (facts.logs me).ballot;
       unstopped = λ e x. (facts.logs me).unstopped e (x.0, old_ballots me (kept.Garbage i g) history no no me x.0 x.1);
       nexts = λ b s x. (facts.logs me).nexts b s (old_nexts me (kept.Garbage i g) history no me b s x);
       accepted = ⊎_elim inl (λ x. inr (inr x)) (facts.logs me).accepted;
@@ -214,7 +226,8 @@ module _ (c : Cluster) (history : List KeptRecord) (sent : List Letter) (states 
         (λ m j h x. inl (old_matches me (kept.Garbage i g) history no m j h x))
         garbage_used
       where
-        garbage_used : (m : RoleId) → IsUsed (entry_by me (kept.Garbage i g) ∷ history) m → IsUsed history m ⊎ IsMember c (entry_by me (kept.Garbage i g) ∷ history) m
+        garbage_used : (m : RoleId) → IsUsed (entry_by me (kept.Garbage i g) ∷ history) m
+            → IsUsed history m ⊎ IsMember c (entry_by me (kept.Garbage i g) ∷ history) m
         garbage_used m (inr x) = inl (inr (x.0, old_ballots me (kept.Garbage i g) history no no m x.0 x.1))
         garbage_used m (inl (j, (h, inl x))) = inl (inl (j, (h, inl (old_had me (kept.Garbage i g) history no no m j h x))))
         garbage_used m (inl (j, (h, inr x))) = ⊎_elim

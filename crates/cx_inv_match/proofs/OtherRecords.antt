@@ -1,5 +1,6 @@
 -- The facts hold once a replica's values, a reader's turn or a leader's round is kept.
-use Rattle.std.proofs.Common.{◌≡◌, ℕ, ◌+◌, true, false, ◌⊎◌, List, [], ◌∷◌, ◌++◌, length, Some, inl, inr, ap, sym, subst, ◌∙◌, ⊎_elim, refl, arith, zero, suc}
+use Rattle.std.proofs.Common.{◌≡◌, ℕ, ◌+◌, true, false, ◌⊎◌, List, [], ◌∷◌, ◌++◌, length, Some, inl, inr, ap, sym, subst, ◌∙◌, ⊎_elim, refl}
+use Rattle.std.proofs.Common.{arith, zero, suc}
 use Rattle.std.specs.Prelude.{slice_get}
 use Rattle.std.proofs.lemmas.Option.{same_Some}
 use Rattle.cx_base.specs.declared.cluster.Cluster.{Cluster}
@@ -23,7 +24,8 @@ use Rattle.cx_inv_match.specs.Words.{IsChosen, AreChosen}
 use Rattle.cx_inv_match.specs.Facts.{IsLastRound, Facts}
 use Rattle.cx_inv_match.proofs.Grow.{Grows, grown_chosen_somewhere}
 use Rattle.cx_inv_match.proofs.Parts.{get-cases}
-use Rattle.cx_inv_match.proofs.KeepFacts.{old_sets, old_accepted, old_balloter, old_last_ballot, kept_facts, new_last, old_owner, old_one_grid, old_last, old_asked, old_garbaged, old_logs, old_acceptors, old_voted, old_logged}
+use Rattle.cx_inv_match.proofs.KeepFacts.{old_sets, old_accepted, old_balloter, old_last_ballot, kept_facts, new_last, old_owner}
+use Rattle.cx_inv_match.proofs.KeepFacts.{old_one_grid, old_last, old_asked, old_garbaged, old_logs, old_acceptors, old_voted, old_logged}
 use Rattle.cx_inv_match.proofs.Records.{no, grows_else}
 
 -- a replica's values
@@ -61,7 +63,8 @@ module _ (c : Cluster) (history : List KeptRecord) (sent : List Letter) (states 
       go : (same_role (role kind.Replica q) me ≡ true) ⊎ (same_role (role kind.Replica q) me ≡ false) → IsChosen longer s u
       go (inl t) =
           let one : q ≡ p = ap (λ (a : RoleId). a.index) (same_role-true (role kind.Replica q) me t) in
-          own_value s u (subst (λ l. slice_get l s ≡ Some u) (log_own p (kept.Log new) history) (subst (λ (k : ℕ). slice_get (log_in longer k) s ≡ Some u) one x))
+          own_value s u (subst (λ l. slice_get l s ≡ Some u) (log_own p (kept.Log new) history)
+          (subst (λ (k : ℕ). slice_get (log_in longer k) s ≡ Some u) one x))
       go (inr f) =
           grown_chosen_somewhere c history sent longer sent grows_log s u
           (facts.logged q s u (subst (λ l. slice_get l s ≡ Some u) (log_other me q (kept.Log new) history f) x))
@@ -120,7 +123,8 @@ module _ (c : Cluster) (history : List KeptRecord) (sent : List Letter) (states 
   pub grows_round : Grows history sent (entry_by me (kept.Round i g) ∷ history) sent
   grows_round = grows_else history sent me (kept.Round i g) no no no no no no
 
-  round_owner : (a : RoleId) (j : Round) (h : Shape) → HasKept (entry_by me (kept.Round i g) ∷ history) a (kept.Round j h) → a ≡ role kind.Leader j.id
+  round_owner : (a : RoleId) (j : Round) (h : Shape) → HasKept (entry_by me (kept.Round i g) ∷ history) a (kept.Round j h)
+      → a ≡ role kind.Leader j.id
   round_owner a j h m = ⊎_elim (λ q. rw (q.0, q.1) owned) (λ o. facts.owner a j h o) (round_cases a j h m)
 
   -- nobody kept the round before
@@ -129,7 +133,8 @@ module _ (c : Cluster) (history : List KeptRecord) (sent : List Letter) (states 
       let p : a ≡ me = facts.owner a i h m ∙ sym owned in
       before-itself i (above i h (subst (λ x. HasKept history x (kept.Round i h)) p m))
 
-  round_one_grid : (j : Round) (h k : Shape) → IsConfig (entry_by me (kept.Round i g) ∷ history) j h → IsConfig (entry_by me (kept.Round i g) ∷ history) j k → h ≡ k
+  round_one_grid : (j : Round) (h k : Shape) → IsConfig (entry_by me (kept.Round i g) ∷ history) j h
+      → IsConfig (entry_by me (kept.Round i g) ∷ history) j k → h ≡ k
   round_one_grid j h k x y = ⊎_elim
       (λ p. ⊎_elim
       (λ q. p.2 ∙ sym q.2)
@@ -141,7 +146,8 @@ module _ (c : Cluster) (history : List KeptRecord) (sent : List Letter) (states 
       (round_cases y.0 j k y.1))
       (round_cases x.0 j h x.1)
 
-  round_own : IsLastRound (entry_by me (kept.Round i g) ∷ history) me (leader_after (durable_of leader_rules me history) (kept.Round i g)).own
+  round_own : IsLastRound (entry_by me (kept.Round i g) ∷ history) me
+      (leader_after (durable_of leader_rules me history) (kept.Round i g)).own
   round_own = (
     inl refl,
     λ j h m. ⊎_elim

@@ -11,19 +11,22 @@ use Rattle.cx_letter.specs.declared.kept.Record.{Record}
 use Rattle.cx_inv_run.specs.States.{entry_by}
 use Rattle.cx_inv_match.specs.Words.{HasMatch, HasGarbage, HasBoot, HasLog, HasNext, HasBallot, HasStopped, IsUsed}
 use Rattle.cx_inv_match.proofs.Grow.{Grows}
-use Rattle.cx_inv_match.proofs.Keep.{IsVoteRecord, IsWaterRecord, IsMatchRecord, IsGarbageRecord, IsBootRecord, IsNextRecord, old_boots, old_nexts, old_matches, old_garbages, old_votes, old_marks}
+use Rattle.cx_inv_match.proofs.Keep.{IsVoteRecord, IsWaterRecord, IsMatchRecord, IsGarbageRecord, IsBootRecord, IsNextRecord, old_boots}
+use Rattle.cx_inv_match.proofs.Keep.{old_nexts, old_matches, old_garbages, old_votes, old_marks}
 
 abbrev pub no : ⊥ → ⊥
 no x = x
 
 -- of records that are no acceptor's: what they add is no vote and no watermark
 pub grows_with : (history : List KeptRecord) (sent : List Letter) (me : RoleId) (r : Record) → (IsVoteRecord r → ⊥) → (IsWaterRecord r → ⊥)
-    → ((m : RoleId) (i j : Round) (h : Shape) → is_before j i ≡ true → HasLog history m i → HasMatch (entry_by me r ∷ history) m j h → HasMatch history m j h)
-    → ((m : RoleId) (s : List ℕ) (w : Round) (es : List Entry) → IsUsed history m → HasBoot (entry_by me r ∷ history) m s w es → HasBoot history m s w es)
+    → ((m : RoleId) (i j : Round) (h : Shape) → is_before j i ≡ true → HasLog history m i → HasMatch (entry_by me r ∷ history) m j h
+    → HasMatch history m j h)
+    → ((m : RoleId) (s : List ℕ) (w : Round) (es : List Entry) → IsUsed history m → HasBoot (entry_by me r ∷ history) m s w es
+    → HasBoot history m s w es)
     → ((m : RoleId) (i : Round) (g : Shape) → HasStopped history m → HasMatch (entry_by me r ∷ history) m i g → HasMatch history m i g)
     → ((m : RoleId) (i : Round) (g : Shape) → HasStopped history m → HasGarbage (entry_by me r ∷ history) m i g → HasGarbage history m i g)
-    → ((m : RoleId) (a b : Round) (u : List ℕ) → is_before a b ≡ true → HasBallot history m b → HasNext (entry_by me r ∷ history) m a u → HasNext history m a u)
-    → Grows history sent (entry_by me r ∷ history) sent
+    → ((m : RoleId) (a b : Round) (u : List ℕ) → is_before a b ≡ true → HasBallot history m b → HasNext (entry_by me r ∷ history) m a u
+    → HasNext history m a u) → Grows history sent (entry_by me r ∷ history) sent
 grows_with history sent me r vote water no_match no_boot halted_match halted_garbage no_next = record {
   more = λ k m. inr m;
   wide = λ d m. m;
@@ -39,7 +42,8 @@ grows_with history sent me r vote water no_match no_boot halted_match halted_gar
 
 -- of records that are no matchmaker's either
 pub grows_else : (history : List KeptRecord) (sent : List Letter) (me : RoleId) (r : Record) → (IsVoteRecord r → ⊥) → (IsWaterRecord r → ⊥)
-    → (IsMatchRecord r → ⊥) → (IsGarbageRecord r → ⊥) → (IsBootRecord r → ⊥) → (IsNextRecord r → ⊥) → Grows history sent (entry_by me r ∷ history) sent
+    → (IsMatchRecord r → ⊥) → (IsGarbageRecord r → ⊥) → (IsBootRecord r → ⊥) → (IsNextRecord r → ⊥)
+    → Grows history sent (entry_by me r ∷ history) sent
 grows_else history sent me r vote water matches garbages boots nexts =
     grows_with history sent me r vote water
     (λ m k j h l x y. old_matches me r history matches m j h y) (λ m s w es u x. old_boots me r history boots m s w es x)

@@ -1,5 +1,6 @@
 -- What the tests and searches of a leader's rows find.
-use Rattle.std.proofs.Common.{◌≡◌, ℕ, zero, suc, ◌+◌, ◌<◌, ◌≤◌, true, false, cond, not, map, ◌⊎◌, List, [], ◌∷◌, ◌++◌, length, Option, Some, None, inl, inr, ap, sym, subst, ◌∙◌, refl, arith, ◌==◌}
+use Rattle.std.proofs.Common.{◌≡◌, ℕ, zero, suc, ◌+◌, ◌<◌, ◌≤◌, true, false, cond, not, map, ◌⊎◌, List, [], ◌∷◌, ◌++◌, length, Option, Some}
+use Rattle.std.proofs.Common.{None, inl, inr, ap, sym, subst, ◌∙◌, refl, arith, ◌==◌}
 use Rattle.std.specs.Prelude.{nat_lt}
 use Rattle.std.proofs.lemmas.Bool.{true≢false, cond_both}
 use Rattle.cx_base.specs.declared.cluster.Cluster.{Cluster}
@@ -21,7 +22,8 @@ use Rattle.cx_model.specs.Member.{Member}
 use Rattle.cx_model.specs.Plan.{promised_by, votes_told, greatest_cw, end_told, greater_vote, best_vote, placed_from}
 use Rattle.cx_inv_match.specs.Facts.{AreOnce, answering_matchmakers}
 use Rattle.cx_inv_match.specs.Words.{how_many}
-use Rattle.cx_inv_run.proofs.Members.{Member-cases, Member-first, Member-second, Member-map, Member-filter, filter-Member, any-Member, Member-any, none-Member, all-Member, Member-is_in}
+use Rattle.cx_inv_run.proofs.Members.{Member-cases, Member-first, Member-second, Member-map, Member-filter, filter-Member, any-Member}
+use Rattle.cx_inv_run.proofs.Members.{Member-any, none-Member, all-Member, Member-is_in}
 use Rattle.cx_inv_run.proofs.Quorums.{row-Member, column-Member, once_count}
 use Rattle.cx_inv_run.proofs.Rounds.{before-not, itself-not_before, at_most-trans, same_round-true, same_round-itself}
 
@@ -33,23 +35,27 @@ differ_number i j f e = true≢false (sym (subst (λ k. (i == k) ≡ true) e (nu
 -- who is counted has reported
 pub told_by-counted : (m : ℕ) (told : List MatchAnswer) → Member m (answering_matchmakers told) → is_counted m told ≡ true
 told_by-counted m [] k = absurd k
-told_by-counted m (a ∷ told) (inl e) = Member-any (λ (x : MatchAnswer). x.matchmaker == m) a (a ∷ told) (inl refl) (subst (λ n. (n == m) ≡ true) e (number_itself m))
+told_by-counted m (a ∷ told) (inl e) =
+    Member-any (λ (x : MatchAnswer). x.matchmaker == m) a (a ∷ told) (inl refl) (subst (λ n. (n == m) ≡ true) e (number_itself m))
 told_by-counted m (a ∷ told) (inr k) = let r = any-Member (λ (x : MatchAnswer). x.matchmaker == m) told (told_by-counted m told k) in
     Member-any (λ (x : MatchAnswer). x.matchmaker == m) r.0 (a ∷ told) (inr r.1) r.2
 
-pub told_member : (m : ℕ) (told : List MatchAnswer) → Member m (answering_matchmakers told) → (a : MatchAnswer) × Member a told × (m ≡ a.matchmaker)
+pub told_member : (m : ℕ) (told : List MatchAnswer) → Member m (answering_matchmakers told)
+    → (a : MatchAnswer) × Member a told × (m ≡ a.matchmaker)
 told_member m [] k = absurd k
 told_member m (a ∷ told) (inl e) = (a, inl refl, e)
 told_member m (a ∷ told) (inr k) = let r = told_member m told k in (r.0, inr r.1, r.2)
 
-pub told_more : (told : List MatchAnswer) (a : MatchAnswer) (m : ℕ) → Member m (answering_matchmakers (told ++ a ∷ [])) → Member m (answering_matchmakers told) ⊎ (m ≡ a.matchmaker)
+pub told_more : (told : List MatchAnswer) (a : MatchAnswer) (m : ℕ) → Member m (answering_matchmakers (told ++ a ∷ []))
+    → Member m (answering_matchmakers told) ⊎ (m ≡ a.matchmaker)
 told_more [] a m (inl e) = inr e
 told_more [] a m (inr k) = absurd k
 told_more (x ∷ told) a m (inl e) = inl (inl e)
 told_more (x ∷ told) a m (inr k) = elim (told_more told a m k) [ inl p ↦ inl (inr p) | inr q ↦ inr q ]
 
 -- one more that wasn't counted
-pub once_more : (told : List MatchAnswer) (a : MatchAnswer) → (Member a.matchmaker (answering_matchmakers told) → ⊥) → AreOnce (answering_matchmakers told) → AreOnce (answering_matchmakers (told ++ a ∷ []))
+pub once_more : (told : List MatchAnswer) (a : MatchAnswer) → (Member a.matchmaker (answering_matchmakers told) → ⊥)
+    → AreOnce (answering_matchmakers told) → AreOnce (answering_matchmakers (told ++ a ∷ []))
 once_more [] a new once = (λ m. m, tt)
 once_more (x ∷ told) a new once = (
   λ m. elim (told_more told a x.matchmaker m) [ inl p ↦ once.0 p | inr q ↦ new (inl (sym q)) ],
@@ -61,10 +67,12 @@ told_length [] = refl
 told_length (a ∷ told) = let e = told_length told in omega arith
 
 -- as many members of a set have answered as answers were counted
-pub told_count : (c : Cluster) (set : List ℕ) (told : List MatchAnswer) → AreOnce (answering_matchmakers told) → ((m : ℕ) → Member m (answering_matchmakers told) → Member m set)
+pub told_count : (c : Cluster) (set : List ℕ) (told : List MatchAnswer) → AreOnce (answering_matchmakers told)
+    → ((m : ℕ) → Member m (answering_matchmakers told) → Member m set)
     → c.f < length told → c.f < how_many set (λ m. is_in m (answering_matchmakers told))
 told_count c set told once known enough =
-    let l = once_count AreOnce (λ m ms o. o) (λ m. is_in m (answering_matchmakers told)) (answering_matchmakers told) set once known (λ m k. Member-is_in m (answering_matchmakers told) k) in
+    let l = once_count AreOnce (λ m ms o. o) (λ m. is_in m (answering_matchmakers told)) (answering_matchmakers told) set once known
+    (λ m k. Member-is_in m (answering_matchmakers told) k) in
     let e = told_length told in
     omega arith
 
@@ -80,7 +88,8 @@ there i es t =
     let r = any-Member (λ (x : Entry). same_round x.round i) es t in
     (r.0.grid, subst (λ y. Member (entry y r.0.grid) es) (same_round-true r.0.round i r.2) r.1)
 
-pub entries_by : (told : List MatchAnswer) (e : Entry) → Member e (entries_told told) → (a : MatchAnswer) × Member a told × Member e a.entries
+pub entries_by : (told : List MatchAnswer) (e : Entry) → Member e (entries_told told)
+    → (a : MatchAnswer) × Member a told × Member e a.entries
 entries_by [] e m = absurd m
 entries_by (a ∷ told) e m = elim (Member-cases e a.entries (entries_told told) m) [
   | inl k ↦ (a, inl refl, k)
@@ -92,20 +101,23 @@ all_told [] a e m k = absurd m
 all_told (x ∷ told) a e (inl p) k = Member-first e x.entries (entries_told told) (subst (λ (y : MatchAnswer). Member e y.entries) p k)
 all_told (x ∷ told) a e (inr m) k = Member-second e x.entries (entries_told told) (all_told told a e m k)
 
-pub live_from : (told : List MatchAnswer) (e : Entry) → Member e (live_entries told) → (a : MatchAnswer) × Member a told × Member e a.entries
-live_from told e m = entries_by told e (Member-filter (λ (x : Entry). not (is_before x.round (greatest_watermark told))) e (entries_told told) m).0
+pub live_from : (told : List MatchAnswer) (e : Entry) → Member e (live_entries told)
+    → (a : MatchAnswer) × Member a told × Member e a.entries
+live_from told e m =
+    entries_by told e (Member-filter (λ (x : Entry). not (is_before x.round (greatest_watermark told))) e (entries_told told) m).0
 
-pub live_has : (told : List MatchAnswer) (a : MatchAnswer) (e : Entry) → is_before e.round (greatest_watermark told) ≡ false → Member a told → Member e a.entries
-    → Member e (live_entries told)
-live_has told a e l m k =
-    filter-Member (λ (x : Entry). not (is_before x.round (greatest_watermark told))) e (entries_told told) (all_told told a e m k) (ap not l)
+pub live_has : (told : List MatchAnswer) (a : MatchAnswer) (e : Entry) → is_before e.round (greatest_watermark told) ≡ false → Member a told
+    → Member e a.entries → Member e (live_entries told)
+live_has told a e l m k = filter-Member (λ (x : Entry). not (is_before x.round (greatest_watermark told))) e (entries_told told)
+    (all_told told a e m k) (ap not l)
 
 -- no counted watermark is above the greatest
 pub top_above : (told : List MatchAnswer) (a : MatchAnswer) → Member a told → is_before (greatest_watermark told) a.watermark ≡ false
 top_above [] a m = absurd m
 top_above (x ∷ told) a (inl p) =
     cond_both (is_before x.watermark (greatest_watermark told)) (greatest_watermark told) x.watermark (λ w. is_before w a.watermark ≡ false)
-    (λ e. subst (λ (y : MatchAnswer). is_before (greatest_watermark told) y.watermark ≡ false) (sym p) (before-not x.watermark (greatest_watermark told) e))
+    (λ e. subst (λ (y : MatchAnswer). is_before (greatest_watermark told) y.watermark ≡ false) (sym p)
+    (before-not x.watermark (greatest_watermark told) e))
     (λ e. subst (λ (y : MatchAnswer). is_before x.watermark y.watermark ≡ false) (sym p) (itself-not_before x.watermark))
 top_above (x ∷ told) a (inr m) =
     cond_both (is_before x.watermark (greatest_watermark told)) (greatest_watermark told) x.watermark (λ w. is_before w a.watermark ≡ false)
@@ -113,7 +125,8 @@ top_above (x ∷ told) a (inr m) =
     (λ e. at_most-trans a.watermark (greatest_watermark told) x.watermark (top_above told a m) e)
 
 -- the greatest is none, or was counted
-pub top_told : (told : List MatchAnswer) → (greatest_watermark told ≡ no_round) ⊎ ((a : MatchAnswer) × Member a told × (greatest_watermark told ≡ a.watermark))
+pub top_told : (told : List MatchAnswer)
+    → (greatest_watermark told ≡ no_round) ⊎ ((a : MatchAnswer) × Member a told × (greatest_watermark told ≡ a.watermark))
 top_told [] = inl refl
 top_told (x ∷ told) =
     cond_both (is_before x.watermark (greatest_watermark told)) (greatest_watermark told) x.watermark
@@ -123,7 +136,8 @@ top_told (x ∷ told) =
 
 -- the acceptors that promised
 
-pub promised_member : (id : ℕ) (promises : List Promised) → Member id (promised_by promises) → (p : Promised) × Member p promises × (id ≡ p.acceptor)
+pub promised_member : (id : ℕ) (promises : List Promised) → Member id (promised_by promises)
+    → (p : Promised) × Member p promises × (id ≡ p.acceptor)
 promised_member id promises m = Member-map (λ (p : Promised). p.acceptor) id promises m
 
 pub cw_above : (low : ℕ) (promises : List Promised) (p : Promised) → Member p promises → p.cw ≤ greatest_cw low promises
@@ -131,7 +145,8 @@ cw_above low [] p m = absurd m
 cw_above low (x ∷ promises) p (inl q) = let r : p.cw ≡ x.cw = ap (λ (y : Promised). y.cw) q in omega arith
 cw_above low (x ∷ promises) p (inr m) = let r = cw_above low promises p m in omega arith
 
-pub votes_from : (promises : List Promised) (u : Vote) → Member u (votes_told promises) → (p : Promised) × Member p promises × Member u p.votes
+pub votes_from : (promises : List Promised) (u : Vote) → Member u (votes_told promises)
+    → (p : Promised) × Member p promises × Member u p.votes
 votes_from [] u m = absurd m
 votes_from (p ∷ promises) u m = elim (Member-cases u p.votes (votes_told promises) m) [
   | inl k ↦ (p, inl refl, k)
@@ -153,7 +168,8 @@ abbrev pub Greatest : ℕ → List Vote → Option Vote → Type 0
 Greatest s votes None = (v : Vote) → Member v votes → v.slot ≡ s → ⊥
 Greatest s votes (Some u) = IsGreatest s votes u
 
-greatest_more : (s : ℕ) (v : Vote) (votes : List Vote) (o : Option Vote) → v.slot ≡ s → Greatest s votes o → IsGreatest s (v ∷ votes) (greater_vote v o)
+greatest_more : (s : ℕ) (v : Vote) (votes : List Vote) (o : Option Vote) → v.slot ≡ s → Greatest s votes o
+    → IsGreatest s (v ∷ votes) (greater_vote v o)
 greatest_more s v votes None e h = record {
   member = inl refl;
   slot = e;
@@ -242,9 +258,8 @@ rows_whole-row es marks e t m = whole_row e.grid marks (all-Member (λ (x : Entr
 
 pub mark-cases : (n a : ℕ) (marks : List ℕ) → Member n (with_mark a marks) → (n ≡ a) ⊎ Member n marks
 mark-cases n a [] m = m
-mark-cases n a (x ∷ marks) m =
-    cond_both (a == x) (x ∷ marks) (cond (nat_lt a x) (a ∷ x ∷ marks) (x ∷ with_mark a marks)) (λ xs. Member n xs → (n ≡ a) ⊎ Member n (x ∷ marks))
-    (λ e k. inr k)
+mark-cases n a (x ∷ marks) m = cond_both (a == x) (x ∷ marks) (cond (nat_lt a x) (a ∷ x ∷ marks) (x ∷ with_mark a marks))
+    (λ xs. Member n xs → (n ≡ a) ⊎ Member n (x ∷ marks)) (λ e k. inr k)
     (λ e. cond_both (nat_lt a x) (a ∷ x ∷ marks) (x ∷ with_mark a marks) (λ xs. Member n xs → (n ≡ a) ⊎ Member n (x ∷ marks))
     (λ f k. k)
     (λ f k. elim k [ inl p ↦ inr (inl p) | inr q ↦ elim (mark-cases n a marks q) [ inl p ↦ inl p | inr r ↦ inr (inr r) ] ])) m

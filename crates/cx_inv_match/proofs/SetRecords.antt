@@ -20,12 +20,15 @@ use Rattle.cx_model.specs.Replacer.{replacer_rules}
 use Rattle.cx_inv_run.specs.States.{State, Down, set_state, entry_by, durable_of}
 use Rattle.cx_inv_run.proofs.Histories.{kept_cases}
 use Rattle.cx_inv_run.proofs.Rounds.{itself-not_before, before-not, before-from_at_most, at_most-trans, before-both}
-use Rattle.cx_inv_match.specs.Words.{HasMatch, HasBoot, HasRound, HasStop, HasNext, HasBallot, IsUsed, IsMember, IsNextSet, IsBoot, SetFacts}
+use Rattle.cx_inv_match.specs.Words.{HasMatch, HasBoot, HasRound, HasStop, HasNext, HasBallot, IsUsed, IsMember, IsNextSet, IsBoot}
+use Rattle.cx_inv_match.specs.Words.{SetFacts}
 use Rattle.cx_inv_match.specs.Facts.{IsMatchmaker, IsNextAsked, IsAsked, Facts}
 use Rattle.cx_inv_match.proofs.Grow.{Grows, grown_round, grown_ballot, grown_watermark}
 use Rattle.cx_inv_match.proofs.SetLaws.{grown_sets}
 use Rattle.cx_inv_match.proofs.Keep.{old_boots, old_nexts, old_stops, old_ballots, old_had, more_own, old_matches, old_garbages}
-use Rattle.cx_inv_match.proofs.KeepFacts.{old_sets, old_accepted, old_balloter, new_last_ballot, old_last_ballot, kept_facts, new_logs, old_owner, old_one_grid, old_last, old_asked, old_garbaged, old_logs, old_acceptors, old_voted, old_logged}
+use Rattle.cx_inv_match.proofs.KeepFacts.{old_sets, old_accepted, old_balloter, new_last_ballot, old_last_ballot, kept_facts, new_logs}
+use Rattle.cx_inv_match.proofs.KeepFacts.{old_owner, old_one_grid, old_last, old_asked, old_garbaged, old_logs, old_acceptors, old_voted}
+use Rattle.cx_inv_match.proofs.KeepFacts.{old_logged}
 use Rattle.cx_inv_match.proofs.Records.{no, grows_with, grows_else}
 
 -- A BALLOT AND A NEXT SET
@@ -52,19 +55,22 @@ module _ (c : Cluster) (history : List KeptRecord) (sent : List Letter) (states 
         (λ q. subst (λ y. is_before b y ≡ false) (sym q.1) (itself-not_before b))
         (λ o. before-not a b (before-from_at_most a own.ballot b ((facts.logs me).ballots a (inl o)) above))
         (stop_cases me a x)
-    stop_ballots a (inr x) =
-        before-not a b (before-from_at_most a own.ballot b ((facts.logs me).ballots a (inr (x.0, old_nexts me (kept.Stop b) history no me a x.0 x.1))) above)
+    stop_ballots a (inr x) = before-not a b (before-from_at_most a own.ballot b
+        ((facts.logs me).ballots a (inr (x.0, old_nexts me (kept.Stop b) history no me a x.0 x.1))) above)
 
     stop_own : IsMatchmaker c (entry_by me (kept.Stop b) ∷ history) sent me (matchmaker_after own (kept.Stop b))
     stop_own = record {
       all = λ j g l x. (facts.logs me).all j g l (old_had me (kept.Stop b) history no no me j g x);
-      only = λ e m. ⊎_elim (λ y. inl (grown_round c history sent (entry_by me (kept.Stop b) ∷ history) sent grows_stop me e.round e.grid y)) (λ y. inr (inr y)) ((facts.logs me).only e m);
+      only = λ e m. ⊎_elim (λ y. inl (grown_round c history sent (entry_by me (kept.Stop b) ∷ history) sent grows_stop me e.round e.grid y))
+          (λ y. inr (inr y)) ((facts.logs me).only e m);
       from_watermark = (facts.logs me).from_watermark;
       bound = λ j g x. (facts.logs me).bound j g (old_garbages me (kept.Stop b) history no me j g x);
       boots = λ s w es x. (facts.logs me).boots s w es (old_boots me (kept.Stop b) history no me s w es x);
-      raised = grown_watermark c history sent (entry_by me (kept.Stop b) ∷ history) sent grows_stop own.watermark own.entries (facts.logs me).raised;
+      raised = grown_watermark c history sent (entry_by me (kept.Stop b) ∷ history) sent grows_stop own.watermark own.entries
+          (facts.logs me).raised;
       none = λ e j g x. (facts.logs me).none e j g (old_garbages me (kept.Stop b) history no me j g x);
-      own = more_own history (entry_by me (kept.Stop b) ∷ history) (λ k x. inr x) me (durable_of matchmaker_rules me history).watermark (facts.logs me).own;
+      own = more_own history (entry_by me (kept.Stop b) ∷ history) (λ k x. inr x) me (durable_of matchmaker_rules me history).watermark
+          (facts.logs me).own;
       began = λ s e. let x = (facts.logs me).began s e in (x.0, x.1, inr x.2);
       unbegun = λ e s w es x. (facts.logs me).unbegun e s w es (old_boots me (kept.Stop b) history no me s w es x);
       ballots = stop_ballots;
@@ -88,7 +94,8 @@ module _ (c : Cluster) (history : List KeptRecord) (sent : List Letter) (states 
         (λ m j g x. inl (old_matches me (kept.Stop b) history no m j g x))
         used
       where
-        used : (m : RoleId) → IsUsed (entry_by me (kept.Stop b) ∷ history) m → IsUsed history m ⊎ IsMember c (entry_by me (kept.Stop b) ∷ history) m
+        used : (m : RoleId) → IsUsed (entry_by me (kept.Stop b) ∷ history) m
+            → IsUsed history m ⊎ IsMember c (entry_by me (kept.Stop b) ∷ history) m
         used m (inl (j, (g, inl x))) = inl (inl (j, (g, inl (old_had me (kept.Stop b) history no no m j g x))))
         used m (inl (j, (g, inr x))) = inl (inl (j, (g, inr (old_garbages me (kept.Stop b) history no m j g x))))
         used m (inr (a, inr x)) = inl (inr (a, inr (x.0, old_nexts me (kept.Stop b) history no m a x.0 x.1)))
@@ -113,7 +120,8 @@ module _ (c : Cluster) (history : List KeptRecord) (sent : List Letter) (states 
   -- it accepts the next set
 
   module _ (s : List ℕ) (at_least : is_before b own.ballot ≡ false) (next : IsNextSet c history me b s) (asked : IsAsked sent me b s) where
-    next_cases : (m : RoleId) (a : Round) (t : List ℕ) → HasNext (entry_by me (kept.Next b s) ∷ history) m a t → ((m ≡ me) × (a ≡ b) × (t ≡ s)) ⊎ HasNext history m a t
+    next_cases : (m : RoleId) (a : Round) (t : List ℕ) → HasNext (entry_by me (kept.Next b s) ∷ history) m a t
+        → ((m ≡ me) × (a ≡ b) × (t ≡ s)) ⊎ HasNext history m a t
     next_cases m a t x = ⊎_elim
         (λ q. let e : kept.Next a t ≡ kept.Next b s = q.1 in inl (q.0, cc, cc))
         (λ o. inr o)
@@ -144,13 +152,16 @@ module _ (c : Cluster) (history : List KeptRecord) (sent : List Letter) (states 
     next_own : IsMatchmaker c (entry_by me (kept.Next b s) ∷ history) sent me (matchmaker_after own (kept.Next b s))
     next_own = record {
       all = λ j g l x. (facts.logs me).all j g l (old_had me (kept.Next b s) history no no me j g x);
-      only = λ e m. ⊎_elim (λ y. inl (grown_round c history sent (entry_by me (kept.Next b s) ∷ history) sent grows_next me e.round e.grid y)) (λ y. inr (inr y)) ((facts.logs me).only e m);
+      only = λ e m. ⊎_elim (λ y. inl (grown_round c history sent (entry_by me (kept.Next b s) ∷ history) sent grows_next me e.round e.grid
+          y)) (λ y. inr (inr y)) ((facts.logs me).only e m);
       from_watermark = (facts.logs me).from_watermark;
       bound = λ j g x. (facts.logs me).bound j g (old_garbages me (kept.Next b s) history no me j g x);
       boots = λ t w es x. (facts.logs me).boots t w es (old_boots me (kept.Next b s) history no me t w es x);
-      raised = grown_watermark c history sent (entry_by me (kept.Next b s) ∷ history) sent grows_next own.watermark own.entries (facts.logs me).raised;
+      raised = grown_watermark c history sent (entry_by me (kept.Next b s) ∷ history) sent grows_next own.watermark own.entries
+          (facts.logs me).raised;
       none = λ e j g x. (facts.logs me).none e j g (old_garbages me (kept.Next b s) history no me j g x);
-      own = more_own history (entry_by me (kept.Next b s) ∷ history) (λ k x. inr x) me (durable_of matchmaker_rules me history).watermark (facts.logs me).own;
+      own = more_own history (entry_by me (kept.Next b s) ∷ history) (λ k x. inr x) me (durable_of matchmaker_rules me history).watermark
+          (facts.logs me).own;
       began = λ t e. let x = (facts.logs me).began t e in (x.0, x.1, inr x.2);
       unbegun = λ e t w es x. (facts.logs me).unbegun e t w es (old_boots me (kept.Next b s) history no me t w es x);
       ballots = next_ballots;
@@ -164,7 +175,8 @@ module _ (c : Cluster) (history : List KeptRecord) (sent : List Letter) (states 
     next_sets = grown_sets c history sent (entry_by me (kept.Next b s) ∷ history) sent grows_next facts.sets
         (λ m a t x. ⊎_elim
         (λ q. inr (
-          subst (λ y. IsNextSet c history y a t) (sym q.0) (subst (λ y. IsNextSet c history me y t) (sym q.1) (subst (λ y. IsNextSet c history me b y) (sym q.2) next)),
+          subst (λ y. IsNextSet c history y a t) (sym q.0)
+              (subst (λ y. IsNextSet c history me y t) (sym q.1) (subst (λ y. IsNextSet c history me b y) (sym q.2) next)),
           λ o u y. next_one o a u y q.1 ∙ sym q.2,
         ))
         (λ o. inl o)
@@ -176,9 +188,8 @@ module _ (c : Cluster) (history : List KeptRecord) (sent : List Letter) (states 
         -- whoever accepted a set in this ballot accepted this one
         next_one : (o : RoleId) (a : Round) (u : List ℕ) → HasNext (entry_by me (kept.Next b s) ∷ history) o a u → a ≡ b → u ≡ s
         next_one o a u y e = ⊎_elim
-            (λ p. p.2)
-            (λ z. facts.one_asked b u s (subst (λ i. IsNextAsked sent i u) e (let y = facts.accepted o a u z in (y.0, o, y.1))) (asked.0, me, asked.1))
-            (next_cases o a u y)
+            (λ p. p.2) (λ z. facts.one_asked b u s (subst (λ i. IsNextAsked sent i u) e (let y = facts.accepted o a u z in (y.0, o, y.1)))
+            (asked.0, me, asked.1)) (next_cases o a u y)
 
         next_member : (m : RoleId) → m ≡ me → IsMember c (entry_by me (kept.Next b s) ∷ history) m
         next_member m e = subst (λ t. IsMember c (entry_by me (kept.Next b s) ∷ history) t) (sym e) (more member)
@@ -187,7 +198,8 @@ module _ (c : Cluster) (history : List KeptRecord) (sent : List Letter) (states 
             more (inl k) = inl k
             more (inr k) = inr (k.0, k.1, k.2, inr k.3)
 
-        used : (m : RoleId) → IsUsed (entry_by me (kept.Next b s) ∷ history) m → IsUsed history m ⊎ IsMember c (entry_by me (kept.Next b s) ∷ history) m
+        used : (m : RoleId) → IsUsed (entry_by me (kept.Next b s) ∷ history) m
+            → IsUsed history m ⊎ IsMember c (entry_by me (kept.Next b s) ∷ history) m
         used m (inl (j, (g, inl x))) = inl (inl (j, (g, inl (old_had me (kept.Next b s) history no no m j g x))))
         used m (inl (j, (g, inr x))) = inl (inl (j, (g, inr (old_garbages me (kept.Next b s) history no m j g x))))
         used m (inr (a, inl x)) = inl (inr (a, inl (old_stops me (kept.Next b s) history no m a x)))
@@ -204,8 +216,8 @@ module _ (c : Cluster) (history : List KeptRecord) (sent : List Letter) (states 
         (old_acceptors c history sent states facts me (kept.Next b s) grows_next no no no refl)
         (old_voted c history sent states facts me (kept.Next b s) grows_next no)
         (old_logged c history sent states facts me (kept.Next b s) grows_next refl)
-        next_sets
-        (λ m a t x. ⊎_elim (λ q. subst (λ y. IsAsked sent y a t) (sym q.0) (subst (λ y. IsAsked sent me y t) (sym q.1) (subst (λ y. IsAsked sent me b y) (sym q.2) asked))) (λ o. facts.accepted m a t o) (next_cases m a t x))
+        next_sets (λ m a t x. ⊎_elim (λ q. subst (λ y. IsAsked sent y a t) (sym q.0) (subst (λ y. IsAsked sent me y t) (sym q.1)
+        (subst (λ y. IsAsked sent me b y) (sym q.2) asked))) (λ o. facts.accepted m a t o) (next_cases m a t x))
         (old_balloter c history sent states facts me (kept.Next b s) grows_next no)
         (old_last_ballot c history sent states facts me (kept.Next b s) grows_next no refl)
 
@@ -236,7 +248,8 @@ module _ (c : Cluster) (history : List KeptRecord) (sent : List Letter) (states 
   no_match : (j : Round) (g : Shape) {A : Type 0} → HasMatch history me j g → A
   no_match j g x = absurd (unused (inl (j, (g, inl (inl x)))))
 
-  own_boot : (t : List ℕ) (v : Round) (xs : List Entry) → HasBoot (entry_by me (kept.Boot s w es) ∷ history) me t v xs → (t ≡ s) × (v ≡ w) × (xs ≡ es)
+  own_boot : (t : List ℕ) (v : Round) (xs : List Entry) → HasBoot (entry_by me (kept.Boot s w es) ∷ history) me t v xs
+      → (t ≡ s) × (v ≡ w) × (xs ≡ es)
   own_boot t v xs x = ⊎_elim (λ q. (q.1, q.2, q.3)) (λ o. absurd (unbegun t v xs o)) (boot_cases me t v xs x)
 
   boot_all : (j : Round) (g : Shape) → HasRound (entry_by me (kept.Boot s w es) ∷ history) me j g → Member (entry j g) es
@@ -256,7 +269,8 @@ module _ (c : Cluster) (history : List KeptRecord) (sent : List Letter) (states 
     began = λ t e. (w, es, inl (ap (λ y. entry_by me (kept.Boot y w es)) (sym (same_Some s t e))));
     unbegun = λ e t v xs x. cc;
     ballots = λ b x. (facts.logs me).ballots b (old_ballots me (kept.Boot s w es) history no no me b x);
-    ballot = ⊎_elim inl (λ x. inr (grown_ballot c history sent (entry_by me (kept.Boot s w es) ∷ history) sent grows_boot me _ x)) (facts.logs me).ballot;
+    ballot = ⊎_elim inl (λ x. inr (grown_ballot c history sent (entry_by me (kept.Boot s w es) ∷ history) sent grows_boot me _ x))
+        (facts.logs me).ballot;
     unstopped = λ e x. (facts.logs me).unstopped e (x.0, old_ballots me (kept.Boot s w es) history no no me x.0 x.1);
     nexts = λ b t x. (facts.logs me).nexts b t (old_nexts me (kept.Boot s w es) history no me b t x);
     accepted = ⊎_elim inl (λ x. inr (inr x)) (facts.logs me).accepted;
@@ -269,14 +283,16 @@ module _ (c : Cluster) (history : List KeptRecord) (sent : List Letter) (states 
       (λ q. inr (
         subst (λ (y : RoleId). Member y.index t) (sym q.0) (subst (λ (y : List ℕ). Member me.index y) (sym q.1) member),
         rw (q.1, q.2, q.3) boot,
-        λ i g y. absurd (unused (subst (λ z. IsUsed history z) q.0 (inl (i, (g, inl (inl (old_matches me (kept.Boot s w es) history no m i g y))))))),
+        λ i g y. absurd (unused (subst (λ z. IsUsed history z) q.0
+            (inl (i, (g, inl (inl (old_matches me (kept.Boot s w es) history no m i g y))))))),
       ))
       (λ o. inl o)
       (boot_cases m t v xs x))
       (λ m i g x. inl (old_matches me (kept.Boot s w es) history no m i g x))
       used
     where
-      used : (m : RoleId) → IsUsed (entry_by me (kept.Boot s w es) ∷ history) m → IsUsed history m ⊎ IsMember c (entry_by me (kept.Boot s w es) ∷ history) m
+      used : (m : RoleId) → IsUsed (entry_by me (kept.Boot s w es) ∷ history) m
+          → IsUsed history m ⊎ IsMember c (entry_by me (kept.Boot s w es) ∷ history) m
       used m (inr x) = inl (inr (x.0, old_ballots me (kept.Boot s w es) history no no m x.0 x.1))
       used m (inl (j, (g, inr x))) = inl (inl (j, (g, inr (old_garbages me (kept.Boot s w es) history no m j g x))))
       used m (inl (j, (g, inl (inl x)))) = inl (inl (j, (g, inl (inl (old_matches me (kept.Boot s w es) history no m j g x)))))
@@ -301,8 +317,10 @@ module _ (c : Cluster) (history : List KeptRecord) (sent : List Letter) (states 
 -- A REPLACER BEGINS A BALLOT
 
 module _ (c : Cluster) (history : List KeptRecord) (sent : List Letter) (states : RoleId → State) (facts : Facts c history sent states)
-    (me : RoleId) (b : Round) (owned : me ≡ role kind.Replacer b.id) (above : is_before (durable_of replacer_rules me history).own b ≡ true) where
-  ballot_cases : (a : RoleId) (d : Round) → HasKept (entry_by me (kept.Ballot b) ∷ history) a (kept.Ballot d) → ((a ≡ me) × (d ≡ b)) ⊎ HasKept history a (kept.Ballot d)
+    (me : RoleId) (b : Round) (owned : me ≡ role kind.Replacer b.id)
+    (above : is_before (durable_of replacer_rules me history).own b ≡ true) where
+  ballot_cases : (a : RoleId) (d : Round) → HasKept (entry_by me (kept.Ballot b) ∷ history) a (kept.Ballot d)
+      → ((a ≡ me) × (d ≡ b)) ⊎ HasKept history a (kept.Ballot d)
   ballot_cases a d x = ⊎_elim
       (λ q. let e : kept.Ballot d ≡ kept.Ballot b = q.1 in inl (q.0, cc))
       (λ o. inr o)
@@ -315,7 +333,8 @@ module _ (c : Cluster) (history : List KeptRecord) (sent : List Letter) (states 
   pub ballot_new : (t : List ℕ) → IsNextAsked sent b t → ⊥
   ballot_new t x =
       let k = (facts.asks x.0 x.1 b t x.2).1 in
-      before-both (durable_of replacer_rules me history).own b above ((facts.last_ballot me).0 b (subst (λ y. HasKept history y (kept.Ballot b)) (sym owned) k))
+      before-both (durable_of replacer_rules me history).own b above
+      ((facts.last_ballot me).0 b (subst (λ y. HasKept history y (kept.Ballot b)) (sym owned) k))
 
   pub keep_ballot : Facts c (entry_by me (kept.Ballot b) ∷ history) sent (set_state me Down states)
   keep_ballot = kept_facts c history sent states facts me (kept.Ballot b) grows_ballot

@@ -29,7 +29,8 @@ use Rattle.cx_model.specs.declared.states.Stage.{Stage}
 use Rattle.cx_model.specs.declared.states.Stage.TheVariants.{Off, Informing, Collecting, Retired}
 use Rattle.cx_model.specs.Acceptor.{AcceptorDurable, acceptor_rules}
 use Rattle.cx_model.specs.Collection.{Collection}
-use Rattle.cx_model.specs.Facts.{HasVoted, IsProposed, IsRetiring, LeaderWasTold, ProxyWasTold, BatcherWasTold, ReplicaWasTold, ReaderWasTold}
+use Rattle.cx_model.specs.Facts.{HasVoted, IsProposed, IsRetiring, LeaderWasTold, ProxyWasTold, BatcherWasTold, ReplicaWasTold}
+use Rattle.cx_model.specs.Facts.{ReaderWasTold}
 use Rattle.cx_model.specs.Leader.{LeaderVolatile, leader_rules, round_of, is_idle, is_changed}
 use Rattle.cx_model.specs.Matchmaker.{MatchmakerDurable, matchmaker_rules, entry}
 use Rattle.cx_model.specs.Member.{Member}
@@ -38,7 +39,9 @@ use Rattle.cx_model.specs.Names.{names_set}
 use Rattle.cx_model.specs.Reader.{Batch, ReaderVolatile, is_matched}
 use Rattle.cx_model.specs.Replacer.{ReplacerDurable, ReplacerVolatile, replacer_rules}
 use Rattle.cx_inv_run.specs.States.{State, Down, Plain, BatcherIn, LeaderIn, ProxyIn, ReplicaIn, ReaderIn, ReplacerIn, durable_of, log_in}
-use Rattle.cx_inv_match.specs.Words.{HasMatch, HasGarbage, HasRound, HasMark, HasPromise, HasLow, IsChosenIn, IsChosen, IsMatched, IsSafe, IsCollected, IsAnswer, IsPromise, HasBoot, HasNext, HasBallot, IsHalt, IsKnown, IsDecided, IsClosed, IsNextSet, IsJoin, IsBoot, IsWatermark, HasStopped, SetFacts}
+use Rattle.cx_inv_match.specs.Words.{HasMatch, HasGarbage, HasRound, HasMark, HasPromise, HasLow, IsChosenIn, IsChosen, IsMatched, IsSafe}
+use Rattle.cx_inv_match.specs.Words.{IsCollected, IsAnswer, IsPromise, HasBoot, HasNext, HasBallot, IsHalt, IsKnown, IsDecided, IsClosed}
+use Rattle.cx_inv_match.specs.Words.{IsNextSet, IsJoin, IsBoot, IsWatermark, HasStopped, SetFacts}
 
 -- What each kind of datagram says of the history. A kind that isn't named says nothing here.
 abbrev pub Says : Cluster → List KeptRecord → List Letter → RoleId → Msg → Type 0
@@ -70,8 +73,8 @@ abbrev pub answering_matchmakers : List MatchAnswer → List ℕ
 answering_matchmakers [] = []
 answering_matchmakers (a ∷ told) = a.matchmaker ∷ answering_matchmakers told
 
--- a leader that still asks matchmakers or acceptors: nothing of its round was proposed, nobody was asked to forget earlier ones for it, and it
--- isn't retiring them
+-- a leader that still asks matchmakers or acceptors: nothing of its round was proposed, nobody was asked to forget earlier ones for it, and
+-- it isn't retiring them
 pub record IsMatching (c : Cluster) (history : List KeptRecord) (sent : List Letter) (own : Entry) (v : LeaderVolatile) : Type 0 where
   pub unproposed : (s : ℕ) (u : Value) → IsProposed sent own.round s u → ⊥
   pub unended : IsRetiring sent own.round → ⊥
@@ -93,9 +96,11 @@ InStage c history sent own end k Informing = IsInforming history own end k
 InStage c history sent own end k Collecting = IsCollected c history sent own.round
 InStage c history sent own end k Retired = Unit {0}
 
--- a leader that goes on with another grid: what it proposed in the round before may be proposed in this one, and from the next slot on any value
+-- a leader that goes on with another grid: what it proposed in the round before may be proposed in this one, and from the next slot on any
+-- value
 pub record IsReady (c : Cluster) (history : List KeptRecord) (sent : List Letter) (own : Entry) (v : LeaderVolatile) : Type 0 where
-  pub once : (s : ℕ) (u w : Value) → Member {X = Placed} (record { slot = s; value = u }) v.proposed → Member {X = Placed} (record { slot = s; value = w }) v.proposed → u ≡ w
+  pub once : (s : ℕ) (u w : Value) → Member {X = Placed} (record { slot = s; value = u }) v.proposed
+      → Member {X = Placed} (record { slot = s; value = w }) v.proposed → u ≡ w
   pub window : (p : Placed) → Member p v.proposed → (v.cw ≤ p.slot) × (p.slot < v.next)
   pub safe : (p : Placed) → Member p v.proposed → IsSafe c history sent own.round p.slot p.value
   pub free : (s : ℕ) (u : Value) → v.next ≤ s → IsSafe c history sent own.round s u
@@ -106,8 +111,10 @@ pub record IsLeading (c : Cluster) (history : List KeptRecord) (sent : List Lett
   pub matched : IsMatched c history own.round
   -- what was proposed in the round lies below the next slot, and from the chosen watermark on it is remembered, one value a slot
   pub below_next : (s : ℕ) (u : Value) → IsProposed sent own.round s u → s < v.next
-  pub remembered : (s : ℕ) (u : Value) → IsProposed sent own.round s u → (s < v.cw) ⊎ Member {X = Placed} (record { slot = s; value = u }) v.proposed
-  pub once : (s : ℕ) (u w : Value) → Member {X = Placed} (record { slot = s; value = u }) v.proposed → Member {X = Placed} (record { slot = s; value = w }) v.proposed → u ≡ w
+  pub remembered : (s : ℕ) (u : Value) → IsProposed sent own.round s u
+      → (s < v.cw) ⊎ Member {X = Placed} (record { slot = s; value = u }) v.proposed
+  pub once : (s : ℕ) (u w : Value) → Member {X = Placed} (record { slot = s; value = u }) v.proposed
+      → Member {X = Placed} (record { slot = s; value = w }) v.proposed → u ≡ w
   pub window : (p : Placed) → Member p v.proposed → (v.cw ≤ p.slot) × (p.slot < v.next)
   pub safe : (p : Placed) → Member p v.proposed → IsSafe c history sent own.round p.slot p.value
   -- from the slot on that was the next one when it began to lead any value is safe, and the next slot is not before that
@@ -121,8 +128,8 @@ pub record IsLeading (c : Cluster) (history : List KeptRecord) (sent : List Lett
 abbrev pub InMode : Cluster → List KeptRecord → List Letter → Option Entry → LeaderVolatile → Mode → Type 0
 InMode c history sent None v mode = is_idle mode ≡ true
 InMode c history sent (Some own) v Idle = Unit {0}
-InMode c history sent (Some own) v Matching =
-    IsMatching c history sent own v × ((m : ℕ) → Member m (answering_matchmakers v.told) → Member m v.set) × (is_changed own.round ≡ true → IsReady c history sent own v)
+InMode c history sent (Some own) v Matching = IsMatching c history sent own v
+    × ((m : ℕ) → Member m (answering_matchmakers v.told) → Member m v.set) × (is_changed own.round ≡ true → IsReady c history sent own v)
 InMode c history sent (Some own) v Phase1 = IsMatching c history sent own v × (c.f < length v.told)
 InMode c history sent (Some own) v Leading = IsLeading c history sent own v
 
@@ -150,18 +157,20 @@ halted_by [] = []
 halted_by (h ∷ halts) = h.answer.matchmaker ∷ halted_by halts
 
 -- a replacer that stops a set: nobody was asked to accept another one in its ballot
-pub record IsStopping (c : Cluster) (history : List KeptRecord) (sent : List Letter) (me : RoleId) (own : Round) (v : ReplacerVolatile) : Type 0 where
+pub record IsStopping (c : Cluster) (history : List KeptRecord) (sent : List Letter) (me : RoleId) (own : Round)
+    (v : ReplacerVolatile) : Type 0 where
   pub real : is_before no_round own ≡ true
   pub unasked : (t : List ℕ) → IsNextAsked sent own t → ⊥
   pub above : is_above v.next v.set ≡ true
   pub proper : names_set c v.next ≡ true
-  pub told : (h : Halt) → Member h v.halts
-      → Member (letter (role kind.Matchmaker h.answer.matchmaker) me (msg.StopB own h.answer.watermark h.answer.entries h.accepted h.next)) sent
+  pub told : (h : Halt) → Member h v.halts → Member (letter (role kind.Matchmaker h.answer.matchmaker) me
+      (msg.StopB own h.answer.watermark h.answer.entries h.accepted h.next)) sent
   pub once : AreOnce (halted_by v.halts)
   pub known : (m : ℕ) → Member m (halted_by v.halts) → Member m v.set
 
 -- a replacer that has the next set decided: the members of the set that it knows were asked to accept this one, and nobody another one
-pub record IsDeciding (c : Cluster) (history : List KeptRecord) (sent : List Letter) (me : RoleId) (own : Round) (v : ReplacerVolatile) : Type 0 where
+pub record IsDeciding (c : Cluster) (history : List KeptRecord) (sent : List Letter) (me : RoleId) (own : Round)
+    (v : ReplacerVolatile) : Type 0 where
   pub real : is_before no_round own ≡ true
   pub asked : (from to : RoleId) (t : List ℕ) → Member (letter from to (msg.NextA own t)) sent → (t ≡ v.next) × Member to.index v.set
   pub above : is_above v.next v.set ≡ true
@@ -188,13 +197,13 @@ abbrev pub InState : Cluster → List KeptRecord → List Letter → RoleId → 
 InState c history sent me Down = Unit {0}
 InState c history sent me Plain = Unit {0}
 InState c history sent me (BatcherIn v) = BatcherWasTold sent me v
-InState c history sent me (LeaderIn v) =
-    LeaderWasTold sent me (round_of (durable_of leader_rules me history).own) v × InMode c history sent (durable_of leader_rules me history).own v v.mode
-    × IsKnown c history v.set
+InState c history sent me (LeaderIn v) = LeaderWasTold sent me (round_of (durable_of leader_rules me history).own) v
+    × InMode c history sent (durable_of leader_rules me history).own v v.mode × IsKnown c history v.set
 InState c history sent me (ProxyIn v) = ProxyWasTold sent me v × ((p : Pending) → Member p v.pending → IsPending history sent p)
 InState c history sent me (ReplicaIn v) = ReplicaWasTold sent me v
 InState c history sent me (ReaderIn v) = ReaderWasTold sent me v × AreAsking c v × IsKnown c history v.set
-InState c history sent me (ReplacerIn v) = IsKnown c history v.set × InWork c history sent me (durable_of replacer_rules me history).own v v.mode
+InState c history sent me (ReplacerIn v) =
+    IsKnown c history v.set × InWork c history sent me (durable_of replacer_rules me history).own v v.mode
 
 -- an acceptor is what its records say
 pub record IsAcceptor (history : List KeptRecord) (a : RoleId) (d : AcceptorDurable) : Type 0 where
@@ -209,7 +218,8 @@ pub record IsAcceptor (history : List KeptRecord) (a : RoleId) (d : AcceptorDura
 
 -- a matchmaker's retirement watermark is none, or it forgot the earlier rounds for it itself, or began with it
 abbrev pub IsOwn : List KeptRecord → RoleId → Round → Type 0
-IsOwn history m w = (w ≡ no_round) ⊎ (((g : Shape) × HasGarbage history m w g) ⊎ ((t : List ℕ) × (es : List Entry) × HasBoot history m t w es))
+IsOwn history m w =
+    (w ≡ no_round) ⊎ (((g : Shape) × HasGarbage history m w g) ⊎ ((t : List ℕ) × (es : List Entry) × HasBoot history m t w es))
 
 -- so is a matchmaker
 pub record IsMatchmaker (c : Cluster) (history : List KeptRecord) (sent : List Letter) (m : RoleId) (d : MatchmakerDurable) : Type 0 where
@@ -233,8 +243,8 @@ pub record IsMatchmaker (c : Cluster) (history : List KeptRecord) (sent : List L
 
 -- of a replacer's ballots none is above its last, and its last was kept
 abbrev pub IsLastBallot : List KeptRecord → RoleId → ReplacerDurable → Type 0
-IsLastBallot history me d =
-    ((b : Round) → HasKept history me (kept.Ballot b) → is_before d.own b ≡ false) × ((d.own ≡ no_round) ⊎ HasKept history me (kept.Ballot d.own))
+IsLastBallot history me d = ((b : Round) → HasKept history me (kept.Ballot b) → is_before d.own b ≡ false)
+    × ((d.own ≡ no_round) ⊎ HasKept history me (kept.Ballot d.own))
 
 -- of a leader's rounds none is above its last, and its last was kept
 abbrev pub IsLastRound : List KeptRecord → RoleId → Option Entry → Type 0
@@ -250,7 +260,8 @@ pub record Facts (c : Cluster) (history : List KeptRecord) (sent : List Letter) 
   pub last : (me : RoleId) → IsLastRound history me (durable_of leader_rules me history).own
   -- a matchmaker records only what was kept, and forgets only for what may be collected
   pub asked : (m : RoleId) (i : Round) (g : Shape) → HasMatch history m i g → IsConfig history i g
-  pub garbaged : (m : RoleId) (i : Round) (g : Shape) → HasGarbage history m i g → IsConfig history i g × IsCollected c history sent i × IsRetiring sent i
+  pub garbaged : (m : RoleId) (i : Round) (g : Shape) → HasGarbage history m i g
+      → IsConfig history i g × IsCollected c history sent i × IsRetiring sent i
   pub logs : (m : RoleId) → IsMatchmaker c history sent m (durable_of matchmaker_rules m history)
   pub acceptors : (a : RoleId) → IsAcceptor history a (durable_of acceptor_rules a history)
   -- sets of matchmakers

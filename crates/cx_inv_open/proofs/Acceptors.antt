@@ -77,7 +77,8 @@ module _ (c : Cluster) (me : RoleId) (d : AcceptorDurable) (votes : (u : Vote) �
   row_fine input.Tick asks = (tt, none_in)
   row_fine (input.Order order) asks = (tt, none_in)
 
-module _ (c : Cluster) (history : List KeptRecord) (sent : List Letter) (states : RoleId → State) (facts : Facts c history sent states) (h : Fitting c history sent states) (a : ℕ) where
+module _ (c : Cluster) (history : List KeptRecord) (sent : List Letter) (states : RoleId → State) (facts : Facts c history sent states)
+    (h : Fitting c history sent states) (a : ℕ) where
   abbrev me : RoleId
   me = role kind.Acceptor a
 

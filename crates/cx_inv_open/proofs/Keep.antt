@@ -83,11 +83,16 @@ module _ (c : Cluster) (kept : List KeptRecord) (sent : List Letter) (states : R
   fit_with me None new = h.fit
   fit_with me (Some r) new = (new, h.fit)
 
-  pub lands : {V : Type 0} (me : RoleId) (make : V → State) (o : Outcome V) → NewFits c kept me o.kept → InRange c (make o.volatile) → AllInWindow o.sends
-      → Lands (Fitting c) kept sent states me make o
+  pub lands : {V : Type 0} (me : RoleId) (make : V → State) (o : Outcome V) → NewFits c kept me o.kept → InRange c (make o.volatile)
+      → AllInWindow o.sends → Lands (Fitting c) kept sent states me make o
   lands me make o new state says = record {
-    whole = record { fit = fit_with me o.kept new; says = both_in sent o.sends h.says says; running = with_state me (make o.volatile) state };
-    cut = λ r e. record { fit = fit_with me (Some r) (subst (λ (x : Option Record). NewFits c kept me x) e new); says = h.says; running = with_state me Down tt };
+    whole =
+        record { fit = fit_with me o.kept new; says = both_in sent o.sends h.says says; running = with_state me (make o.volatile) state };
+    cut = λ r e. record {
+      fit = fit_with me (Some r) (subst (λ (x : Option Record). NewFits c kept me x) e new);
+      says = h.says;
+      running = with_state me Down tt;
+    };
   }
 
   -- what was proposed has a slot
@@ -120,6 +125,6 @@ votes_fit c [] h k m = absurd m
 votes_fit c (x ∷ ks) h k (inl e) = subst (λ (y : KeptRecord). VoteInWindow y.what) (sym e) (vote_fits c x.role x.what ks x.role.kind h.0)
 votes_fit c (x ∷ ks) h k (inr m) = votes_fit c ks h.1 k m
 
-pub vote_window : (c : Cluster) (ks : List KeptRecord) → AllFit c ks → (who : RoleId) (i : Round) (s cw : ℕ) (v : Value) → HasKept ks who (kept.Vote i s cw v)
-    → s < cw + 32
+pub vote_window : (c : Cluster) (ks : List KeptRecord) → AllFit c ks → (who : RoleId) (i : Round) (s cw : ℕ) (v : Value)
+    → HasKept ks who (kept.Vote i s cw v) → s < cw + 32
 vote_window c ks h who i s cw v m = votes_fit c ks h _ m

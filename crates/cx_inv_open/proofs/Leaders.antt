@@ -74,8 +74,11 @@ module _ (c : Cluster) (history : List KeptRecord) (sent : List Letter) (states 
       omega arith
 
   reports : (from to : RoleId) (m : Msg) → Member (letter from to m) sent → Reports m
-  reports from to (msg.Phase1B i cw votes) x = λ u m.
-      (fitting.says _ x u m, proposed_slot c history sent states fitting u.round u.slot u.value (facts.voted from u.round u.slot u.value ((facts.says _ x).only u m).0))
+  reports from to (msg.Phase1B i cw votes) x = λ u m. (
+    fitting.says _ x u m,
+    proposed_slot c history sent states fitting u.round u.slot u.value
+        (facts.voted from u.round u.slot u.value ((facts.says _ x).only u m).0),
+  )
   reports from to other x = tt
 
   module _ (l : ℕ) (v : LeaderVolatile) (place : l < c.leaders) (is : states (role kind.Leader l) ≡ LeaderIn v) where
@@ -89,7 +92,8 @@ module _ (c : Cluster) (history : List KeptRecord) (sent : List Letter) (states 
     state = subst (λ (s : State). InState c history sent me s) is (facts.running me)
 
     mine : (own : Entry) → d.own ≡ Some own → own.round.id ≡ l
-    mine own e = sym (ap (λ (r : RoleId). r.index) (facts.owner me own.round own.grid (subst (λ o. IsLastRound history me o) e (facts.last me)).0))
+    mine own e =
+        sym (ap (λ (r : RoleId). r.index) (facts.owner me own.round own.grid (subst (λ o. IsLastRound history me o) e (facts.last me)).0))
 
     has_round : is_leading v.mode ≡ true → d.own ≡ None → ⊥
     has_round leads e = not_idle v.mode leads (subst (λ o. InMode c history sent o v v.mode) e state.1)
@@ -99,7 +103,8 @@ module _ (c : Cluster) (history : List KeptRecord) (sent : List Letter) (states 
         ((subst (λ o. InMode c history sent o v Leading) e (subst (λ mode. InMode c history sent d.own v mode) leads state.1)).window p m).1
 
     -- while it goes on with another grid, what it proposed in the round before
-    ready : is_matching v.mode ≡ true → (own : Entry) → d.own ≡ Some own → is_changed own.round ≡ true → (p : Placed) → Member p v.proposed → p.slot < v.next
+    ready : is_matching v.mode ≡ true → (own : Entry) → d.own ≡ Some own → is_changed own.round ≡ true → (p : Placed) → Member p v.proposed
+        → p.slot < v.next
     ready matches own e changed p m =
         (((subst (λ o. InMode c history sent o v Matching) e
         (subst (λ mode. InMode c history sent d.own v mode) (matching_is v.mode matches) state.1)).2 changed).window p m).1
@@ -113,5 +118,6 @@ module _ (c : Cluster) (history : List KeptRecord) (sent : List Letter) (states 
     leader_lands i g =
         let next = subst (λ (s : State). InRange c s) is (fitting.running me) in
         let low = leader_low c history me d v (subst (λ (s : State). LowState c history s) is (lows.running me)) sent lows.says i g in
-        let fine = row_good c me d place v next (λ p m. reports _ _ _ (state.0.promises p m)) ready mine has_round proposed i (given i g) (stored_few _ low.state.cw) in
+        let fine = row_good c me d place v next (λ p m. reports _ _ _ (state.0.promises p m)) ready mine has_round proposed i (given i g)
+        (stored_few _ low.state.cw) in
         lands c history sent states fitting me LeaderIn _ (new_fits leader_rules c history me (λ r x. x) _ fine.keeps) fine.next fine.sends

@@ -18,7 +18,8 @@ use Rattle.cx_letter.specs.declared.input.Input.TheVariants as input
 use Rattle.cx_letter.specs.declared.input.KeptRecord.{KeptRecord}
 use Rattle.cx_letter.specs.declared.message.Msg.{Msg}
 use Rattle.cx_letter.specs.declared.message.Msg.TheVariants as msg
-use Rattle.cx_model.specs.Matchmaker.{MatchmakerDurable, matchmaker_rules, matchmaker_row, matchmaker_takes, at_work, boot_in, has_round, in_set, is_booted, is_stopped, match_a_row, set_of}
+use Rattle.cx_model.specs.Matchmaker.{MatchmakerDurable, matchmaker_rules, matchmaker_row, matchmaker_takes, at_work, boot_in, has_round}
+use Rattle.cx_model.specs.Matchmaker.{in_set, is_booted, is_stopped, match_a_row, set_of}
 use Rattle.cx_model.specs.Names.{names, names_ballot, names_body, names_entry, names_grid, names_role, names_round, names_set}
 use Rattle.cx_model.specs.Outcome.{Outcome, by_test, either_way}
 use Rattle.cx_model.specs.Rules.{IsFit}
@@ -36,10 +37,11 @@ is_after a b before same = grind (arith, nat_tests)
 is_later : (a b : Round) → is_before a b ≡ false → same_round a b ≡ false → is_before b a ≡ true
 is_later a b before same = grind (arith, nat_tests)
 
-all_before : (i : Round) (es : List Entry) → list_any (λ (e : Entry). is_before i e.round) es ≡ false → has_round i es ≡ false → list_all (λ (e : Entry). is_before e.round i) es ≡ true
+all_before : (i : Round) (es : List Entry) → list_any (λ (e : Entry). is_before i e.round) es ≡ false → has_round i es ≡ false
+    → list_all (λ (e : Entry). is_before e.round i) es ≡ true
 all_before i es later none =
-    Member-all (λ (e : Entry). is_before e.round i) es
-    (λ e m. is_after i e.round (none-Member (λ (e : Entry). is_before i e.round) es later e m) (none-Member (λ (e : Entry). same_round e.round i) es none e m))
+    Member-all (λ (e : Entry). is_before e.round i) es (λ e m. is_after i e.round
+    (none-Member (λ (e : Entry). is_before i e.round) es later e m) (none-Member (λ (e : Entry). same_round e.round i) es none e m))
 
 has_room : (n : ℕ) → nat_le 16 n ≡ false → nat_lt n 16 ≡ true
 has_room n h = grind (arith, nat_tests)
@@ -55,8 +57,8 @@ module _ (c : Cluster) (me : RoleId) (d : MatchmakerDurable) where
   work_fine : (o : Outcome (Unit {0})) → (is_booted c me d ≡ true → is_stopped d ≡ false → Fine o) → Fine (at_work c me d o)
   work_fine o h = set_fine _ (λ booted. by_test Fine (is_stopped d) _ _ (λ t. tt) (λ works. h booted works))
 
-  match_fine : (from : RoleId) (i : Round) (g : Shape) → is_booted c me d ≡ true → is_stopped d ≡ false → names_round c i ≡ true → names_grid c g ≡ true
-      → Fine (match_a_row me d from i g)
+  match_fine : (from : RoleId) (i : Round) (g : Shape) → is_booted c me d ≡ true → is_stopped d ≡ false → names_round c i ≡ true
+      → names_grid c g ≡ true → Fine (match_a_row me d from i g)
   match_fine from i g booted works round grid =
       by_test Fine (is_before i d.watermark) _ _ (λ t. tt)
       (λ high. by_test Fine (list_any (λ (e : Entry). is_before i e.round) d.entries) _ _ (λ t. tt)
@@ -64,8 +66,10 @@ module _ (c : Cluster) (me : RoleId) (d : MatchmakerDurable) where
       (λ new. by_test Fine (nat_le 16 (length d.entries)) _ _ (λ t. tt)
       (λ room. (rw (booted, works, round, grid, high, all_before i d.entries last new, has_room (length d.entries) room) refl, refl)))))
 
-  boots_fine : (from : RoleId) (s : List ℕ) (w : Round) (es : List Entry) → is_in me.index s ≡ true → names_set c s ≡ true → names_round c w ≡ true
-      → list_all (λ (e : Entry). names_entry c e) es ≡ true → (o : Option (List ℕ)) → set_of c me d.booted ≡ o → Fine (boot_in me from s w es o)
+  boots_fine : (from : RoleId) (s : List ℕ) (w : Round) (es : List Entry) → is_in me.index s ≡ true → names_set c s ≡ true
+      → names_round c w ≡ true
+      → list_all (λ (e : Entry). names_entry c e) es ≡ true → (o : Option (List ℕ)) → set_of c me d.booted ≡ o
+      → Fine (boot_in me from s w es o)
   boots_fine from s w es member set round entries (Some t) e = either_way Fine (bytes_eq s t) _ _ tt tt
   boots_fine from s w es member set round entries None e = (rw (e, member, set, round, entries) refl, refl)
 
@@ -75,7 +79,8 @@ module _ (c : Cluster) (me : RoleId) (d : MatchmakerDurable) where
       work_fine _ (λ booted works. match_fine from i g booted works a.0 a.1)
   takes_fine from (msg.GarbageA i g) named =
       let a = and_parts (names_round c i) (names_grid c g) named in
-      work_fine _ (λ booted works. by_test Fine (is_before d.watermark i) _ _ (λ low. (rw (booted, works, a.0, a.1, low) refl, refl)) (λ f. tt))
+      work_fine _ (λ booted works.
+      by_test Fine (is_before d.watermark i) _ _ (λ low. (rw (booted, works, a.0, a.1, low) refl, refl)) (λ f. tt))
   takes_fine from (msg.MatchRead t) named = work_fine _ (λ booted works. tt)
   takes_fine from (msg.StopA b) named =
       set_fine _ (λ booted. by_test Fine (is_before b d.ballot) _ _ (λ t. tt)
@@ -99,8 +104,10 @@ module _ (c : Cluster) (me : RoleId) (d : MatchmakerDurable) where
   row_fine input.Tick = tt
   row_fine (input.Order order) = tt
 
-pub matchmaker_lands : (c : Cluster) (history : List KeptRecord) (sent : List Letter) (states : RoleId → State) → Fitting c history sent states → (m : ℕ) (i : Input)
-    → Lands (Fitting c) history sent states (role kind.Matchmaker m) plain (matchmaker_row c (role kind.Matchmaker m) (durable_of matchmaker_rules (role kind.Matchmaker m) history) tt i)
+pub matchmaker_lands : (c : Cluster) (history : List KeptRecord) (sent : List Letter) (states : RoleId → State)
+    → Fitting c history sent states → (m : ℕ) (i : Input)
+    → Lands (Fitting c) history sent states (role kind.Matchmaker m) plain
+    (matchmaker_row c (role kind.Matchmaker m) (durable_of matchmaker_rules (role kind.Matchmaker m) history) tt i)
 matchmaker_lands c history sent states h m i =
     let me = role kind.Matchmaker m in
     let d = durable_of matchmaker_rules me history in

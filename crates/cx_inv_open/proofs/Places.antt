@@ -34,7 +34,9 @@ use Rattle.cx_model.specs.Rules.{Rules}
 use Rattle.cx_model.specs.Turn.{Turn, turn, still}
 use Rattle.cx_model.specs.Unbatcher.{unbatcher_rules}
 use Rattle.cx_model.specs.World.{World, Change, change, come, ask, act_of, durable_part, turned, start, step, run, run_from}
-use Rattle.cx_inv_run.specs.States.{State, Down, BatcherIn, LeaderIn, ProxyIn, ReplicaIn, ReaderIn, ReplacerIn, plain, state_of, plain_volatile, batcher_volatile, leader_volatile, proxy_volatile, replica_volatile, reader_volatile, replacer_volatile, fresh_state}
+use Rattle.cx_inv_run.specs.States.{State, Down, BatcherIn, LeaderIn, ProxyIn, ReplicaIn, ReaderIn, ReplacerIn, plain, state_of}
+use Rattle.cx_inv_run.specs.States.{plain_volatile, batcher_volatile, leader_volatile, proxy_volatile, replica_volatile, reader_volatile}
+use Rattle.cx_inv_run.specs.States.{replacer_volatile, fresh_state}
 use Rattle.cx_inv_run.proofs.Histories.{set_running}
 use Rattle.cx_inv_run.proofs.Steps.{run_cluster}
 
@@ -99,8 +101,10 @@ module _ (w : World) (there : IsThere w.cluster w.roles) where
 
   changed : (e : Event) → Stays (change w e)
   changed (event.Write command batcher) = asked (event.Write command batcher) (record { client = command.client; seq = command.seq })
-  changed (event.Read client seq floor reader replica key) = asked (event.Read client seq floor reader replica key) (record { client = client; seq = seq })
-  changed (event.Session client seq floor replica key) = asked (event.Session client seq floor replica key) (record { client = client; seq = seq })
+  changed (event.Read client seq floor reader replica key) =
+      asked (event.Read client seq floor reader replica key) (record { client = client; seq = seq })
+  changed (event.Session client seq floor replica key) =
+      asked (event.Session client seq floor replica key) (record { client = client; seq = seq })
   changed (event.Deliver n cut) = came cut (slice_get w.sent n)
   changed (event.Tick r) = acts (Give input.Tick Whole) r r.kind
   changed (event.Order l order cut) = acts (Give (input.Order order) cut) (role kind.Leader l) kind.Leader
@@ -127,16 +131,19 @@ are_there c es = stay_there (start c) es (λ a. first_there (names_role c a) (fr
 less_so : (i n : ℕ) → nat_lt i n ≡ true → i < n
 less_so i n t = grind (arith, nat_tests)
 
-pub leader_place : (c : Cluster) (es : List Event) (l : ℕ) (v : LeaderVolatile) → (run c es).roles (role kind.Leader l) ≡ LeaderIn v → l < c.leaders
+pub leader_place : (c : Cluster) (es : List Event) (l : ℕ) (v : LeaderVolatile) → (run c es).roles (role kind.Leader l) ≡ LeaderIn v
+    → l < c.leaders
 leader_place c es l v is = go (are_there c es (role kind.Leader l))
   where
     go : ((run c es).roles (role kind.Leader l) ≡ Down) ⊎ (names_role ((run c es).cluster) (role kind.Leader l) ≡ true) → l < c.leaders
     go (inl down) = (let f : Down ≡ LeaderIn v = sym down ∙ is in cc)
     go (inr named) = less_so l c.leaders (subst (λ (d : Cluster). names_role d (role kind.Leader l) ≡ true) (run_cluster c es) named)
 
-pub replacer_place : (c : Cluster) (es : List Event) (x : ℕ) (v : ReplacerVolatile) → (run c es).roles (role kind.Replacer x) ≡ ReplacerIn v → x < c.replacers
+pub replacer_place : (c : Cluster) (es : List Event) (x : ℕ) (v : ReplacerVolatile) → (run c es).roles (role kind.Replacer x) ≡ ReplacerIn v
+    → x < c.replacers
 replacer_place c es x v is = go (are_there c es (role kind.Replacer x))
   where
-    go : ((run c es).roles (role kind.Replacer x) ≡ Down) ⊎ (names_role ((run c es).cluster) (role kind.Replacer x) ≡ true) → x < c.replacers
+    go : ((run c es).roles (role kind.Replacer x) ≡ Down) ⊎ (names_role ((run c es).cluster) (role kind.Replacer x) ≡ true)
+        → x < c.replacers
     go (inl down) = (let f : Down ≡ ReplacerIn v = sym down ∙ is in cc)
     go (inr named) = less_so x c.replacers (subst (λ (d : Cluster). names_role d (role kind.Replacer x) ≡ true) (run_cluster c es) named)

@@ -20,7 +20,9 @@ use Rattle.cx_model.specs.declared.states.Pending.{Pending}
 use Rattle.cx_model.specs.Member.{Member}
 use Rattle.cx_model.specs.Names.{names}
 use Rattle.cx_model.specs.Outcome.{Outcome, either_way}
-use Rattle.cx_model.specs.Proxy.{ProxyVolatile, pending_at, raised_to, pending_of, phase2a_to, column_for, members_for, chosen_to, chosen_in_to, announcement, propose_over, vote_counted, vote_for, proxy_takes, again_for, again_at, proxy_tick, proxy_row}
+use Rattle.cx_model.specs.Proxy.{ProxyVolatile, pending_at, raised_to, pending_of, phase2a_to, column_for, members_for, chosen_to}
+use Rattle.cx_model.specs.Proxy.{chosen_in_to, announcement, propose_over, vote_counted, vote_for, proxy_takes, again_for, again_at}
+use Rattle.cx_model.specs.Proxy.{proxy_tick, proxy_row}
 use Rattle.cx_inv_run.specs.Laws.{Lands}
 use Rattle.cx_inv_run.specs.States.{State, Given, ProxyIn}
 use Rattle.cx_inv_run.proofs.Senders.{proxy_kinds}
@@ -41,8 +43,8 @@ module _ (c : Cluster) (me : RoleId) where
   asks_in p h acceptors = each_in (phase2a_to me p) acceptors (λ a m. h)
 
   announcement_in : (p : Pending) → AllInWindow (announcement c me p)
-  announcement_in p =
-      both_in (map (chosen_to me p) (below c.replicas)) (chosen_in_to me p ∷ []) (each_in (chosen_to me p) (below c.replicas) (λ r m. tt)) (one_in (chosen_in_to me p) tt)
+  announcement_in p = both_in (map (chosen_to me p) (below c.replicas)) (chosen_in_to me p ∷ [])
+      (each_in (chosen_to me p) (below c.replicas) (λ r m. tt)) (one_in (chosen_in_to me p) tt)
 
   over_fine : (v : ProxyVolatile) (p : Pending) → IsIn p → (o : Option Pending) → Fine (propose_over c me v p o)
   over_fine v p h None = asks_in p h (column_for c p)
@@ -56,18 +58,20 @@ module _ (c : Cluster) (me : RoleId) where
   vote_fine : (v : ProxyVolatile) (a : ℕ) (i : Round) (o : Option Pending) → Fine (vote_for c me v a i o)
   vote_fine v a i None = none_in
   vote_fine v a i (Some p) =
-      either_way Fine (not (same_round p.round i && is_in a p.grid.members)) _ _ none_in
-      (either_way Fine p.done _ _ none_in (either_way Fine (is_in a p.marks) _ _ none_in (counted_fine v (record p { marks = with_mark a p.marks }))))
+      either_way Fine (not (same_round p.round i && is_in a p.grid.members)) _ _ none_in (either_way Fine p.done _ _ none_in
+      (either_way Fine (is_in a p.marks) _ _ none_in (counted_fine v (record p { marks = with_mark a p.marks }))))
 
   -- what is pending is asked for again
   module _ (ps : List Pending) (all : (p : Pending) → Member p ps → IsIn p) where
     again_in : (s : ℕ) (o : Option Pending) → pending_at s ps ≡ o → AllInWindow (again_for c me o)
     again_in s None e = none_in
-    again_in s (Some p) e = either_way AllInWindow p.done _ _ (announcement_in p) (asks_in p (all p (pending_found s ps p e).0) (members_for c p))
+    again_in s (Some p) e =
+        either_way AllInWindow p.done _ _ (announcement_in p) (asks_in p (all p (pending_found s ps p e).0) (members_for c p))
 
     all_again_in : (slots : List ℕ) → AllInWindow (again_at c me ps slots)
     all_again_in [] = none_in
-    all_again_in (s ∷ slots) = both_in (again_for c me (pending_at s ps)) (again_at c me ps slots) (again_in s (pending_at s ps) refl) (all_again_in slots)
+    all_again_in (s ∷ slots) =
+        both_in (again_for c me (pending_at s ps)) (again_at c me ps slots) (again_in s (pending_at s ps) refl) (all_again_in slots)
 
   tick_fine : (v : ProxyVolatile) (ps : List Pending) → ((p : Pending) → Member p v.pending → IsIn p) → Fine (proxy_tick c me v ps)
   tick_fine v [] all = none_in
@@ -81,11 +85,12 @@ module _ (c : Cluster) (me : RoleId) where
   takes_fine v from (msg.Phase2B i s) h = vote_fine v from.index i (pending_at s v.pending)
   takes_fine v from other h = none_in
 
-pub proxy_lands : (c : Cluster) (history : List KeptRecord) (sent : List Letter) (states : RoleId → State) → Facts c history sent states → Fitting c history sent states
+pub proxy_lands : (c : Cluster) (history : List KeptRecord) (sent : List Letter) (states : RoleId → State) → Facts c history sent states
+    → Fitting c history sent states
     → (p : ℕ) (v : ProxyVolatile) (i : Input) → states (role kind.Proxy p) ≡ ProxyIn v → Given sent (role kind.Proxy p) i
     → Lands (Fitting c) history sent states (role kind.Proxy p) ProxyIn (proxy_row c (role kind.Proxy p) tt v i)
-proxy_lands c history sent states facts h p v i is given =
-    lands c history sent states h me ProxyIn _ (none_new c history me (λ r k. proxy_keeps r k) _ (proxy_kinds c me refl v i).keeps) tt (row_fine i given)
+proxy_lands c history sent states facts h p v i is given = lands c history sent states h me ProxyIn
+    _ (none_new c history me (λ r k. proxy_keeps r k) _ (proxy_kinds c me refl v i).keeps) tt (row_fine i given)
   where
     me : RoleId
     me = role kind.Proxy p
@@ -96,6 +101,7 @@ proxy_lands c history sent states facts h p v i is given =
         (h.says _ (state.0.proposed q m).1).0
 
     row_fine : (i : Input) → Given sent me i → AllInWindow (proxy_row c me tt v i).sends
-    row_fine (input.Take x) given = either_way (Fine c me) (same_role x.to me && names c x) _ _ (takes_fine c me v x.from x.msg (h.says x given.1)) none_in
+    row_fine (input.Take x) given =
+        either_way (Fine c me) (same_role x.to me && names c x) _ _ (takes_fine c me v x.from x.msg (h.says x given.1)) none_in
     row_fine input.Tick given = tick_fine c me v v.pending pendings
     row_fine (input.Order order) given = none_in

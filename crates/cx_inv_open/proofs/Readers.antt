@@ -1,5 +1,6 @@
 -- A reader keeps its turns in order, none above the last one.
-use Rattle.std.specs.Prelude.{◌≡◌, ℕ, ◌+◌, ◌==◌, ◌≤◌, ◌&&◌, true, false, not, nat_le, nat_lt, max, List, [], ◌∷◌, ◌++◌, length, Option, None, Some, refl}
+use Rattle.std.specs.Prelude.{◌≡◌, ℕ, ◌+◌, ◌==◌, ◌≤◌, ◌&&◌, true, false, not, nat_le, nat_lt, max, List, [], ◌∷◌, ◌++◌, length, Option}
+use Rattle.std.specs.Prelude.{None, Some, refl}
 use Rattle.std.proofs.Common.{sym, subst, arith}
 use Rattle.std.proofs.lemmas.Bool.{and_parts, and_from, not-true}
 use Rattle.std.proofs.lemmas.Bool.Decides.{nat_tests}
@@ -28,7 +29,10 @@ use Rattle.cx_model.specs.Lists.{same_role-true}
 use Rattle.cx_model.specs.Matched.{is_counted, is_member_of, greatest_watermark, live_entries, rows_whole}
 use Rattle.cx_model.specs.Names.{names}
 use Rattle.cx_model.specs.Outcome.{Outcome, by_test, either_way}
-use Rattle.cx_model.specs.Reader.{Asked, Batch, ReaderDurable, ReaderVolatile, acked_by, ask_replicas, asked_anew, asked_for, begin, begin_if, finish, greatest_mark, has_acked, is_among, is_first, is_matched, is_of_batch, last_turn, match_ack_row, matched, pre_read_ack_row, reader_row, reader_rules, reader_takes, reader_tick, request_over, make_token}
+use Rattle.cx_model.specs.Reader.{Asked, Batch, ReaderDurable, ReaderVolatile, acked_by, ask_replicas, asked_anew, asked_for, begin}
+use Rattle.cx_model.specs.Reader.{begin_if, finish, greatest_mark, has_acked, is_among, is_first, is_matched, is_of_batch, last_turn}
+use Rattle.cx_model.specs.Reader.{match_ack_row, matched, pre_read_ack_row, reader_row, reader_rules, reader_takes, reader_tick}
+use Rattle.cx_model.specs.Reader.{request_over, make_token}
 use Rattle.cx_model.specs.Rules.{IsFit, written_after}
 use Rattle.cx_inv_run.specs.Laws.{Lands}
 use Rattle.cx_inv_run.specs.States.{State, ReaderIn, durable_of}
@@ -41,21 +45,22 @@ use Rattle.cx_inv_open.proofs.Keep.{calm_in, new_fits, lands}
 greatest_below : (n m last : ℕ) → n ≤ last → nat_le m last ≡ true → max n m ≤ last
 greatest_below n m last low high = grind (arith, nat_tests)
 
-written_below : (c : Cluster) (me : RoleId) (w : Written) (ks : List KeptRecord) → FitsAs c me w ks kind.Reader → (durable_of reader_rules me ks).turn ≤ last_turn
-    → (written_after reader_rules (durable_of reader_rules me ks) w).turn ≤ last_turn
+written_below : (c : Cluster) (me : RoleId) (w : Written) (ks : List KeptRecord) → FitsAs c me w ks kind.Reader
+    → (durable_of reader_rules me ks).turn ≤ last_turn → (written_after reader_rules (durable_of reader_rules me ks) w).turn ≤ last_turn
 written_below c me (written.Record (kept.Turn n)) ks h low =
     let d = durable_of reader_rules me ks in
     greatest_below d.turn n last_turn low (and_parts (n == d.turn + 1) (nat_le n last_turn) h.0).1
 written_below c me (written.Record other) ks h low = low
 written_below c me (written.Snap first) ks h low = absurd h
 
-pub turn_below : (c : Cluster) (me : RoleId) → me.kind ≡ kind.Reader → (ks : List KeptRecord) → AllFit c ks → (durable_of reader_rules me ks).turn ≤ last_turn
+pub turn_below : (c : Cluster) (me : RoleId) → me.kind ≡ kind.Reader → (ks : List KeptRecord) → AllFit c ks
+    → (durable_of reader_rules me ks).turn ≤ last_turn
 unfolding durable_of
 turn_below c me is [] h = omega arith
 turn_below c me is (k ∷ ks) h =
     let low = turn_below c me is ks h.1 in
-    by_test (λ (d : ReaderDurable). d.turn ≤ last_turn) (same_role me k.role) (written_after reader_rules (durable_of reader_rules me ks) k.what) (durable_of reader_rules me ks)
-    (λ t. written_below c me k.what ks
+    by_test (λ (d : ReaderDurable). d.turn ≤ last_turn) (same_role me k.role)
+    (written_after reader_rules (durable_of reader_rules me ks) k.what) (durable_of reader_rules me ks) (λ t. written_below c me k.what ks
     (subst (λ j. FitsAs c me k.what ks j) is (subst (λ a. FitsAs c a k.what ks a.kind) (sym (same_role-true me k.role t)) h.0)) low)
     (λ f. low)
 
@@ -91,7 +96,8 @@ module _ (c : Cluster) (me : RoleId) (d : ReaderDurable) (low : d.turn ≤ last_
     matched_fine b [] = finished b 0
     matched_fine b (e ∷ es) = tt
 
-    match_ack_fine : (from : RoleId) (u : Asking) (w : Round) (es : List Entry) (o : Option Batch) → Fine (match_ack_row c me d v from u w es o)
+    match_ack_fine : (from : RoleId) (u : Asking) (w : Round) (es : List Entry) (o : Option Batch)
+        → Fine (match_ack_row c me d v from u w es o)
     match_ack_fine from u w es None = tt
     match_ack_fine from u w es (Some b) =
         let more : Batch = record b { told = b.told ++ record { matchmaker = from.index; watermark = w; entries = es } ∷ [] } in
@@ -130,10 +136,12 @@ module _ (c : Cluster) (me : RoleId) (d : ReaderDurable) (low : d.turn ≤ last_
     row_fine input.Tick = ticks_fine v.running
     row_fine (input.Order order) = tt
 
-pub reader_lands : (c : Cluster) (history : List KeptRecord) (sent : List Letter) (states : RoleId → State) → Fitting c history sent states → (r : ℕ) (v : ReaderVolatile) (i : Input)
-    → Lands (Fitting c) history sent states (role kind.Reader r) ReaderIn (reader_row c (role kind.Reader r) (durable_of reader_rules (role kind.Reader r) history) v i)
+pub reader_lands : (c : Cluster) (history : List KeptRecord) (sent : List Letter) (states : RoleId → State) → Fitting c history sent states
+    → (r : ℕ) (v : ReaderVolatile) (i : Input)
+    → Lands (Fitting c) history sent states (role kind.Reader r) ReaderIn
+    (reader_row c (role kind.Reader r) (durable_of reader_rules (role kind.Reader r) history) v i)
 reader_lands c history sent states h r v i =
     let me = role kind.Reader r in
     let d = durable_of reader_rules me history in
-    lands c history sent states h me ReaderIn _ (new_fits reader_rules c history me (λ r x. x) _ (row_fine c me d (turn_below c me refl history h.fit) v i)) tt
-    (calm_in me _ tt (reader_kinds c me refl d v i))
+    lands c history sent states h me ReaderIn _ (new_fits reader_rules c history me (λ r x. x)
+    _ (row_fine c me d (turn_below c me refl history h.fit) v i)) tt (calm_in me _ tt (reader_kinds c me refl d v i))

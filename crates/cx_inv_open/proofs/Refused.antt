@@ -38,14 +38,14 @@ use Rattle.cx_inv_open.specs.Reopened.{refused_as, stored_as}
 
 module _ {D V : Type 0} (rules : Rules D V) (c : Cluster) (me : RoleId) where
   -- one more record at the end
-  one_more : (d : D) (i : ℕ) (rs : List Record) (r : Record) → refused_from rules c me d i rs ≡ None → IsFit rules c me (folded_from rules d rs) (Some r)
-      → refused_from rules c me d i (rs ++ r ∷ []) ≡ None
+  one_more : (d : D) (i : ℕ) (rs : List Record) (r : Record) → refused_from rules c me d i rs ≡ None
+      → IsFit rules c me (folded_from rules d rs) (Some r) → refused_from rules c me d i (rs ++ r ∷ []) ≡ None
   one_more d i [] r none fit = rw (fit.0, fit.1) refl
   one_more d i (x ∷ rs) r none fit = step (rules.fits c me d x) none (λ n. one_more (rules.after d x) (i + 1) rs r n fit)
     where
       step : (b : Bool) → (if b then refused_from rules c me (rules.after d x) (i + 1) rs else Some i) ≡ None
-          → (refused_from rules c me (rules.after d x) (i + 1) rs ≡ None → refused_from rules c me (rules.after d x) (i + 1) (rs ++ r ∷ []) ≡ None)
-          → (if b then refused_from rules c me (rules.after d x) (i + 1) (rs ++ r ∷ []) else Some i) ≡ None
+          → (refused_from rules c me (rules.after d x) (i + 1) rs ≡ None → refused_from rules c me (rules.after d x) (i + 1) (rs ++ r ∷ [])
+          ≡ None) → (if b then refused_from rules c me (rules.after d x) (i + 1) (rs ++ r ∷ []) else Some i) ≡ None
       step true n go = go n
       step false n go = cc
 
@@ -62,12 +62,14 @@ module _ {D V : Type 0} (rules : Rules D V) (c : Cluster) (me : RoleId) where
   left_by : (ks : List KeptRecord) → durable_of rules me ks ≡ folded rules (list_of rules me (reverse ks))
   left_by ks = sym (durable_by_time rules me (reverse ks) ∙ ap (λ (l : List KeptRecord). durable_of rules me l) (reverse-reverse ks))
 
-  changed : (list : List Record) (ks : List KeptRecord) → durable_of rules me ks ≡ folded rules list → refused rules c me list ≡ None → (w : Written) → StepFits ks w
-      → refused rules c me (list_after rules list w) ≡ None
-  changed list ks left before (written.Record r) fit = one_more rules.empty 0 list r before (subst (λ d. IsFit rules c me d (Some r)) left fit)
+  changed : (list : List Record) (ks : List KeptRecord) → durable_of rules me ks ≡ folded rules list → refused rules c me list ≡ None
+      → (w : Written) → StepFits ks w → refused rules c me (list_after rules list w) ≡ None
+  changed list ks left before (written.Record r) fit =
+      one_more rules.empty 0 list r before (subst (λ d. IsFit rules c me d (Some r)) left fit)
   changed list ks left before (written.Snap first) fit = subst (λ d. refused rules c me (rules.renewed d first) ≡ None) left fit
 
-  own_accepted : rules.whole rules.empty ≡ true → (ks : List KeptRecord) → OwnFit ks → refused rules c me (list_of rules me (reverse ks)) ≡ None
+  own_accepted : rules.whole rules.empty ≡ true → (ks : List KeptRecord) → OwnFit ks
+      → refused rules c me (list_of rules me (reverse ks)) ≡ None
   own_accepted blank [] h = rw blank refl
   own_accepted blank (k ∷ ks) h =
       let list = list_of rules me (reverse ks) in
@@ -79,8 +81,8 @@ module _ {D V : Type 0} (rules : Rules D V) (c : Cluster) (me : RoleId) where
       (λ f. before)
 
   -- its own are among all; what is told of a history is told of each earlier one
-  own_of : (Told : List KeptRecord → Type 0) → ((k : KeptRecord) (ks : List KeptRecord) → Told (k ∷ ks) → Told ks) → (k : Kind) → me.kind ≡ k
-      → ((w : Written) (ks : List KeptRecord) → Told ks → FitsAs c me w ks k → StepFits ks w)
+  own_of : (Told : List KeptRecord → Type 0) → ((k : KeptRecord) (ks : List KeptRecord) → Told (k ∷ ks) → Told ks) → (k : Kind)
+      → me.kind ≡ k → ((w : Written) (ks : List KeptRecord) → Told ks → FitsAs c me w ks k → StepFits ks w)
       → (ks : List KeptRecord) → Told ks → AllFit c ks → OwnFit ks
   own_of Told older k is of [] told h = tt
   own_of Told older k is of (x ∷ ks) told h = (
@@ -89,7 +91,8 @@ module _ {D V : Type 0} (rules : Rules D V) (c : Cluster) (me : RoleId) where
     own_of Told older k is of ks (older x ks told) h.1,
   )
 
-  accepted_as : rules.whole rules.empty ≡ true → (k : Kind) → me.kind ≡ k → ((w : Written) (ks : List KeptRecord) → FitsAs c me w ks k → StepFits ks w)
+  accepted_as : rules.whole rules.empty ≡ true → (k : Kind) → me.kind ≡ k
+      → ((w : Written) (ks : List KeptRecord) → FitsAs c me w ks k → StepFits ks w)
       → (ks : List KeptRecord) → AllFit c ks → refused rules c me (list_of rules me (reverse ks)) ≡ None
   accepted_as blank k is of ks h = own_accepted blank ks (own_of (λ l. Unit {0}) (λ x l t. tt) k is (λ w l t. of w l) ks tt h)
 
@@ -107,23 +110,28 @@ unbatcher_step : {A : Type 0} (c : Cluster) (me : RoleId) (w : Written) (ks : Li
 unbatcher_step c me (written.Record r) ks h = absurd h
 unbatcher_step c me (written.Snap first) ks h = absurd h
 
-leader_step : (c : Cluster) (me : RoleId) (w : Written) (ks : List KeptRecord) → FitsAs c me w ks kind.Leader → StepFits leader_rules c me ks w
+leader_step : (c : Cluster) (me : RoleId) (w : Written) (ks : List KeptRecord) → FitsAs c me w ks kind.Leader
+    → StepFits leader_rules c me ks w
 leader_step c me (written.Record r) ks h = h
 leader_step c me (written.Snap first) ks h = absurd h
 
-acceptor_step : (c : Cluster) (me : RoleId) (w : Written) (ks : List KeptRecord) → FitsAs c me w ks kind.Acceptor → StepFits acceptor_rules c me ks w
+acceptor_step : (c : Cluster) (me : RoleId) (w : Written) (ks : List KeptRecord) → FitsAs c me w ks kind.Acceptor
+    → StepFits acceptor_rules c me ks w
 acceptor_step c me (written.Record r) ks h = h
 acceptor_step c me (written.Snap first) ks h = absurd h
 
-matchmaker_step : (c : Cluster) (me : RoleId) (w : Written) (ks : List KeptRecord) → FitsAs c me w ks kind.Matchmaker → StepFits matchmaker_rules c me ks w
+matchmaker_step : (c : Cluster) (me : RoleId) (w : Written) (ks : List KeptRecord) → FitsAs c me w ks kind.Matchmaker
+    → StepFits matchmaker_rules c me ks w
 matchmaker_step c me (written.Record r) ks h = h
 matchmaker_step c me (written.Snap first) ks h = absurd h
 
-reader_step : (c : Cluster) (me : RoleId) (w : Written) (ks : List KeptRecord) → FitsAs c me w ks kind.Reader → StepFits reader_rules c me ks w
+reader_step : (c : Cluster) (me : RoleId) (w : Written) (ks : List KeptRecord) → FitsAs c me w ks kind.Reader
+    → StepFits reader_rules c me ks w
 reader_step c me (written.Record r) ks h = h
 reader_step c me (written.Snap first) ks h = absurd h
 
-replacer_step : (c : Cluster) (me : RoleId) (w : Written) (ks : List KeptRecord) → FitsAs c me w ks kind.Replacer → StepFits replacer_rules c me ks w
+replacer_step : (c : Cluster) (me : RoleId) (w : Written) (ks : List KeptRecord) → FitsAs c me w ks kind.Replacer
+    → StepFits replacer_rules c me ks w
 replacer_step c me (written.Record r) ks h = h
 replacer_step c me (written.Snap first) ks h = absurd h
 
@@ -133,25 +141,26 @@ abbrev ToldTo : RoleId → List KeptRecord → Type 0
 ToldTo me ks = has_fitting_floors (log_in ks me.index) ≡ true
 
 front_told : (b : Bool) (vs ws : List Value) → has_fitting_floors (if b then vs ++ ws else vs) ≡ true → has_fitting_floors vs ≡ true
-front_told true vs ws h =
-    (and_parts (has_fitting_floors vs) (has_fitting_floors ws) (sym (list_all-append (λ (v : Value). list_all (λ (k : Command). floor_fits k.seq k.floor) (commands_of v)) vs ws) ∙ h)).0
+front_told true vs ws h = (and_parts (has_fitting_floors vs) (has_fitting_floors ws)
+    (sym (list_all-append (λ (v : Value). list_all (λ (k : Command). floor_fits k.seq k.floor) (commands_of v)) vs ws) ∙ h)).0
 front_told false vs ws h = h
 
 older_told : (me : RoleId) (k : KeptRecord) (ks : List KeptRecord) → ToldTo me (k ∷ ks) → ToldTo me ks
 unfolding log_in
 older_told me k ks h = front_told (same_role (role kind.Replica me.index) k.role) (log_in ks me.index) (values_in k.what) h
 
-replica_step : (c : Cluster) (me : RoleId) (w : Written) (ks : List KeptRecord) → ToldTo me ks → FitsAs c me w ks kind.Replica → StepFits replica_rules c me ks w
+replica_step : (c : Cluster) (me : RoleId) (w : Written) (ks : List KeptRecord) → ToldTo me ks → FitsAs c me w ks kind.Replica
+    → StepFits replica_rules c me ks w
 replica_step c me (written.Record r) ks told h = h
 replica_step c me (written.Snap first) ks told h = h told
 
 replica_accepted : (c : Cluster) (me : RoleId) → me.kind ≡ kind.Replica → (ks : List KeptRecord) → ToldTo me ks → AllFit c ks
     → refused replica_rules c me (list_of replica_rules me (reverse ks)) ≡ None
-replica_accepted c me is ks told h =
-    own_accepted replica_rules c me refl ks (own_of replica_rules c me (ToldTo me) (older_told me) kind.Replica is (replica_step c me) ks told h)
+replica_accepted c me is ks told h = own_accepted replica_rules c me refl ks
+    (own_of replica_rules c me (ToldTo me) (older_told me) kind.Replica is (replica_step c me) ks told h)
 
-pub none_refused : (c : Cluster) (kept : List KeptRecord) → AllFit c (reverse kept) → (me : RoleId) → (me.kind ≡ kind.Replica → ToldTo me (reverse kept))
-    → refused_as c me (stored_as me kept me.kind) me.kind ≡ None
+pub none_refused : (c : Cluster) (kept : List KeptRecord) → AllFit c (reverse kept) → (me : RoleId)
+    → (me.kind ≡ kind.Replica → ToldTo me (reverse kept)) → refused_as c me (stored_as me kept me.kind) me.kind ≡ None
 none_refused c kept h me told =
     subst (λ (l : List KeptRecord). refused_as c me (stored_as me l me.kind) me.kind ≡ None) (reverse-reverse kept) (go me.kind refl)
   where

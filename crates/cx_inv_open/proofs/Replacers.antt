@@ -1,5 +1,6 @@
 -- A replacer keeps its own ballots, each above its last.
-use Rattle.std.specs.Prelude.{◌≡◌, ℕ, ◌+◌, ◌<◌, ◌==◌, ◌&&◌, ◌||◌, Bool, true, false, max, not, bytes_eq, nat_lt, List, length, Option, None, Some, if◌then◌else◌, refl}
+use Rattle.std.specs.Prelude.{◌≡◌, ℕ, ◌+◌, ◌<◌, ◌==◌, ◌&&◌, ◌||◌, Bool, true, false, max, not, bytes_eq, nat_lt, List, length, Option, None}
+use Rattle.std.specs.Prelude.{Some, if◌then◌else◌, refl}
 use Rattle.std.proofs.Common.{subst, arith}
 use Rattle.std.proofs.lemmas.Bool.{and_from}
 use Rattle.std.proofs.lemmas.Bool.Decides.{nat_tests}
@@ -29,7 +30,9 @@ use Rattle.cx_model.specs.Lists.{number_itself}
 use Rattle.cx_model.specs.Matched.{enough, first_set}
 use Rattle.cx_model.specs.Names.{names, names_ballot, names_set}
 use Rattle.cx_model.specs.Outcome.{Outcome, either_way}
-use Rattle.cx_model.specs.Replacer.{ReplacerDurable, ReplacerVolatile, begin_in, boot_counted, decide, halt_counted, has_halted, is_booting, is_deciding, is_resting, is_stopping, joined_entries, next_counted, replacer_orders, replacer_row, replacer_rules, replacer_takes, tick_in, to_decide}
+use Rattle.cx_model.specs.Replacer.{ReplacerDurable, ReplacerVolatile, begin_in, boot_counted, decide, halt_counted, has_halted, is_booting}
+use Rattle.cx_model.specs.Replacer.{is_deciding, is_resting, is_stopping, joined_entries, next_counted, replacer_orders, replacer_row}
+use Rattle.cx_model.specs.Replacer.{replacer_rules, replacer_takes, tick_in, to_decide}
 use Rattle.cx_model.specs.Rules.{IsFit}
 use Rattle.cx_inv_run.specs.Laws.{Lands}
 use Rattle.cx_inv_run.specs.States.{State, ReplacerIn, durable_of}
@@ -49,7 +52,8 @@ module _ (c : Cluster) (me : RoleId) (place : me.index < c.replacers) where
   lead_fits : (own seen b : Round) → lead_after own seen me.index ≡ Some b → ballot_fits own b ≡ true
   lead_fits own seen b is = go (max own.r seen.r == 4294967295) is
     where
-      go : (t : Bool) → (if t then None else Some (record { r = max own.r seen.r + 1; id = me.index; s = 0 })) ≡ Some b → ballot_fits own b ≡ true
+      go : (t : Bool) → (if t then None else Some (record { r = max own.r seen.r + 1; id = me.index; s = 0 })) ≡ Some b
+          → ballot_fits own b ≡ true
       go true q = cc
       go false q =
           let next : Round = record { r = max own.r seen.r + 1; id = me.index; s = 0 } in
@@ -60,7 +64,8 @@ module _ (c : Cluster) (me : RoleId) (place : me.index < c.replacers) where
     abbrev Fine : Outcome ReplacerVolatile → Type 0
     Fine o = IsFit replacer_rules c me d o.kept
 
-    begun : (v : ReplacerVolatile) (s : List ℕ) (o : Option Round) → ((b : Round) → o ≡ Some b → ballot_fits d.own b ≡ true) → Fine (begin_in me v s o)
+    begun : (v : ReplacerVolatile) (s : List ℕ) (o : Option Round) → ((b : Round) → o ≡ Some b → ballot_fits d.own b ≡ true)
+        → Fine (begin_in me v s o)
     begun v s None fits = tt
     begun v s (Some b) fits = (fits b refl, refl)
 
@@ -97,7 +102,8 @@ module _ (c : Cluster) (me : RoleId) (place : me.index < c.replacers) where
     takes_fine v from (msg.BootB s) =
         either_way Fine (not (is_booting v.mode && bytes_eq s v.next)) _ _ tt
         (either_way Fine (is_in from.index v.counted) _ _ tt (boot_fine v (with_mark from.index v.counted)))
-    takes_fine v from (msg.StopNack b other) = either_way Fine (not (same_round b d.own) || is_resting v.mode || is_booting v.mode) _ _ tt tt
+    takes_fine v from (msg.StopNack b other) =
+        either_way Fine (not (same_round b d.own) || is_resting v.mode || is_booting v.mode) _ _ tt tt
     takes_fine v from (msg.Sets s) = either_way Fine (is_above s v.set) _ _ tt tt
     takes_fine v from other = tt
 
@@ -112,9 +118,10 @@ module _ (c : Cluster) (me : RoleId) (place : me.index < c.replacers) where
     row_fine v input.Tick = ticks_fine v v.mode
     row_fine v (input.Order order) = orders_fine v order
 
-pub replacer_lands : (c : Cluster) (history : List KeptRecord) (sent : List Letter) (states : RoleId → State) → Fitting c history sent states
-    → (x : ℕ) (v : ReplacerVolatile) → x < c.replacers → (i : Input)
-    → Lands (Fitting c) history sent states (role kind.Replacer x) ReplacerIn (replacer_row c (role kind.Replacer x) (durable_of replacer_rules (role kind.Replacer x) history) v i)
+pub replacer_lands : (c : Cluster) (history : List KeptRecord) (sent : List Letter) (states : RoleId → State)
+    → Fitting c history sent states → (x : ℕ) (v : ReplacerVolatile) → x < c.replacers → (i : Input)
+    → Lands (Fitting c) history sent states (role kind.Replacer x) ReplacerIn
+    (replacer_row c (role kind.Replacer x) (durable_of replacer_rules (role kind.Replacer x) history) v i)
 replacer_lands c history sent states h x v place i =
     let me = role kind.Replacer x in
     let d = durable_of replacer_rules me history in

@@ -1,5 +1,6 @@
 -- A replica keeps values that name clients of the cluster, in slots below 2^40.
-use Rattle.std.specs.Prelude.{◌≡◌, ℕ, zero, suc, ◌+◌, ◌-◌, ◌≤◌, ◌==◌, ◌&&◌, min, max, true, false, nat_lt, nat_le, List, ◌∷◌, length, slice_get, Option, None, Some, refl}
+use Rattle.std.specs.Prelude.{◌≡◌, ℕ, zero, suc, ◌+◌, ◌-◌, ◌≤◌, ◌==◌, ◌&&◌, min, max, true, false, nat_lt, nat_le, List, ◌∷◌, length}
+use Rattle.std.specs.Prelude.{slice_get, Option, None, Some, refl}
 use Rattle.std.specs.List.{list_all, list_any}
 use Rattle.std.proofs.Common.{subst, sym, inl, inr, arith}
 use Rattle.std.proofs.lemmas.Bool.{and_parts, and_from}
@@ -22,7 +23,8 @@ use Rattle.cx_model.specs.declared.states.Deferred.{Deferred}
 use Rattle.cx_model.specs.Member.{Member}
 use Rattle.cx_model.specs.Names.{names, names_body, names_role, names_value}
 use Rattle.cx_model.specs.Outcome.{Outcome, by_test, either_way}
-use Rattle.cx_model.specs.Replica.{ReplicaDurable, ReplicaVolatile, before, held, is_renewal_whole, replica_renewed, replica_rules, replica_row, replica_takes, read_row, fetched_by, fetch_found, with_early}
+use Rattle.cx_model.specs.Replica.{ReplicaDurable, ReplicaVolatile, before, held, is_renewal_whole, replica_renewed, replica_rules}
+use Rattle.cx_model.specs.Replica.{replica_row, replica_takes, read_row, fetched_by, fetch_found, with_early}
 use Rattle.cx_model.specs.Request.{same_read}
 use Rattle.cx_model.specs.RenewedLaws.{renewed_fits}
 use Rattle.cx_model.specs.Rules.{IsFit, refused}
@@ -45,13 +47,15 @@ AllNamed c vs = list_all (λ (v : Value). names_value c v) vs ≡ true
 
 following_named : (c : Cluster) (early : List Placed) → AreNamed c early → (s most : ℕ) → AllNamed c (following early s most)
 following_named c early h s zero = refl
-following_named c early h s (suc most) = step (value_for s early) refl (following early (s + 1) most) (following_named c early h (s + 1) most)
+following_named c early h s (suc most) =
+    step (value_for s early) refl (following early (s + 1) most) (following_named c early h (s + 1) most)
   where
     step : (o : Option Value) → value_for s early ≡ o → (vs : List Value) → AllNamed c vs → AllNamed c (before_following o vs)
     step None e vs rest = refl
     step (Some v) e vs rest =
         let r = waits_found s early v e in
-        and_from (names_value c v) (list_all (λ (v : Value). names_value c v) vs) (subst (λ (w : Value). names_value c w ≡ true) r.3 (h r.0 r.1)) rest
+        and_from (names_value c v) (list_all (λ (v : Value). names_value c v) vs)
+        (subst (λ (w : Value). names_value c w ≡ true) r.3 (h r.0 r.1)) rest
 
 following_few : (early : List Placed) (s most : ℕ) → length (following early s most) ≤ most
 following_few early s zero = omega arith
@@ -62,7 +66,8 @@ following_few early s (suc most) = step (value_for s early) (following early (s 
     step (Some v) vs few = omega arith
 
 -- slots end at 2^40
-ready_short : (held : ℕ) (early : List Placed) (v : Value) → IsSlot held → nat_le (held + length (ready_values held early v)) 1099511627776 ≡ true
+ready_short : (held : ℕ) (early : List Placed) (v : Value) → IsSlot held
+    → nat_le (held + length (ready_values held early v)) 1099511627776 ≡ true
 ready_short held early v below =
     let few = following_few early (held + 1) (min 31 (1099511627776 - (held + 1))) in
     let short : held + length (ready_values held early v) ≤ 1099511627776 = omega arith in
@@ -76,11 +81,13 @@ abbrev HasSlot : Msg → Type 0
 HasSlot (msg.Chosen s v) = IsSlot s
 HasSlot other = Unit {0}
 
-module _ (c : Cluster) (me : RoleId) (d : ReplicaDurable) (v : ReplicaVolatile) (h : AreNamed c v.early) (whole : is_renewal_whole d ≡ true) where
+module _ (c : Cluster) (me : RoleId) (d : ReplicaDurable) (v : ReplicaVolatile) (h : AreNamed c v.early)
+    (whole : is_renewal_whole d ≡ true) where
   abbrev Fine : Outcome ReplicaVolatile → Type 0
   Fine o = IsFit replica_rules c me d o.kept × AreNamed c o.volatile.early
 
-  chosen_fine : (from : RoleId) (s : ℕ) (w : Value) → IsSlot s → names_value c w ≡ true → Fine (replica_takes c me d v from (msg.Chosen s w))
+  chosen_fine : (from : RoleId) (s : ℕ) (w : Value) → IsSlot s → names_value c w ≡ true
+      → Fine (replica_takes c me d v from (msg.Chosen s w))
   chosen_fine from s w slot named =
       by_test Fine (nat_lt s (held d)) _ _ (λ t. (tt, h))
       (λ low. by_test Fine (nat_le (held d + 32) s) _ _ (λ t. (tt, h))
@@ -99,9 +106,8 @@ module _ (c : Cluster) (me : RoleId) (d : ReplicaDurable) (v : ReplicaVolatile) 
       fitting : IsSlot (held d) → (is_renewal_whole d && list_all (λ (x : Value). names_value c x) (ready_values (held d) v.early w)
           && nat_le (held d + length (ready_values (held d) v.early w)) 1099511627776) ≡ true
       fitting here =
-          and_from _ _
-          (and_from _ _ whole (and_from (names_value c w) _ named (following_named c v.early h (held d + 1) (min 31 (1099511627776 - (held d + 1))))))
-          (ready_short (held d) v.early w here)
+          and_from _ _ (and_from _ _ whole (and_from (names_value c w) _ named
+          (following_named c v.early h (held d + 1) (min 31 (1099511627776 - (held d + 1)))))) (ready_short (held d) v.early w here)
 
       fits : IsSlot (held d) → IsFit replica_rules c me d (Some (kept.Log (ready_values (held d) v.early w)))
       fits here = (fitting here, whole)
@@ -123,21 +129,27 @@ module _ (c : Cluster) (me : RoleId) (d : ReplicaDurable) (v : ReplicaVolatile) 
   takes_fine : (from : RoleId) (m : Msg) → HasSlot m → names_body c m ≡ true → Fine (replica_takes c me d v from m)
   takes_fine from (msg.Chosen s value) slot named = chosen_fine from s value slot named
   takes_fine from (msg.Read t n key) slot named = read_fine (record { token = t; mark = n; key = key })
-  takes_fine from (msg.SessRead seq n key) slot named = read_fine (record { token = record { client = from.index; seq = seq }; mark = n; key = key })
+  takes_fine from (msg.SessRead seq n key) slot named =
+      read_fine (record { token = record { client = from.index; seq = seq }; mark = n; key = key })
   takes_fine from (msg.Fetch s) slot named =
       either_way Fine (nat_lt s d.first) _ _ (tt, asked_named from s) (fetch_fine from s (slice_get d.log (s - d.first)))
   takes_fine from other slot named = (tt, h)
 
-module _ (c : Cluster) (history : List KeptRecord) (sent : List Letter) (states : RoleId → State) (facts : Facts c history sent states) (ties : Ties history sent states) (h : Fitting c history sent states) where
+module _ (c : Cluster) (history : List KeptRecord) (sent : List Letter) (states : RoleId → State) (facts : Facts c history sent states)
+    (ties : Ties history sent states) (h : Fitting c history sent states) where
   has_slot : (from to : RoleId) (m : Msg) → Member (letter from to m) sent → HasSlot m
-  has_slot from to (msg.Chosen s v) x = let chosen = facts.says _ x in proposed_slot c history sent states h chosen.0 s v (chosen_proposed c history sent states facts chosen.0 s v chosen.1)
+  has_slot from to (msg.Chosen s v) x = let chosen = facts.says _ x in proposed_slot c history sent states h chosen.0 s v
+      (chosen_proposed c history sent states facts chosen.0 s v chosen.1)
   has_slot from to other x = tt
 
-  pub replica_lands : (p : ℕ) (v : ReplicaVolatile) (i : Input) → states (role kind.Replica p) ≡ ReplicaIn v → Given sent (role kind.Replica p) i
-      → Lands (Fitting c) history sent states (role kind.Replica p) ReplicaIn (replica_row c (role kind.Replica p) (durable_of replica_rules (role kind.Replica p) history) v i)
+  pub replica_lands : (p : ℕ) (v : ReplicaVolatile) (i : Input) → states (role kind.Replica p) ≡ ReplicaIn v
+      → Given sent (role kind.Replica p) i
+      → Lands (Fitting c) history sent states (role kind.Replica p) ReplicaIn
+      (replica_row c (role kind.Replica p) (durable_of replica_rules (role kind.Replica p) history) v i)
   replica_lands p v i is given =
       let fine = row_fine i given in
-      lands c history sent states h me ReplicaIn _ (new_fits replica_rules c history me (λ r x. x) _ fine.0) fine.1 (calm_in me _ tt (replica_kinds c me refl d v i))
+      lands c history sent states h me ReplicaIn _ (new_fits replica_rules c history me (λ r x. x) _ fine.0) fine.1
+      (calm_in me _ tt (replica_kinds c me refl d v i))
     where
       me : RoleId
       me = role kind.Replica p
@@ -155,8 +167,8 @@ module _ (c : Cluster) (history : List KeptRecord) (sent : List Letter) (states 
       row_fine (input.Take x) given =
           by_test (Fine c me d v named whole) (same_role x.to me && names c x) _ _
           (λ t. let a = and_parts (same_role x.to me) (names c x) t in
-          takes_fine c me d v named whole x.from x.msg (has_slot x.from x.to x.msg given.1) (and_parts (names_role c x.from && names_role c x.to) (names_body c x.msg) a.1).1)
-          (λ f. (tt, named))
+          takes_fine c me d v named whole x.from x.msg (has_slot x.from x.to x.msg given.1)
+          (and_parts (names_role c x.from && names_role c x.to) (names_body c x.msg) a.1).1) (λ f. (tt, named))
       row_fine input.Tick given = (tt, named)
       row_fine (input.Order order) given = (tt, named)
 
@@ -179,4 +191,5 @@ module _ (c : Cluster) (history : List KeptRecord) (sent : List Letter) (states 
           let above = is.1 in
           let from : d.first ≤ first = omega (arith, above) in
           let most : first ≤ held d = subst (λ n. n ≤ held d) (sym is.0) (limit_held c d v) in
-          renewed_fits d first from (tied_ordered d (log_in history p) tied) c me most (renewable c d (log_in history p) tied (logged_named c history h.fit p) told)
+          renewed_fits d first from (tied_ordered d (log_in history p) tied) c me most
+          (renewable c d (log_in history p) tied (logged_named c history h.fit p) told)

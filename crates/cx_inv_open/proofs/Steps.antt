@@ -39,8 +39,8 @@ use Rattle.cx_inv_open.proofs.Told.{run_told}
 
 -- what is known of every moment
 abbrev Known : Cluster → Property
-Known c kept sent states =
-    Facts c kept sent states × LowFacts c kept sent states × Ties kept sent states × ((l : ℕ) (v : LeaderVolatile) → states (role kind.Leader l) ≡ LeaderIn v → l < c.leaders)
+Known c kept sent states = Facts c kept sent states × LowFacts c kept sent states × Ties kept sent states
+    × ((l : ℕ) (v : LeaderVolatile) → states (role kind.Leader l) ≡ LeaderIn v → l < c.leaders)
     × ((x : ℕ) (v : ReplacerVolatile) → states (role kind.Replacer x) ≡ ReplacerIn v → x < c.replacers)
 
 known : (c : Cluster) (es : List Event) → HoldsIn (Known c) (run c es)
@@ -63,11 +63,14 @@ request_in n other = none_in
 
 fitting_laws : (c : Cluster) → Laws c (λ n e. Unit {0}) (Known c) (Fitting c)
 fitting_laws c = record {
-  same = λ kept sent states others same h. record { fit = h.fit; says = h.says; running = λ a. subst (λ (s : State). InRange c s) (same a) (h.running a) };
+  same = λ kept sent states others same h.
+      record { fit = h.fit; says = h.says; running = λ a. subst (λ (s : State). InRange c s) (same a) (h.running a) };
   start = λ states starts. record { fit = tt; says = none_in; running = λ a. start_range c a.kind (states a) (starts a) };
   stop = λ kept sent states me h. record { fit = h.fit; says = h.says; running = with_state c kept sent states h me Down tt };
-  wake = λ kept sent states me h down. record { fit = h.fit; says = h.says; running = with_state c kept sent states h me (fresh_state c me.kind) (fresh_range c me.kind) };
-  ask = λ kept sent states n e allowed known h. record { fit = h.fit; says = both_in sent (request n e) h.says (request_in n e); running = h.running };
+  wake = λ kept sent states me h down.
+      record { fit = h.fit; says = h.says; running = with_state c kept sent states h me (fresh_state c me.kind) (fresh_range c me.kind) };
+  ask = λ kept sent states n e allowed known h.
+      record { fit = h.fit; says = both_in sent (request n e) h.says (request_in n e); running = h.running };
   batcher = λ kept sent states b v i known h is given.
       let me = role kind.Batcher b in
       let kinds = batcher_kinds c me refl v i in

@@ -32,13 +32,15 @@ happened w (e ∷ es) h m = elim (happened (step w e) es h m) [
   | inr k ↦ inr (inr k)
 ]
 
-asked_fits : (c : Cluster) (es : List Event) → list_all is_valid_event es ≡ true → (k : Command) → WasSent (run c es).events k → floor_fits k.seq k.floor ≡ true
+asked_fits : (c : Cluster) (es : List Event) → list_all is_valid_event es ≡ true → (k : Command) → WasSent (run c es).events k
+    → floor_fits k.seq k.floor ≡ true
 asked_fits c es valid k (b, m) = elim (happened (run c []) es _ m) [
   | inl none ↦ absurd none
   | inr there ↦ all-Member is_valid_event es valid (event.Write k b) there
 ]
 
-pub run_told : (c : Cluster) (es : List Event) → list_all is_valid_event es ≡ true → (p : ℕ) → has_fitting_floors (log_in (reverse (run c es).kept) p) ≡ true
+pub run_told : (c : Cluster) (es : List Event) → list_all is_valid_event es ≡ true → (p : ℕ)
+    → has_fitting_floors (log_in (reverse (run c es).kept) p) ≡ true
 run_told c es valid p =
     subst (λ (l : List Value). has_fitting_floors l ≡ true) (log_by_time p (run c es).kept)
     (Member-all (λ (v : Value). list_all (λ (k : Command). floor_fits k.seq k.floor) (commands_of v)) (log_of p (run c es).kept) each)

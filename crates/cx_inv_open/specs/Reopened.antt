@@ -47,8 +47,9 @@ stored_as me kept kind.Unbatcher = list_of unbatcher_rules me kept
 stored_as me kept kind.Reader = list_of reader_rules me kept
 stored_as me kept kind.Replacer = list_of replacer_rules me kept
 
--- Each role can be opened again from the list in its store: it refuses none of its records. Of a replica it is said of events that the world takes:
--- a request that tells a floor more than 64 below its number, which the world takes none of, would leave a note that no renewed list can have.
+-- Each role can be opened again from the list in its store: it refuses none of its records. Of a replica it is said of events that the
+-- world takes: a request that tells a floor more than 64 below its number, which the world takes none of, would leave a note that no
+-- renewed list can have.
 abbrev pub RolesReopen : Cluster → List Event → Type 0
 RolesReopen c es =
     (me : RoleId) → (me.kind ≡ kind.Replica → list_all is_valid_event es ≡ true)

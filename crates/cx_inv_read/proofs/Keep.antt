@@ -27,7 +27,8 @@ use Rattle.cx_inv_run.proofs.Rounds.{same_round-true, same_round-itself}
 use Rattle.cx_inv_match.specs.Facts.{Facts}
 use Rattle.cx_inv_match.proofs.Grow.{more_nth}
 use Rattle.cx_inv_vote.proofs.Readers.{same_asking-true}
-use Rattle.cx_inv_read.specs.Reads.{Has, HasSent, Covers, IsRaised, IsReadAnswer, IsNew, ReadSays, IsAcked, HasEvidence, HasBatch, InReader, FreshReadFacts}
+use Rattle.cx_inv_read.specs.Reads.{Has, HasSent, Covers, IsRaised, IsReadAnswer, IsNew, ReadSays, IsAcked, HasEvidence, HasBatch, InReader}
+use Rattle.cx_inv_read.specs.Reads.{FreshReadFacts}
 use Rattle.cx_inv_read.proofs.Rows.{Each}
 
 -- from the asking on
@@ -44,7 +45,8 @@ module _ (history longer : List KeptRecord) (more : Has longer history) where
   pub still_raised : (w : Round) → IsRaised history w → IsRaised longer w
   still_raised w h = elim h [ inl e ↦ inl e | inr x ↦ inr (x.0, x.1, more _ x.2) ]
 
-  still_answer : (c : Cluster) (asked : List KeptRecord) (m : RoleId) (w : Round) (es : List Entry) → IsReadAnswer c asked history m w es → IsReadAnswer c asked longer m w es
+  still_answer : (c : Cluster) (asked : List KeptRecord) (m : RoleId) (w : Round) (es : List Entry) → IsReadAnswer c asked history m w es
+      → IsReadAnswer c asked longer m w es
   still_answer c asked m w es h = record {
     running = h.running;
     all = h.all;
@@ -54,15 +56,16 @@ module _ (history longer : List KeptRecord) (more : Has longer history) where
     has_watermark = h.has_watermark;
   }
 
-  pub still_says : (c : Cluster) (asked : List KeptRecord) (t : Token) (from to : RoleId) (m : Msg) → ReadSays c asked t history from to m → ReadSays c asked t longer from to m
+  pub still_says : (c : Cluster) (asked : List KeptRecord) (t : Token) (from to : RoleId) (m : Msg) → ReadSays c asked t history from to m
+      → ReadSays c asked t longer from to m
   still_says c asked t from to (msg.MatchReadAck u w es) h = λ e. still_answer c asked from w es (h e)
   still_says c asked t from to (msg.PreRead u w) h = λ e. still_raised w (h e)
   still_says c asked t from to (msg.PreReadAck u w n) h = λ e. let x = h e in (x.0, still_raised w x.1)
   still_says c asked t from to (msg.Read u n key) h = h
   still_says c asked t from to other h = tt
 
-  pub still_evidence : (c : Cluster) (asked : List KeptRecord) (sent0 : List Letter) (u : Asking) (sent : List Letter) (w : Round) → HasEvidence c asked sent0 u history sent w
-      → HasEvidence c asked sent0 u longer sent w
+  pub still_evidence : (c : Cluster) (asked : List KeptRecord) (sent0 : List Letter) (u : Asking) (sent : List Letter) (w : Round)
+      → HasEvidence c asked sent0 u history sent w → HasEvidence c asked sent0 u longer sent w
   still_evidence c asked sent0 u sent w (inl e) = inl e
   still_evidence c asked sent0 u sent w (inr (inl x)) = inr (inl x)
   still_evidence c asked sent0 u sent w (inr (inr k)) = inr (inr (record {
@@ -76,7 +79,8 @@ module _ (history longer : List KeptRecord) (more : Has longer history) where
     covers = k.covers;
   }))
 
-  pub still_batch : (c : Cluster) (asked : List KeptRecord) (t : Token) (a : RoleId) (s : List ℕ) (o : Option Batch) → HasBatch c asked t history a s o → HasBatch c asked t longer a s o
+  pub still_batch : (c : Cluster) (asked : List KeptRecord) (t : Token) (a : RoleId) (s : List ℕ) (o : Option Batch)
+      → HasBatch c asked t history a s o → HasBatch c asked t longer a s o
   still_batch c asked t a s None h = tt
   still_batch c asked t a s (Some b) h = record {
     set = h.set;
@@ -87,7 +91,8 @@ module _ (history longer : List KeptRecord) (more : Has longer history) where
     under = h.under;
   }
 
-  pub still_reader : (c : Cluster) (asked : List KeptRecord) (t : Token) (a : RoleId) (st : State) → InReader c asked t history a st → InReader c asked t longer a st
+  pub still_reader : (c : Cluster) (asked : List KeptRecord) (t : Token) (a : RoleId) (st : State) → InReader c asked t history a st
+      → InReader c asked t longer a st
   still_reader c asked t a (ReaderIn v) h = still_batch c asked t a v.set v.running h
   still_reader c asked t a other h = tt
 
@@ -105,18 +110,20 @@ ack_is u w other h = cc
 is_ack-itself : (u : Asking) (w : Round) (n : ℕ) → is_ack u w (msg.PreReadAck u w n) ≡ true
 is_ack-itself u w n = and_from _ _ (and_from _ _ (number_itself u.reader) (number_itself u.turn)) (same_round-itself w)
 
-acked_cases : (sent ds : List Letter) (u : Asking) (w : Round) (a : RoleId) (n : ℕ) → IsAcked (sent ++ ds) u w a n → IsAcked sent u w a n ⊎ IsAcked ds u w a n
+acked_cases : (sent ds : List Letter) (u : Asking) (w : Round) (a : RoleId) (n : ℕ) → IsAcked (sent ++ ds) u w a n
+    → IsAcked sent u w a n ⊎ IsAcked ds u w a n
 acked_cases sent ds u w a n h = elim (Member-cases _ sent ds h.1) [ inl m ↦ inl (h.0, m) | inr m ↦ inr (h.0, m) ]
 
-module _ (c : Cluster) (asked : List KeptRecord) (sent0 : List Letter) (t : Token) (history : List KeptRecord) (sent : List Letter) (states : RoleId → State)
-    (facts : Facts c history sent states) (reads : FreshReadFacts c asked sent0 t history sent states) where
+module _ (c : Cluster) (asked : List KeptRecord) (sent0 : List Letter) (t : Token) (history : List KeptRecord) (sent : List Letter)
+    (states : RoleId → State) (facts : Facts c history sent states) (reads : FreshReadFacts c asked sent0 t history sent states) where
   -- answers of acceptors under new turns, by what they kept till now, with a watermark that was raised
   abbrev pub AcksAreSo : List Letter → Type 0
-  AcksAreSo ds = (u : Asking) → IsNew asked u → (w : Round) (a : RoleId) (n : ℕ) → IsAcked ds u w a n → Covers history a n × IsRaised history w
+  AcksAreSo ds =
+      (u : Asking) → IsNew asked u → (w : Round) (a : RoleId) (n : ℕ) → IsAcked ds u w a n → Covers history a n × IsRaised history w
 
   -- no answer with this watermark, or all cover this history
-  new_evidence : (u : Asking) → IsNew asked u → (w : Round) → IsRaised history w → ((a : RoleId) (n : ℕ) → IsAcked sent u w a n → ⊥) → (ds : List Letter) → AcksAreSo ds
-      → HasEvidence c asked sent0 u history (sent ++ ds) w
+  new_evidence : (u : Asking) → IsNew asked u → (w : Round) → IsRaised history w → ((a : RoleId) (n : ℕ) → IsAcked sent u w a n → ⊥)
+      → (ds : List Letter) → AcksAreSo ds → HasEvidence c asked sent0 u history (sent ++ ds) w
   new_evidence u new w (inl e) none ds acks = inl e
   new_evidence u new w (inr x) none ds acks =
       inr (inr (record {
@@ -130,8 +137,8 @@ module _ (c : Cluster) (asked : List KeptRecord) (sent0 : List Letter) (t : Toke
         covers = λ a n y. elim (acked_cases sent ds u w a n y) [ inl z ↦ absurd (none a n z) | inr z ↦ (acks u new w a n z).0 ];
       }))
 
-  more_evidence : (ds : List Letter) → AcksAreSo ds → (u : Asking) → IsNew asked u → (w : Round) → HasEvidence c asked sent0 u history sent w
-      → HasEvidence c asked sent0 u history (sent ++ ds) w
+  more_evidence : (ds : List Letter) → AcksAreSo ds → (u : Asking) → IsNew asked u → (w : Round)
+      → HasEvidence c asked sent0 u history sent w → HasEvidence c asked sent0 u history (sent ++ ds) w
   more_evidence ds acks u new w (inl e) = inl e
   more_evidence ds acks u new w (inr (inr k)) =
       inr (inr (record {
@@ -142,7 +149,8 @@ module _ (c : Cluster) (asked : List KeptRecord) (sent0 : List Letter) (t : Toke
         wider = k.wider;
         sets = k.sets;
         collected = k.collected;
-        covers = λ a n y. elim (acked_cases sent ds u w a n y) [ inl z ↦ k.covers a n z | inr z ↦ covers_older k.past history k.within a n (acks u new w a n z).0 ];
+        covers = λ a n y. elim (acked_cases sent ds u w a n
+            y) [ inl z ↦ k.covers a n z | inr z ↦ covers_older k.past history k.within a n (acks u new w a n z).0 ];
       }))
   more_evidence ds acks u new w (inr (inl none)) = elim (cases_Bool (list_any (λ (d : Letter). is_ack u w d.msg) ds)) [
     | inl h ↦ (
@@ -153,12 +161,14 @@ module _ (c : Cluster) (asked : List KeptRecord) (sent0 : List Letter) (t : Toke
         )
     | inr f ↦ inr (inl (λ a n y. elim (acked_cases sent ds u w a n y) [
       | inl z ↦ none a n z
-      | inr z ↦ true≢false (sym (Member-any (λ (d : Letter). is_ack u w d.msg) (letter a z.0 (msg.PreReadAck u w n)) ds z.1 (is_ack-itself u w n)) ∙ f)
+      | inr z ↦ true≢false
+          (sym (Member-any (λ (d : Letter). is_ack u w d.msg) (letter a z.0 (msg.PreReadAck u w n)) ds z.1 (is_ack-itself u w n)) ∙ f)
     ]))
   ]
 
   -- more datagrams, of no role's step
-  pub sent_more : (ds : List Letter) → Each (λ d. ReadSays c asked t history d.from d.to d.msg) ds → AcksAreSo ds → FreshReadFacts c asked sent0 t history (sent ++ ds) states
+  pub sent_more : (ds : List Letter) → Each (λ d. ReadSays c asked t history d.from d.to d.msg) ds → AcksAreSo ds
+      → FreshReadFacts c asked sent0 t history (sent ++ ds) states
   sent_more ds says acks = record {
     has = reads.has;
     has_sent = λ d m. Member-first d sent ds (reads.has_sent d m);
@@ -168,22 +178,24 @@ module _ (c : Cluster) (asked : List KeptRecord) (sent0 : List Letter) (t : Toke
   }
 
   -- a row lands whose datagrams say what is so
-  pub lands : {V : Type 0} (me : RoleId) (make : V → State) (o : Outcome V)
-      → Each (λ d. ReadSays c asked t history d.from d.to d.msg) o.sends → AcksAreSo o.sends → InReader c asked t history me (make o.volatile)
+  pub lands : {V : Type 0} (me : RoleId) (make : V → State) (o : Outcome V) → Each (λ d. ReadSays c asked t history d.from d.to d.msg)
+      o.sends → AcksAreSo o.sends → InReader c asked t history me (make o.volatile)
       → Lands (Since c asked sent0 t) history sent states me make o
   lands me make o says acks state = record {
     whole = λ has has_sent. record {
       has = has;
       has_sent = has_sent;
-      says = Member-both (λ (d : Letter). ReadSays c asked t (with_record me o.kept history) d.from d.to d.msg) sent o.sends
-          (λ d m. still_says history (with_record me o.kept history) (kept_longer me o.kept history) c asked t d.from d.to d.msg (reads.says d m))
-          (λ d m. still_says history (with_record me o.kept history) (kept_longer me o.kept history) c asked t d.from d.to d.msg (says d m));
+      says = Member-both (λ (d : Letter). ReadSays c asked t (with_record me o.kept history) d.from d.to d.msg) sent o.sends (λ d m.
+          still_says history (with_record me o.kept history) (kept_longer me o.kept history) c asked t d.from d.to d.msg (reads.says d m))
+          (λ d m.
+          still_says history (with_record me o.kept history) (kept_longer me o.kept history) c asked t d.from d.to d.msg (says d m));
       evidence = λ u new w.
           still_evidence history (with_record me o.kept history) (kept_longer me o.kept history) c asked sent0 u (sent ++ o.sends) w
           (more_evidence o.sends acks u new w (reads.evidence u new w));
       readers = set_running (λ a s. InReader c asked t (with_record me o.kept history) a s) me (make o.volatile) states
           (still_reader history (with_record me o.kept history) (kept_longer me o.kept history) c asked t me (make o.volatile) state)
-          (λ a e. still_reader history (with_record me o.kept history) (kept_longer me o.kept history) c asked t a (states a) (reads.readers a));
+          (λ a e.
+          still_reader history (with_record me o.kept history) (kept_longer me o.kept history) c asked t a (states a) (reads.readers a));
     };
     cut = λ r e has has_sent. record {
       has = has;

@@ -82,7 +82,8 @@ others sent k other to (msg.ReadAnswer seq n found) s = absurd (other s)
 others sent k other to m s = tt
 
 other_lands : {V : Type 0} (history : List KeptRecord) (sent : List Letter) (states : RoleId → State) → AreAnswers history sent states
-    → (me : RoleId) (make : V → State) (o : Outcome V) → (me.kind ≡ kind.Replica → ⊥) → OfKind me o → Lands AreAnswers history sent states me make o
+    → (me : RoleId) (make : V → State) (o : Outcome V) → (me.kind ≡ kind.Replica → ⊥) → OfKind me o
+    → Lands AreAnswers history sent states me make o
 other_lands history sent states h me make o other kinds =
     lands history sent states h me make o (λ d m. others sent me.kind other d.to d.msg (kinds.sends d m).1)
 
@@ -94,7 +95,8 @@ plain sent to other h = tt
 
 answer_says : (sent : List Letter) (me : RoleId) (n : ℕ) (machine : Machine) (r : Deferred) (to : RoleId) → IsReadOf sent to r → r.mark ≤ n
     → AnswerHasQuestion sent (read_answer_to me n machine r).to (read_answer_to me n machine r).msg
-answer_says sent me n machine r to asked enough = record { replica = to; question = r; asked = asked; enough = enough; client_is = refl; seq_is = refl }
+answer_says sent me n machine r to asked enough =
+    record { replica = to; question = r; asked = asked; enough = enough; client_is = refl; seq_is = refl }
 
 now_asked : (sent : List Letter) (l : Letter) (r : Deferred) → Member l sent → IsQuestion l.from l.msg r → IsReadOf sent l.to r
 now_asked sent l r m (inl e) = inl (l.from, subst (λ x. Member (letter l.from l.to x) sent) e m)
@@ -116,8 +118,8 @@ answer_laws c = record {
   start = λ states h d m. absurd m;
   stop = λ history sent states me h. h;
   wake = λ history sent states me h down. h;
-  ask = λ history sent states n e allowed known h.
-      more sent (request n e) h (requested (λ d. AnswerHasQuestion sent d.to d.msg) (λ from to command. tt) (λ from to seq replica key. tt) (λ from to seq k key. tt) n e);
+  ask = λ history sent states n e allowed known h. more sent (request n e) h (requested (λ d. AnswerHasQuestion sent d.to d.msg)
+      (λ from to command. tt) (λ from to seq replica key. tt) (λ from to seq k key. tt) n e);
   batcher = λ history sent states b v i known h up given.
       other_lands history sent states h (role kind.Batcher b) _ _ (λ e. cc) (batcher_kinds c (role kind.Batcher b) refl v i);
   leader = λ history sent states l v i known h up given.
@@ -138,8 +140,8 @@ answer_laws c = record {
   snap = λ history sent states p v first known h up e. h;
   unbatcher = λ history sent states u i known h up given.
       other_lands history sent states h (role kind.Unbatcher u) _ _ (λ e. cc) (unbatcher_kinds c (role kind.Unbatcher u) refl i);
-  reader = λ history sent states r v i known h up given.
-      other_lands history sent states h (role kind.Reader r) _ _ (λ e. cc) (reader_kinds c (role kind.Reader r) refl (durable_of reader_rules (role kind.Reader r) history) v i);
+  reader = λ history sent states r v i known h up given. other_lands history sent states h (role kind.Reader r) _ _ (λ e. cc)
+      (reader_kinds c (role kind.Reader r) refl (durable_of reader_rules (role kind.Reader r) history) v i);
   replacer = λ history sent states x v i known h up given.
       other_lands history sent states h (role kind.Replacer x) _ _ (λ e. cc)
       (replacer_kinds c (role kind.Replacer x) refl (durable_of replacer_rules (role kind.Replacer x) history) v i);

@@ -1,6 +1,7 @@
--- Each row of a reader keeps the facts on a read: what it asks under a new turn is so, and when it asks a replica for the read, the number is above
--- all that was chosen when the read was asked for.
-use Rattle.std.proofs.Common.{◌≡◌, ℕ, ◌+◌, ◌<◌, Bool, true, false, not, ◌&&◌, map, List, [], ◌∷◌, ◌++◌, length, Option, None, Some, inl, inr, sym, subst, ◌∙◌, refl, arith}
+-- Each row of a reader keeps the facts on a read: what it asks under a new turn is so, and when it asks a replica for the read, the number
+-- is above all that was chosen when the read was asked for.
+use Rattle.std.proofs.Common.{◌≡◌, ℕ, ◌+◌, ◌<◌, Bool, true, false, not, ◌&&◌, map, List, [], ◌∷◌, ◌++◌, length, Option, None, Some, inl}
+use Rattle.std.proofs.Common.{inr, sym, subst, ◌∙◌, refl, arith}
 use Rattle.std.specs.Prelude.{◌==◌, nat_lt, nat_le}
 use Rattle.std.proofs.lemmas.Bool.{true≢false, and_parts, not-false, leb-true}
 use Rattle.cx_base.specs.declared.cluster.Cluster.{Cluster}
@@ -29,7 +30,11 @@ use Rattle.cx_model.specs.Matchmaker.{entry}
 use Rattle.cx_model.specs.Member.{Member}
 use Rattle.cx_model.specs.Names.{names}
 use Rattle.cx_model.specs.Outcome.{Outcome, only_word, either_way, by_test}
-use Rattle.cx_model.specs.Reader.{Asked, Batch, ReaderDurable, ReaderVolatile, acked_by, ask_acceptors, ask_matchmakers, ask_replicas, asked_anew, asked_for, begin, begin_if, finish, greatest_mark, has_acked, is_among, is_first, is_matched, is_of_batch, last_turn, match_ack_counted, match_ack_row, match_read_to, matched, pre_read_ack_row, pre_read_counted, pre_read_to, read_to, reader_row, reader_rules, reader_takes, reader_tick, request_over, request_row, sets_row, make_token, asking_of}
+use Rattle.cx_model.specs.Reader.{Asked, Batch, ReaderDurable, ReaderVolatile, acked_by, ask_acceptors, ask_matchmakers, ask_replicas}
+use Rattle.cx_model.specs.Reader.{asked_anew, asked_for, begin, begin_if, finish, greatest_mark, has_acked, is_among, is_first, is_matched}
+use Rattle.cx_model.specs.Reader.{is_of_batch, last_turn, match_ack_counted, match_ack_row, match_read_to, matched, pre_read_ack_row}
+use Rattle.cx_model.specs.Reader.{pre_read_counted, pre_read_to, read_to, reader_row, reader_rules, reader_takes, reader_tick, request_over}
+use Rattle.cx_model.specs.Reader.{request_row, sets_row, make_token, asking_of}
 use Rattle.cx_inv_run.specs.Laws.{Lands}
 use Rattle.cx_inv_run.specs.States.{State, ReaderIn, Given, durable_of}
 use Rattle.cx_inv_run.proofs.Members.{is_in-Member, Member-both, Member-cases, Member-second, Member-one}
@@ -51,8 +56,10 @@ not-true : (b : Bool) → not b ≡ true → b ≡ false
 not-true true e = cc
 not-true false e = refl
 
-module _ (c : Cluster) (asked : List KeptRecord) (sent0 : List Letter) (states0 : RoleId → State) (facts0 : Facts c asked sent0 states0) (t : Token)
-    (history : List KeptRecord) (sent : List Letter) (states : RoleId → State) (known : Known c history sent states) (reads : FreshReadFacts c asked sent0 t history sent states) where
+module _ (c : Cluster) (asked : List KeptRecord) (sent0 : List Letter) (states0 : RoleId → State)
+    (facts0 : Facts c asked sent0 states0) (t : Token)
+    (history : List KeptRecord) (sent : List Letter) (states : RoleId → State) (known : Known c history sent states)
+    (reads : FreshReadFacts c asked sent0 t history sent states) where
   abbrev facts : Facts c history sent states
   facts = known.1
 
@@ -83,11 +90,13 @@ module _ (c : Cluster) (asked : List KeptRecord) (sent0 : List Letter) (states0 
     ]
   ]
 
-  above_nothing : (told : List MatchAnswer) → AreOnce (answering_matchmakers told) → (set : List ℕ) → IsKnown c history set → ((m : ℕ) → Member m (answering_matchmakers told) → Member m set) → c.f < length told → Answers told
+  above_nothing : (told : List MatchAnswer) → AreOnce (answering_matchmakers told) → (set : List ℕ) → IsKnown c history set
+      → ((m : ℕ) → Member m (answering_matchmakers told) → Member m set) → c.f < length told → Answers told
       → live_entries told ≡ [] → IsAbove asked 0
   above_nothing told once set set_known bound many answers e =
       read_above c asked sent0 states0 facts0 history sent states facts reads.has told once set set_known bound many answers []
-      (record { covered = λ a m. absurd m; collected = inl (top_none told answers e) }) (subst (λ l. rows_whole l (acked_by []) ≡ true) (sym e) refl) 0 (λ a m. absurd m)
+      (record { covered = λ a m. absurd m; collected = inl (top_none told answers e) })
+      (subst (λ l. rows_whole l (acked_by []) ≡ true) (sym e) refl) 0 (λ a m. absurd m)
 
   -- acceptors that answered
   row_acks : (u : Asking) → IsNew asked u → (w : Round) (acks : List Acked) (one : Acked) → Member one acks
@@ -97,14 +106,23 @@ module _ (c : Cluster) (asked : List KeptRecord) (sent0 : List Letter) (states0 
     collected = elim (reads.evidence u new w) [
       | inl e ↦ inl e
       | inr (inl none) ↦ absurd (none (role kind.Acceptor one.acceptor) one.mark (h one m))
-      | inr (inr k) ↦ inr (k.past, k.sent_then, k.within, k.longer, k.wider, k.sets, k.collected, λ a n. k.covers (role kind.Acceptor a.acceptor) a.mark (h a n))
+      | inr (inr k) ↦ inr (
+        k.past,
+        k.sent_then,
+        k.within,
+        k.longer,
+        k.wider,
+        k.sets,
+        k.collected,
+        λ a n. k.covers (role kind.Acceptor a.acceptor) a.mark (h a n),
+      )
     ];
   }
 
   -- ---- a reader
 
-  module _ (me : RoleId) (d : ReaderDurable) (v : ReaderVolatile) (batch : HasBatch c asked t history me v.set v.running) (was_told : ReaderWasTold sent me v) (now_known : IsKnown c history v.set)
-      (next : IsNew asked (asking_of me (d.turn + 1))) where
+  module _ (me : RoleId) (d : ReaderDurable) (v : ReaderVolatile) (batch : HasBatch c asked t history me v.set v.running)
+      (was_told : ReaderWasTold sent me v) (now_known : IsKnown c history v.set) (next : IsNew asked (asking_of me (d.turn + 1))) where
     pub record Good (o : Outcome ReaderVolatile) : Type 0 where
       pub says : Each Says o.sends
       pub runs : HasBatch c asked t history me o.volatile.set o.volatile.running
@@ -122,7 +140,14 @@ module _ (c : Cluster) (asked : List KeptRecord) (sent0 : List Letter) (states0 
     begins : (w : Why) (first : List Letter) (rs : List Asked) → Each Says first → Good (begin me d v w first rs)
     begins w first rs says = record {
       says = Member-both Says first (ask_matchmakers me v.set (d.turn + 1)) says (asks_first v.set (d.turn + 1));
-      runs = record { set = v.set; set_known = now_known; once = tt; known = λ m k. absurd k; asking = λ f m k. absurd k; under = λ r m e. next };
+      runs = record {
+        set = v.set;
+        set_known = now_known;
+        once = tt;
+        known = λ m k. absurd k;
+        asking = λ f m k. absurd k;
+        under = λ r m e. next;
+      };
     }
 
     begins_if : (w : Why) (rs : List Asked) → Good (begin_if me d v w rs)
@@ -149,8 +174,8 @@ module _ (c : Cluster) (asked : List KeptRecord) (sent0 : List Letter) (states0 
     matched_enough b h = let l = leb-true (enough c) (length b.told) h in omega arith
 
     -- a batch whose answers came under its turn
-    module _ (b : Batch) (is : IsBatch c asked t history me v.set b)
-        (came : (a : MatchAnswer) → Member a b.told → Member (letter (role kind.Matchmaker a.matchmaker) me (msg.MatchReadAck (asking_of me b.turn) a.watermark a.entries)) sent) where
+    module _ (b : Batch) (is : IsBatch c asked t history me v.set b) (came : (a : MatchAnswer) → Member a b.told
+        → Member (letter (role kind.Matchmaker a.matchmaker) me (msg.MatchReadAck (asking_of me b.turn) a.watermark a.entries)) sent) where
       batch_answers : IsNew asked (asking_of me b.turn) → Answers b.told
       batch_answers new a m = reads.says _ (came a m) new
 
@@ -158,37 +183,39 @@ module _ (c : Cluster) (asked : List KeptRecord) (sent0 : List Letter) (states0 
       asks_second xs = each_mapped Says (pre_read_to me b) xs (λ a m new. top_raised b.told (batch_answers new))
 
       matched_good : is_matched c b ≡ true → (es : List Entry) → live_entries b.told ≡ es → Good (matched c me d v b es)
-      matched_good h [] e =
-          finishes b 0 (λ r m p. above_nothing b.told is.once is.set is.set_known is.known (matched_enough b h) (batch_answers (is.under r m p)) e)
+      matched_good h [] e = finishes b 0
+          (λ r m p. above_nothing b.told is.once is.set is.set_known is.known (matched_enough b h) (batch_answers (is.under r m p)) e)
       matched_good h (x ∷ es) e = record { says = asks_second (members_of c (x ∷ es)); runs = is }
 
       match_counted : Good (match_ack_counted c me d v b)
-      match_counted =
-          by_test Good (is_matched c b) _ _ (λ h. matched_good h (live_entries b.told) refl) (λ f. record { says = λ l m. absurd m; runs = is })
+      match_counted = by_test Good (is_matched c b) _ _ (λ h. matched_good h (live_entries b.told) refl)
+          (λ f. record { says = λ l m. absurd m; runs = is })
 
-      ack_counted : is_matched c b ≡ true → (one : Acked) → Member one b.acks
-          → ((a : Acked) → Member a b.acks → IsAcked sent (asking_of me b.turn) (greatest_watermark b.told) (role kind.Acceptor a.acceptor) a.mark)
-          → Good (pre_read_counted c me d v b)
+      ack_counted : is_matched c b ≡ true → (one : Acked) → Member one b.acks → ((a : Acked) → Member a b.acks → IsAcked sent
+          (asking_of me b.turn) (greatest_watermark b.told) (role kind.Acceptor a.acceptor) a.mark) → Good (pre_read_counted c me d v b)
       ack_counted h one there acked =
           by_test Good (rows_whole (live_entries b.told) (acked_by b.acks)) _ _
           (λ whole. finishes b (greatest_mark b.acks) (λ r m p.
           let new = is.under r m p in
-          read_above c asked sent0 states0 facts0 history sent states facts reads.has b.told is.once is.set is.set_known is.known (matched_enough b h) (batch_answers new) b.acks
-          (row_acks (asking_of me b.turn) new (greatest_watermark b.told) b.acks one there acked) whole (greatest_mark b.acks) (mark_above b.acks)))
-          (λ f. record { says = λ l m. absurd m; runs = is })
+          read_above c asked sent0 states0 facts0 history sent states facts reads.has b.told is.once is.set is.set_known is.known
+          (matched_enough b h) (batch_answers new) b.acks
+          (row_acks (asking_of me b.turn) new (greatest_watermark b.told) b.acks one there acked) whole (greatest_mark b.acks)
+          (mark_above b.acks))) (λ f. record { says = λ l m. absurd m; runs = is })
 
-    match_good : (from to : RoleId) (u : Asking) (w : Round) (es : List Entry) → to ≡ me → Member (letter from to (msg.MatchReadAck u w es)) sent
-        → (o : Option Batch) → v.running ≡ o → HasBatch c asked t history me v.set o → Good (match_ack_row c me d v from u w es o)
+    match_good : (from to : RoleId) (u : Asking) (w : Round) (es : List Entry) → to ≡ me → Member (letter from to (msg.MatchReadAck u w es))
+        sent → (o : Option Batch) → v.running ≡ o → HasBatch c asked t history me v.set o → Good (match_ack_row c me d v from u w es o)
     match_good from to u w es mine is_sent None e is = same _
     match_good from to u w es mine is_sent (Some b) e is =
         by_test Good (not (is_of_batch me b u && not (is_matched c b) && is_in from.index v.set)) _ _ (λ f. same _)
         (λ f. by_test Good (is_counted from.index b.told) _ _ (λ g. same _)
         (λ g. (
         let new : MatchAnswer = record { matchmaker = from.index; watermark = w; entries = es } in
-        let tests = and_parts (is_of_batch me b u && not (is_matched c b)) (is_in from.index v.set) (not-false (is_of_batch me b u && not (is_matched c b) && is_in from.index v.set) f) in
+        let tests = and_parts (is_of_batch me b u && not (is_matched c b)) (is_in from.index v.set)
+        (not-false (is_of_batch me b u && not (is_matched c b) && is_in from.index v.set) f) in
         let both = and_parts (is_of_batch me b u) (not (is_matched c b)) tests.0 in
         let ours : u ≡ asking_of me b.turn = same_asking-true u (asking_of me b.turn) both.0 in
-        let inside : (m : ℕ) → Member m (answering_matchmakers (b.told ++ new ∷ [])) → Member m v.set = λ m k. elim (told_more b.told new m k) [
+        let inside : (m : ℕ) → Member m (answering_matchmakers (b.told ++ new ∷ [])) → Member m v.set =
+        λ m k. elim (told_more b.told new m k) [
           | inl x ↦ is.asking (not-true (is_matched c b) both.1) m x
           | inr x ↦ subst (λ n. Member n v.set) (sym x) (is_in-Member from.index v.set tests.1)
         ] in
@@ -202,7 +229,8 @@ module _ (c : Cluster) (asked : List KeptRecord) (sent0 : List Letter) (states0 
           under = is.under;
         }) (λ a m. elim (Member-cases a b.told (new ∷ []) m) [
           | inl k ↦ (was_told.batch b e).answers a k
-          | inr k ↦ Member-one (λ (x : MatchAnswer). Member (letter (role kind.Matchmaker x.matchmaker) me (msg.MatchReadAck (asking_of me b.turn) x.watermark x.entries)) sent) new
+          | inr k ↦ Member-one (λ (x : MatchAnswer). Member (letter (role kind.Matchmaker x.matchmaker) me
+              (msg.MatchReadAck (asking_of me b.turn) x.watermark x.entries)) sent) new
               (subst (λ x. Member (letter (role kind.Matchmaker from.index) me (msg.MatchReadAck x w es)) sent) ours
               (subst (λ x. Member (letter (role kind.Matchmaker from.index) x (msg.MatchReadAck u w es)) sent) mine
               (subst (λ x. Member (letter x to (msg.MatchReadAck u w es)) sent) is_matchmaker is_sent))) a k
@@ -218,21 +246,25 @@ module _ (c : Cluster) (asked : List KeptRecord) (sent0 : List Letter) (states0 
         (λ g. either_way Good (has_acked from.index b.acks) _ _ (same _)
         (
         let new : Acked = record { acceptor = from.index; mark = n } in
-        let tests = and_parts (is_of_batch me b u && is_matched c b) (is_member_of (live_entries b.told) from.index) (not-false (is_of_batch me b u && is_matched c b && is_member_of (live_entries b.told) from.index) f) in
+        let tests = and_parts (is_of_batch me b u && is_matched c b) (is_member_of (live_entries b.told) from.index)
+        (not-false (is_of_batch me b u && is_matched c b && is_member_of (live_entries b.told) from.index) f) in
         let both = and_parts (is_of_batch me b u) (is_matched c b) tests.0 in
         let ours : u ≡ asking_of me b.turn = same_asking-true u (asking_of me b.turn) both.0 in
-        let asked_with : w ≡ greatest_watermark b.told = same_round-true w (greatest_watermark b.told) (not-false (same_round w (greatest_watermark b.told)) g) in
+        let asked_with : w ≡ greatest_watermark b.told =
+        same_round-true w (greatest_watermark b.told) (not-false (same_round w (greatest_watermark b.told)) g) in
         let is_acceptor : from ≡ role kind.Acceptor from.index = named kind.Acceptor from (known.0.senders _ is_sent) in
-        ack_counted (record b { acks = b.acks ++ new ∷ [] }) (record { set = is.set; set_known = is.set_known; once = is.once; known = is.known; asking = is.asking; under = is.under }) (λ a m. (was_told.batch b e).answers a m)
-        both.1 new (Member-second new b.acks (new ∷ []) (inl refl))
+        ack_counted (record b { acks = b.acks ++ new ∷ [] })
+        (record { set = is.set; set_known = is.set_known; once = is.once; known = is.known; asking = is.asking; under = is.under })
+        (λ a m. (was_told.batch b e).answers a m) both.1 new (Member-second new b.acks (new ∷ []) (inl refl))
         (λ a m. elim (Member-cases a b.acks (new ∷ []) m) [
           | inl k ↦ (me, (was_told.batch b e).acks a k)
-          | inr k ↦ Member-one (λ (x : Acked). IsAcked sent (asking_of me b.turn) (greatest_watermark b.told) (role kind.Acceptor x.acceptor) x.mark) new (
-            to,
-            subst (λ x. Member (letter (role kind.Acceptor from.index) to (msg.PreReadAck x (greatest_watermark b.told) n)) sent) ours
-                (subst (λ x. Member (letter (role kind.Acceptor from.index) to (msg.PreReadAck u x n)) sent) asked_with
-                (subst (λ x. Member (letter x to (msg.PreReadAck u w n)) sent) is_acceptor is_sent)),
-          ) a k
+          | inr k ↦ Member-one (λ (x : Acked).
+              IsAcked sent (asking_of me b.turn) (greatest_watermark b.told) (role kind.Acceptor x.acceptor) x.mark) new (
+                to,
+                subst (λ x. Member (letter (role kind.Acceptor from.index) to (msg.PreReadAck x (greatest_watermark b.told) n)) sent) ours
+                    (subst (λ x. Member (letter (role kind.Acceptor from.index) to (msg.PreReadAck u x n)) sent) asked_with
+                    (subst (λ x. Member (letter x to (msg.PreReadAck u w n)) sent) is_acceptor is_sent)),
+              ) a k
         ])
         )))
 
@@ -243,12 +275,14 @@ module _ (c : Cluster) (asked : List KeptRecord) (sent0 : List Letter) (states0 
     ticks_good : (o : Option Batch) → v.running ≡ o → HasBatch c asked t history me v.set o → Good (reader_tick c me v o)
     ticks_good None e is = same _
     ticks_good (Some b) e is = record {
-      says = either_way (Each Says) (is_matched c b) (ask_acceptors c me b) (ask_matchmakers me v.set b.turn) (asks_again b e is) (asks_first v.set b.turn);
+      says = either_way (Each Says) (is_matched c b) (ask_acceptors c me b) (ask_matchmakers me v.set b.turn) (asks_again b e is)
+          (asks_first v.set b.turn);
       runs = batch;
     }
 
     -- another set took over: what was counted of a batch in its first stage goes
-    anew_good : (s : List ℕ) → IsKnown c history s → (o : Option Batch) → v.running ≡ o → HasBatch c asked t history me v.set o → Good (asked_anew c me (record v { set = s }) o)
+    anew_good : (s : List ℕ) → IsKnown c history s → (o : Option Batch) → v.running ≡ o → HasBatch c asked t history me v.set o
+        → Good (asked_anew c me (record v { set = s }) o)
     anew_good s next_known None e is = record { says = λ l m. absurd m; runs = subst (λ o. HasBatch c asked t history me s o) (sym e) tt }
     anew_good s next_known (Some b) e is =
         by_test Good (is_matched c b) _ _
@@ -265,7 +299,8 @@ module _ (c : Cluster) (asked : List KeptRecord) (sent0 : List Letter) (states0 
         })
         (λ f. record {
           says = asks_first s b.turn;
-          runs = record { set = s; set_known = next_known; once = tt; known = λ m k. absurd k; asking = λ g m k. absurd k; under = is.under };
+          runs =
+              record { set = s; set_known = next_known; once = tt; known = λ m k. absurd k; asking = λ g m k. absurd k; under = is.under };
         })
 
     sets_good : (s : List ℕ) → IsKnown c history s → Good (sets_row c me v s)
@@ -288,11 +323,13 @@ module _ (c : Cluster) (asked : List KeptRecord) (sent0 : List Letter) (states0 
     reader_good (input.Order order) given = same _
 
   pub reader_lands : (r : ℕ) (v : ReaderVolatile) (i : Input) → states (role kind.Reader r) ≡ ReaderIn v → Given sent (role kind.Reader r) i
-      → Lands (Since c asked sent0 t) history sent states (role kind.Reader r) ReaderIn (reader_row c (role kind.Reader r) (durable_of reader_rules (role kind.Reader r) history) v i)
+      → Lands (Since c asked sent0 t) history sent states (role kind.Reader r) ReaderIn
+      (reader_row c (role kind.Reader r) (durable_of reader_rules (role kind.Reader r) history) v i)
   reader_lands r v i up given =
       let me : RoleId = role kind.Reader r in
       let d : ReaderDurable = durable_of reader_rules me history in
       let state = subst (λ s. InState c history sent me s) up (facts.running me) in
-      let good = reader_good me d v (subst (λ s. InReader c asked t history me s) up (reads.readers me)) state.0 state.2 (next_is_new r history asked known.0.keepers reads.has) i given in
+      let good = reader_good me d v (subst (λ s. InReader c asked t history me s) up (reads.readers me)) state.0 state.2
+      (next_is_new r history asked known.0.keepers reads.has) i given in
       lands c asked sent0 t history sent states facts reads me ReaderIn _ good.says
       (no_acks c asked sent0 t history sent states facts reads me _ (λ e. cc) (reader_kinds c me refl d v i)) good.runs

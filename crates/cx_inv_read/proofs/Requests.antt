@@ -1,5 +1,5 @@
--- The requests of a run: each that goes out stays among its events, by one number no client asks both for a read and in a session, and three kinds
--- of datagrams are sent.
+-- The requests of a run: each that goes out stays among its events, by one number no client asks both for a read and in a session, and
+-- three kinds of datagrams are sent.
 use Rattle.std.proofs.Common.{◌≡◌, ◌⊎◌, ℕ, Bool, true, false, not, ◌&&◌, ◌||◌, List, [], ◌∷◌, Some, inl, inr, ap, sym, subst, ◌∙◌, refl}
 use Rattle.std.specs.List.{list_any}
 use Rattle.std.proofs.lemmas.Bool.{true≢false, and_from}
@@ -44,14 +44,16 @@ stays w (e ∷ es) h m = stays (step w e) es h (stays_step w e h m)
 
 goes_out : (w : World) (e : Event) → (change w e).why ≡ why.Sent → WentOut (step w e) e
 unfolding step
-goes_out w e s = Member-second (happened e why.Sent) w.events (happened e (change w e).why ∷ []) (inl (ap (λ (y : Why). happened e y) (sym s)))
+goes_out w e s =
+    Member-second (happened e why.Sent) w.events (happened e (change w e).why ∷ []) (inl (ap (λ (y : Why). happened e y) (sym s)))
 
 -- so each request that is allowed to go out is one of the run's at its end
 pub all_went_out : (w : World) (es : List Event) → AllAllowed (λ n e. WentOut (run_from w es) e) w es
 all_went_out w [] = tt
 all_went_out w (e ∷ es) = (λ s. stays (step w e) es (happened e why.Sent) (goes_out w e s), all_went_out (step w e) es)
 
-pub allowed_more : (A B : ℕ → Event → Type 0) → ((n : ℕ) (e : Event) → A n e → B n e) → (w : World) (es : List Event) → AllAllowed A w es → AllAllowed B w es
+pub allowed_more : (A B : ℕ → Event → Type 0) → ((n : ℕ) (e : Event) → A n e → B n e) → (w : World) (es : List Event) → AllAllowed A w es
+    → AllAllowed B w es
 allowed_more A B more w [] h = tt
 allowed_more A B more w (e ∷ es) h = (λ s. more _ e (h.0 s), allowed_more A B more (step w e) es h.1)
 
@@ -79,20 +81,22 @@ was_asked_by t w e m own =
     (and_from _ _ refl (ap (λ o. same_token t o) own ∙ and_from _ _ (number_itself t.client) (number_itself t.seq)))
 
 -- if it is no read, or no session, no request of the run is one
-pub no_read : (t : Token) (w : World) → ((key : List ℕ) → WasRead w.events t.client t.seq key → ⊥) → (e : Event) → WentOut w e → IsReadFor t e → ⊥
+pub no_read : (t : Token) (w : World) → ((key : List ℕ) → WasRead w.events t.client t.seq key → ⊥) → (e : Event) → WentOut w e
+    → IsReadFor t e → ⊥
 no_read t w none (event.Read client seq floor reader replica key) m h =
     none key (floor, reader, replica, subst (λ (u : Token). WentOut w (event.Read u.client u.seq floor reader replica key)) h m)
 no_read t w none other m h = absurd h
 
-pub no_session : (t : Token) (w : World) → ((key : List ℕ) → WasSession w.events t.client t.seq key → ⊥) → (e : Event) → WentOut w e → IsSessionFor t e → ⊥
+pub no_session : (t : Token) (w : World) → ((key : List ℕ) → WasSession w.events t.client t.seq key → ⊥) → (e : Event) → WentOut w e
+    → IsSessionFor t e → ⊥
 no_session t w none (event.Session client seq floor replica key) m h =
     none key (floor, replica, subst (λ (u : Token). WentOut w (event.Session u.client u.seq floor replica key)) h m)
 no_session t w none other m h = absurd h
 
 -- a request doesn't go out after one of the same client and number that asks something else
 
-stale_by : (t : Token) (e : Event) (events : List Happened) (h : Happened) → Member h events → was_sent h ≡ true → same_token t (token_of h.event) ≡ true
-    → same_request e h.event ≡ false → is_stale t e events ≡ true
+stale_by : (t : Token) (e : Event) (events : List Happened) (h : Happened) → Member h events → was_sent h ≡ true
+    → same_token t (token_of h.event) ≡ true → same_request e h.event ≡ false → is_stale t e events ≡ true
 stale_by t e events h m sent same other =
     let first = Member-any (λ (x : Happened). was_sent x && same_token t (token_of x.event) && not (same_request e x.event)) h events m
     (and_from _ _ (and_from _ _ sent same) (ap not other)) in
@@ -103,7 +107,8 @@ fresh_is : (w : World) (e : Event) (t : Token) → (ask w e (Some t)).why ≡ wh
 fresh_is w e t h =
     by_test (λ (ch : Change). ch.why ≡ why.Sent → is_stale t e w.events ≡ false) (is_stale t e w.events) _ _ (λ s q. cc) (λ s q. s) h
 
-not_after : (t : Token) (w : World) (e f : Event) → (ask w e (Some t)).why ≡ why.Sent → WentOut w f → token_of f ≡ Some t → same_request e f ≡ false → ⊥
+not_after : (t : Token) (w : World) (e f : Event) → (ask w e (Some t)).why ≡ why.Sent → WentOut w f → token_of f ≡ Some t
+    → same_request e f ≡ false → ⊥
 not_after t w e f s m own other =
     let same = ap (λ o. same_token t o) own ∙ and_from _ _ (number_itself t.client) (number_itself t.seq) in
     true≢false (sym (stale_by t e w.events (happened f why.Sent) m refl same other) ∙ fresh_is w e t s)
@@ -128,13 +133,15 @@ apart_step w e apart client seq f r p g q key other m n =
     differ : event.Read client seq f r p key ≡ event.Session client seq g q other → ⊥
     differ z = cc
 
-    go : WentOut w (event.Read client seq f r p key) ⊎ Member (happened (event.Read client seq f r p key) why.Sent) (happened e (change w e).why ∷ [])
-        → WentOut w (event.Session client seq g q other) ⊎ Member (happened (event.Session client seq g q other) why.Sent) (happened e (change w e).why ∷ []) → ⊥
+    go : WentOut w (event.Read client seq f r p key)
+        ⊎ Member (happened (event.Read client seq f r p key) why.Sent) (happened e (change w e).why ∷ [])
+        → WentOut w (event.Session client seq g q other)
+        ⊎ Member (happened (event.Session client seq g q other) why.Sent) (happened e (change w e).why ∷ []) → ⊥
     go (inl a) (inl b) = apart client seq f r p g q key other a b
-    go (inl a) (inr b) =
-        not_after (make_token client seq) w (event.Session client seq g q other) (event.Read client seq f r p key) (goes (event.Session client seq g q other) b) a refl refl
-    go (inr a) (inl b) =
-        not_after (make_token client seq) w (event.Read client seq f r p key) (event.Session client seq g q other) (goes (event.Read client seq f r p key) a) b refl refl
+    go (inl a) (inr b) = not_after (make_token client seq) w (event.Session client seq g q other) (event.Read client seq f r p key)
+        (goes (event.Session client seq g q other) b) a refl refl
+    go (inr a) (inl b) = not_after (make_token client seq) w (event.Read client seq f r p key) (event.Session client seq g q other)
+        (goes (event.Read client seq f r p key) a) b refl refl
     go (inr a) (inr b) =
         let x = (one_event e (event.Read client seq f r p key) why.Sent (change w e).why a).0 in
         let y = (one_event e (event.Session client seq g q other) why.Sent (change w e).why b).0 in
@@ -152,7 +159,8 @@ read_or_session c es t key other m n =
 -- a request hands in a command, asks for a read, or asks a replica in a session
 pub requested : (P : Letter → Type 0) → ((from to : RoleId) (command : Command) → P (letter from to (msg.Submit command)))
     → ((from to : RoleId) (seq replica : ℕ) (key : List ℕ) → P (letter from to (msg.ReadReq seq replica key)))
-    → ((from to : RoleId) (seq n : ℕ) (key : List ℕ) → P (letter from to (msg.SessRead seq n key))) → (n : ℕ) (e : Event) → Each P (request n e)
+    → ((from to : RoleId) (seq n : ℕ) (key : List ℕ) → P (letter from to (msg.SessRead seq n key))) → (n : ℕ) (e : Event)
+    → Each P (request n e)
 requested P submit read session n (event.Write command batcher) = Member-one P _ (submit _ _ command)
 requested P submit read session n (event.Read client seq floor reader replica key) = Member-one P _ (read _ _ seq replica key)
 requested P submit read session n (event.Session client seq floor replica key) = Member-one P _ (session _ _ seq n key)

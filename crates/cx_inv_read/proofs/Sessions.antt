@@ -25,7 +25,8 @@ use Rattle.cx_inv_run.specs.Kinds.{IsSender, OfKind}
 use Rattle.cx_inv_run.specs.Laws.{Lands, Laws, AllAllowed, anything}
 use Rattle.cx_inv_run.specs.States.{State, durable_of, HoldsIn}
 use Rattle.cx_inv_run.proofs.Members.{Member-both, Member-one}
-use Rattle.cx_inv_run.proofs.Senders.{batcher_kinds, proxy_kinds, acceptor_kinds, matchmaker_kinds, replica_kinds, unbatcher_kinds, reader_kinds}
+use Rattle.cx_inv_run.proofs.Senders.{batcher_kinds, proxy_kinds, acceptor_kinds, matchmaker_kinds, replica_kinds, unbatcher_kinds}
+use Rattle.cx_inv_run.proofs.Senders.{reader_kinds}
 use Rattle.cx_inv_run.proofs.LeaderSenders.{leader_kinds, replacer_kinds}
 use Rattle.cx_inv_run.proofs.Steps.{run_keeps, run_from_keeps, run_append, run_cluster, along_anything}
 use Rattle.cx_inv_read.specs.Reads.{SessionSays, Sessions}
@@ -43,7 +44,8 @@ module _ (t : Token) (Marks : ℕ → Type 0) where
   others k other from m s = tt
 
   lands : {V : Type 0} (history : List KeptRecord) (sent : List Letter) (states : RoleId → State) → Sessions t Marks history sent states
-      → (me : RoleId) (make : V → State) (o : Outcome V) → (me.kind ≡ kind.Client → ⊥) → OfKind me o → Lands (Sessions t Marks) history sent states me make o
+      → (me : RoleId) (make : V → State) (o : Outcome V) → (me.kind ≡ kind.Client → ⊥) → OfKind me o
+      → Lands (Sessions t Marks) history sent states me make o
   lands history sent states told me make o other kinds =
       told_lands Says (λ a r h d x. x) history sent states told me make o (λ d m. others me.kind other d.from d.msg (kinds.sends d m).1)
 
@@ -68,7 +70,8 @@ module _ (t : Token) (Marks : ℕ → Type 0) where
     start = λ states h d m. absurd m;
     stop = λ history sent states me h. h;
     wake = λ history sent states me h down. h;
-    ask = λ history sent states n e marked known h. Member-both (λ (d : Letter). SessionSays t Marks d.from d.msg) sent (request n e) h (asks n e marked);
+    ask = λ history sent states n e marked known h.
+        Member-both (λ (d : Letter). SessionSays t Marks d.from d.msg) sent (request n e) h (asks n e marked);
     batcher = λ history sent states b v i known h up given.
         lands history sent states h (role kind.Batcher b) _ _ (λ e. cc) (batcher_kinds c (role kind.Batcher b) refl v i);
     leader = λ history sent states l v i known h up given.
@@ -88,8 +91,8 @@ module _ (t : Token) (Marks : ℕ → Type 0) where
     snap = λ history sent states p v first known h up e. h;
     unbatcher = λ history sent states u i known h up given.
         lands history sent states h (role kind.Unbatcher u) _ _ (λ e. cc) (unbatcher_kinds c (role kind.Unbatcher u) refl i);
-    reader = λ history sent states r v i known h up given.
-        lands history sent states h (role kind.Reader r) _ _ (λ e. cc) (reader_kinds c (role kind.Reader r) refl (durable_of reader_rules (role kind.Reader r) history) v i);
+    reader = λ history sent states r v i known h up given. lands history sent states h (role kind.Reader r) _ _ (λ e. cc)
+        (reader_kinds c (role kind.Reader r) refl (durable_of reader_rules (role kind.Reader r) history) v i);
     replacer = λ history sent states x v i known h up given.
         lands history sent states h (role kind.Replacer x) _ _ (λ e. cc)
         (replacer_kinds c (role kind.Replacer x) refl (durable_of replacer_rules (role kind.Replacer x) history) v i);
@@ -101,5 +104,6 @@ module _ (t : Token) (Marks : ℕ → Type 0) where
   pub sessions_from : (c : Cluster) (es more : List Event) → HoldsIn (Sessions t Marks) (run c es) → AllAllowed IsMarked (run c es) more
       → HoldsIn (Sessions t Marks) (run c (es ++ more))
   sessions_from c es more now marked =
-      let later = run_from_keeps c IsMarked anything (Sessions t Marks) (session_laws c) (run c es) (run_cluster c es) now more (along_anything (run c es) more) marked in
+      let later = run_from_keeps c IsMarked anything (Sessions t Marks) (session_laws c) (run c es) (run_cluster c es) now more
+      (along_anything (run c es) more) marked in
       subst (λ x. HoldsIn (Sessions t Marks) x) (sym (run_append c es more)) later

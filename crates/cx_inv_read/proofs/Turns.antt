@@ -1,5 +1,6 @@
 -- In every run each turn under which something is asked or answered was kept.
-use Rattle.std.proofs.Common.{◌≡◌, ℕ, ◌+◌, ◌≤◌, false, not, ◌&&◌, List, [], ◌∷◌, ◌++◌, length, Option, None, Some, inl, inr, sym, subst, refl, arith}
+use Rattle.std.proofs.Common.{◌≡◌, ℕ, ◌+◌, ◌≤◌, false, not, ◌&&◌, List, [], ◌∷◌, ◌++◌, length, Option, None, Some, inl, inr, sym, subst}
+use Rattle.std.proofs.Common.{refl, arith}
 use Rattle.std.specs.Prelude.{◌==◌, nat_lt, nat_le}
 use Rattle.std.proofs.lemmas.Bool.{cases_Bool}
 use Rattle.std.proofs.lemmas.Option.{none-some, same_Some}
@@ -35,15 +36,21 @@ use Rattle.cx_model.specs.Member.{Member}
 use Rattle.cx_model.specs.Names.{names}
 use Rattle.cx_model.specs.Outcome.{Outcome, only_word, either_way}
 use Rattle.cx_model.specs.Promises.{HasKept, HasTurn}
-use Rattle.cx_model.specs.Reader.{Asked, Batch, ReaderDurable, ReaderVolatile, acked_by, ask_acceptors, ask_matchmakers, ask_replicas, asked_anew, asked_for, begin, begin_if, finish, greatest_mark, has_acked, is_among, is_first, is_matched, is_of_batch, last_turn, match_ack_counted, match_ack_row, match_read_to, matched, new_batch, pre_read_ack_row, pre_read_counted, pre_read_to, read_to, reader_after, reader_row, reader_rules, reader_takes, reader_tick, request_over, request_row, make_token, asking_of}
+use Rattle.cx_model.specs.Reader.{Asked, Batch, ReaderDurable, ReaderVolatile, acked_by, ask_acceptors, ask_matchmakers, ask_replicas}
+use Rattle.cx_model.specs.Reader.{asked_anew, asked_for, begin, begin_if, finish, greatest_mark, has_acked, is_among, is_first, is_matched}
+use Rattle.cx_model.specs.Reader.{is_of_batch, last_turn, match_ack_counted, match_ack_row, match_read_to, matched, new_batch}
+use Rattle.cx_model.specs.Reader.{pre_read_ack_row, pre_read_counted, pre_read_to, read_to, reader_after, reader_row, reader_rules}
+use Rattle.cx_model.specs.Reader.{reader_takes, reader_tick, request_over, request_row, make_token, asking_of}
 use Rattle.cx_model.specs.Replacer.{replacer_rules}
 use Rattle.cx_model.specs.Replica.{replica_rules}
 use Rattle.cx_model.specs.Request.{request}
 use Rattle.cx_model.specs.World.{run}
 use Rattle.cx_inv_run.specs.Kinds.{IsWriter}
 use Rattle.cx_inv_run.specs.Laws.{Lands, Laws, anything}
-use Rattle.cx_inv_run.specs.States.{State, Down, BatcherIn, LeaderIn, ProxyIn, ReplicaIn, ReaderIn, ReplacerIn, plain, Given, durable_of, entry_by, snap_by, fresh_state, with_record, HoldsIn}
-use Rattle.cx_inv_run.proofs.Histories.{durable_else, durable_other, durable_own, kept_cases, kept_longer, kept_other, no_snap, same_role-true, set_running}
+use Rattle.cx_inv_run.specs.States.{State, Down, BatcherIn, LeaderIn, ProxyIn, ReplicaIn, ReaderIn, ReplacerIn, plain, Given, durable_of}
+use Rattle.cx_inv_run.specs.States.{entry_by, snap_by, fresh_state, with_record, HoldsIn}
+use Rattle.cx_inv_run.proofs.Histories.{durable_else, durable_other, durable_own, kept_cases, kept_longer, kept_other, no_snap}
+use Rattle.cx_inv_run.proofs.Histories.{same_role-true, set_running}
 use Rattle.cx_inv_run.proofs.Members.{Member-both}
 use Rattle.cx_inv_run.proofs.Senders.{batcher_kinds, proxy_kinds, replica_kinds, unbatcher_kinds}
 use Rattle.cx_inv_run.proofs.LeaderSenders.{leader_kinds, replacer_kinds}
@@ -67,7 +74,8 @@ reader r = role kind.Reader r
 abbrev IsBounded : ℕ → List KeptRecord → ℕ → Type 0
 IsBounded r history n = n ≤ (durable_of reader_rules (reader r) history).turn
 
-own_turn : (r : ℕ) (a : RoleId) (w : Written) (history : List KeptRecord) (n : ℕ) → (HasKept history (reader r) (kept.Turn n) → IsBounded r history n)
+own_turn : (r : ℕ) (a : RoleId) (w : Written) (history : List KeptRecord) (n : ℕ)
+    → (HasKept history (reader r) (kept.Turn n) → IsBounded r history n)
     → IsWriter a.kind w → HasKept (record { role = a; what = w } ∷ history) (reader r) (kept.Turn n) → reader r ≡ a
     → IsBounded r (record { role = a; what = w } ∷ history) n
 own_turn r a (written.Record s) history n rest writer m mine =
@@ -80,7 +88,8 @@ own_turn r a (written.Record s) history n rest writer m mine =
 own_turn r a (written.Snap first) history n rest writer m mine =
     let e : kind.Reader ≡ kind.Replica = subst (λ (x : RoleId). x.kind ≡ kind.Replica) (sym mine) writer in cc
 
-other_turn : (r : ℕ) (a : RoleId) (w : Written) (history : List KeptRecord) (n : ℕ) → (HasKept history (reader r) (kept.Turn n) → IsBounded r history n)
+other_turn : (r : ℕ) (a : RoleId) (w : Written) (history : List KeptRecord) (n : ℕ)
+    → (HasKept history (reader r) (kept.Turn n) → IsBounded r history n)
     → HasKept (record { role = a; what = w } ∷ history) (reader r) (kept.Turn n) → same_role (reader r) a ≡ false
     → IsBounded r (record { role = a; what = w } ∷ history) n
 other_turn r a (written.Record s) history n rest m f =
@@ -101,8 +110,8 @@ turn_bound r (k ∷ history) writers n m =
     ]
 
 -- so the next one was kept at no earlier moment
-pub next_is_new : (r : ℕ) (history asked : List KeptRecord) → ((k : KeptRecord) → Member k history → IsWriter k.role.kind k.what) → Has history asked
-    → IsNew asked (asking_of (reader r) ((durable_of reader_rules (reader r) history).turn + 1))
+pub next_is_new : (r : ℕ) (history asked : List KeptRecord) → ((k : KeptRecord) → Member k history → IsWriter k.role.kind k.what)
+    → Has history asked → IsNew asked (asking_of (reader r) ((durable_of reader_rules (reader r) history).turn + 1))
 next_is_new r history asked writers has x =
     let p = turn_bound r history writers ((durable_of reader_rules (reader r) history).turn + 1) (has _ x) in omega (arith, p)
 
@@ -173,7 +182,10 @@ module _ (r : ℕ) (history : List KeptRecord) (d : ReaderDurable) (v : ReaderVo
   finishes b n =
       either_way Good (nat_lt 0 (length v.waiting) && not (d.turn == last_turn)) _ _
       (begins Sent (ask_replicas mine b n) v.waiting (each_mapped (λ l. TurnSays Next l.msg) (read_to mine n) b.reads (λ x m. tt)))
-      (record { says = each_mapped (λ l. TurnSays history l.msg) (read_to mine n) b.reads (λ x m. tt); runs = λ x e. absurd (none-some x e) })
+      (record {
+        says = each_mapped (λ l. TurnSays history l.msg) (read_to mine n) b.reads (λ x m. tt);
+        runs = λ x e. absurd (none-some x e);
+      })
 
   -- a batch with the turn of the running one
   module _ (b : Batch) (has : HasTurn history (asking_of mine b.turn)) where
@@ -182,22 +194,29 @@ module _ (r : ℕ) (history : List KeptRecord) (d : ReaderDurable) (v : ReaderVo
 
     matched_good : (es : List Entry) → Good (matched c mine d v b es)
     matched_good [] = finishes b 0
-    matched_good (e ∷ es) = record { says = each_mapped (λ l. TurnSays history l.msg) (pre_read_to mine b) (members_of c (e ∷ es)) (λ a m. has); runs = goes_on }
+    matched_good (e ∷ es) = record {
+      says = each_mapped (λ l. TurnSays history l.msg) (pre_read_to mine b) (members_of c (e ∷ es)) (λ a m. has);
+      runs = goes_on;
+    }
 
     match_counted : Good (match_ack_counted c mine d v b)
-    match_counted = either_way Good (is_matched c b) _ _ (matched_good (live_entries b.told)) (record { says = λ l m. absurd m; runs = goes_on })
+    match_counted =
+        either_way Good (is_matched c b) _ _ (matched_good (live_entries b.told)) (record { says = λ l m. absurd m; runs = goes_on })
 
     ack_counted : Good (pre_read_counted c mine d v b)
-    ack_counted = either_way Good (rows_whole (live_entries b.told) (acked_by b.acks)) _ _ (finishes b (greatest_mark b.acks)) (record { says = λ l m. absurd m; runs = goes_on })
+    ack_counted = either_way Good (rows_whole (live_entries b.told) (acked_by b.acks)) _ _ (finishes b (greatest_mark b.acks))
+        (record { says = λ l m. absurd m; runs = goes_on })
 
-  match_good : (from : RoleId) (u : Asking) (w : Round) (es : List Entry) (o : Option Batch) → v.running ≡ o → Good (match_ack_row c mine d v from u w es o)
+  match_good : (from : RoleId) (u : Asking) (w : Round) (es : List Entry) (o : Option Batch) → v.running ≡ o
+      → Good (match_ack_row c mine d v from u w es o)
   match_good from u w es None is = same _
   match_good from u w es (Some b) is =
       either_way Good (not (is_of_batch mine b u && not (is_matched c b) && is_in from.index v.set)) _ _ (same _)
       (either_way Good (is_counted from.index b.told) _ _ (same _)
       (match_counted (record b { told = b.told ++ record { matchmaker = from.index; watermark = w; entries = es } ∷ [] }) (kept_so b is)))
 
-  ack_good : (from : RoleId) (u : Asking) (w : Round) (n : ℕ) (o : Option Batch) → v.running ≡ o → Good (pre_read_ack_row c mine d v from u w n o)
+  ack_good : (from : RoleId) (u : Asking) (w : Round) (n : ℕ) (o : Option Batch) → v.running ≡ o
+      → Good (pre_read_ack_row c mine d v from u w n o)
   ack_good from u w n None is = same _
   ack_good from u w n (Some b) is =
       either_way Good (not (is_of_batch mine b u && is_matched c b && is_member_of (live_entries b.told) from.index)) _ _ (same _)
@@ -255,7 +274,8 @@ module _ (history : List KeptRecord) (sent : List Letter) (states : RoleId → S
       → BatchIsKept (with_record me o.kept history) me (make o.volatile) → Lands TurnsKept history sent states me make o
   lands me make o says state = record {
     whole = record {
-      says = Member-both (λ (d : Letter). TurnSays (with_record me o.kept history) d.msg) sent o.sends (λ d m. says_longer history (with_record me o.kept history) (kept_longer me o.kept history) d.msg (h.says d m)) says;
+      says = Member-both (λ (d : Letter). TurnSays (with_record me o.kept history) d.msg) sent o.sends
+          (λ d m. says_longer history (with_record me o.kept history) (kept_longer me o.kept history) d.msg (h.says d m)) says;
       running = set_running (λ a s. BatchIsKept (with_record me o.kept history) a s) me (make o.volatile) states state
           (λ a e. kept_longer_too history (with_record me o.kept history) (kept_longer me o.kept history) a (states a) (h.running a));
     };
@@ -267,71 +287,89 @@ module _ (history : List KeptRecord) (sent : List Letter) (states : RoleId → S
   }
 
   -- a role whose datagrams are of no turn, or of one that was answered
-  plainly : {V : Type 0} (me : RoleId) (make : V → State) (o : Outcome V) → Each (λ d. TurnSays history d.msg) o.sends → BatchIsKept (with_record me o.kept history) me (make o.volatile)
-      → Lands TurnsKept history sent states me make o
-  plainly me make o says state = lands me make o (λ d m. says_longer history (with_record me o.kept history) (kept_longer me o.kept history) d.msg (says d m)) state
+  plainly : {V : Type 0} (me : RoleId) (make : V → State) (o : Outcome V) → Each (λ d. TurnSays history d.msg) o.sends
+      → BatchIsKept (with_record me o.kept history) me (make o.volatile) → Lands TurnsKept history sent states me make o
+  plainly me make o says state =
+      lands me make o (λ d m. says_longer history (with_record me o.kept history) (kept_longer me o.kept history) d.msg (says d m)) state
 
-  acceptor_says : (c : Cluster) (me : RoleId) (d : AcceptorDurable) (i : Input) → Given sent me i → Each (λ x. TurnSays history x.msg) (acceptor_row c me d tt i).sends
+  acceptor_says : (c : Cluster) (me : RoleId) (d : AcceptorDurable) (i : Input) → Given sent me i
+      → Each (λ x. TurnSays history x.msg) (acceptor_row c me d tt i).sends
   acceptor_says c me d (input.Take l) given =
       either_way (λ (o : Outcome (Unit {0})). Each (λ x. TurnSays history x.msg) o.sends) (same_role l.to me && names c l) _ _
-      (acceptor_tells (λ x. TurnSays history x.msg) me (λ to m p. plain_turn history m p) d l.from l.msg (λ u w e. subst (λ m. TurnSays history m) e (h.says l given.1))) (λ x m. absurd m)
+      (acceptor_tells (λ x. TurnSays history x.msg) me (λ to m p. plain_turn history m p) d l.from l.msg
+      (λ u w e. subst (λ m. TurnSays history m) e (h.says l given.1))) (λ x m. absurd m)
   acceptor_says c me d input.Tick given = λ x m. absurd m
   acceptor_says c me d (input.Order order) given = λ x m. absurd m
 
-  matchmaker_says : (c : Cluster) (me : RoleId) (d : MatchmakerDurable) (i : Input) → Given sent me i → Each (λ x. TurnSays history x.msg) (matchmaker_row c me d tt i).sends
+  matchmaker_says : (c : Cluster) (me : RoleId) (d : MatchmakerDurable) (i : Input) → Given sent me i
+      → Each (λ x. TurnSays history x.msg) (matchmaker_row c me d tt i).sends
   matchmaker_says c me d (input.Take l) given =
       either_way (λ (o : Outcome (Unit {0})). Each (λ x. TurnSays history x.msg) o.sends) (same_role l.to me && names c l) _ _
-      (matchmaker_tells (λ x. TurnSays history x.msg) c me (λ to m p. plain_turn history m p) d l.from l.msg (λ u e b f. subst (λ m. TurnSays history m) e (h.says l given.1))) (λ x m. absurd m)
+      (matchmaker_tells (λ x. TurnSays history x.msg) c me (λ to m p. plain_turn history m p) d l.from l.msg
+      (λ u e b f. subst (λ m. TurnSays history m) e (h.says l given.1))) (λ x m. absurd m)
   matchmaker_says c me d input.Tick given = λ x m. absurd m
   matchmaker_says c me d (input.Order order) given = λ x m. absurd m
 
 pub turns_laws : (c : Cluster) → Laws c (λ n e. Unit {0}) anything TurnsKept
 turns_laws c = record {
-  same = λ history sent states others e h. record { says = h.says; running = λ a. subst (λ s. BatchIsKept history a s) (e a) (h.running a) };
+  same =
+      λ history sent states others e h. record { says = h.says; running = λ a. subst (λ s. BatchIsKept history a s) (e a) (h.running a) };
   start = λ states is. record {
     says = λ d m. absurd m;
-    running = λ a. elim (is a) [ inl e ↦ subst (λ s. BatchIsKept [] a s) (sym e) tt | inr e ↦ subst (λ s. BatchIsKept [] a s) (sym e) (fresh_kept c [] a a.kind) ];
+    running = λ a. elim (is a) [
+      | inl e ↦ subst (λ s. BatchIsKept [] a s) (sym e) tt
+      | inr e ↦ subst (λ s. BatchIsKept [] a s) (sym e) (fresh_kept c [] a a.kind)
+    ];
   };
-  stop = λ history sent states me h. record { says = h.says; running = set_running (λ a s. BatchIsKept history a s) me Down states tt (λ a e. h.running a) };
-  wake = λ history sent states me h down. record { says = h.says; running = set_running (λ a s. BatchIsKept history a s) me (fresh_state c me.kind) states (fresh_kept c history me me.kind) (λ a e. h.running a) };
+  stop = λ history sent states me h.
+      record { says = h.says; running = set_running (λ a s. BatchIsKept history a s) me Down states tt (λ a e. h.running a) };
+  wake = λ history sent states me h down. record {
+    says = h.says;
+    running = set_running (λ a s. BatchIsKept history a s) me (fresh_state c me.kind) states (fresh_kept c history me me.kind)
+        (λ a e. h.running a);
+  };
   ask = λ history sent states n e allowed known h. record {
     says = Member-both (λ (d : Letter). TurnSays history d.msg) sent (request n e) h.says
         (requested (λ d. TurnSays history d.msg) (λ from to command. tt) (λ from to seq replica key. tt) (λ from to seq k key. tt) n e);
     running = h.running;
   };
   batcher = λ history sent states b v i known h up given.
-      plainly history sent states h (role kind.Batcher b) BatcherIn _
-      (sends_only (λ d. TurnSays history d.msg) (role kind.Batcher b) _ (batcher_kinds c (role kind.Batcher b) refl v i) (λ to. batcher_sends (λ m. TurnSays history m) (λ commands. tt))) tt;
+      plainly history sent states h (role kind.Batcher b) BatcherIn _ (sends_only (λ d. TurnSays history d.msg) (role kind.Batcher b)
+      _ (batcher_kinds c (role kind.Batcher b) refl v i) (λ to. batcher_sends (λ m. TurnSays history m) (λ commands. tt))) tt;
   leader = λ history sent states l v i known h up given.
-      plainly history sent states h (role kind.Leader l) LeaderIn _
-      (sends_only (λ d. TurnSays history d.msg) (role kind.Leader l) _ (leader_kinds c (role kind.Leader l) refl (durable_of leader_rules (role kind.Leader l) history) v i)
+      plainly history sent states h (role kind.Leader l) LeaderIn _ (sends_only (λ d. TurnSays history d.msg) (role kind.Leader l)
+      _ (leader_kinds c (role kind.Leader l) refl (durable_of leader_rules (role kind.Leader l) history) v i)
       (λ to. leader_sends (λ m. TurnSays history m) (λ j. tt) (λ j g. tt) (λ j. tt) (λ j g s cw u. tt) (λ j cw. tt) (λ j g. tt))) tt;
   proxy = λ history sent states p v i known h up given.
       plainly history sent states h (role kind.Proxy p) ProxyIn _
-      (sends_only (λ d. TurnSays history d.msg) (role kind.Proxy p) _ (proxy_kinds c (role kind.Proxy p) refl v i) (λ to. proxy_sends (λ m. TurnSays history m) (λ j s cw u. tt) (λ s u. tt) (λ j s. tt))) tt;
-  acceptor = λ history sent states a i known h up given.
-      plainly history sent states h (role kind.Acceptor a) plain _ (acceptor_says history sent states h c (role kind.Acceptor a) (durable_of acceptor_rules (role kind.Acceptor a) history) i given) tt;
+      (sends_only (λ d. TurnSays history d.msg) (role kind.Proxy p) _ (proxy_kinds c (role kind.Proxy p) refl v i)
+      (λ to. proxy_sends (λ m. TurnSays history m) (λ j s cw u. tt) (λ s u. tt) (λ j s. tt))) tt;
+  acceptor = λ history sent states a i known h up given. plainly history sent states h (role kind.Acceptor a) plain _ (acceptor_says history
+      sent states h c (role kind.Acceptor a) (durable_of acceptor_rules (role kind.Acceptor a) history) i given) tt;
   matchmaker = λ history sent states m i known h up given.
-      plainly history sent states h (role kind.Matchmaker m) plain _ (matchmaker_says history sent states h c (role kind.Matchmaker m) (durable_of matchmaker_rules (role kind.Matchmaker m) history) i given) tt;
+      plainly history sent states h (role kind.Matchmaker m) plain _ (matchmaker_says history sent states h c (role kind.Matchmaker m)
+      (durable_of matchmaker_rules (role kind.Matchmaker m) history) i given) tt;
   replica = λ history sent states p v i known h up given.
-      plainly history sent states h (role kind.Replica p) ReplicaIn _
-      (sends_only (λ d. TurnSays history d.msg) (role kind.Replica p) _ (replica_kinds c (role kind.Replica p) refl (durable_of replica_rules (role kind.Replica p) history) v i)
+      plainly history sent states h (role kind.Replica p) ReplicaIn _ (sends_only (λ d. TurnSays history d.msg) (role kind.Replica p)
+      _ (replica_kinds c (role kind.Replica p) refl (durable_of replica_rules (role kind.Replica p) history) v i)
       (λ to. replica_sends (λ m. TurnSays history m) (λ s u. tt) (λ s answers. tt) (λ n. tt) (λ s. tt) (λ seq n found. tt))) tt;
   snap = λ history sent states p v first known h up e. record {
     says = λ d m. says_longer history (snap_by (role kind.Replica p) first ∷ history) (λ k x. inr x) d.msg (h.says d m);
     running = λ a. kept_longer_too history (snap_by (role kind.Replica p) first ∷ history) (λ k x. inr x) a (states a) (h.running a);
   };
   unbatcher = λ history sent states u i known h up given.
-      plainly history sent states h (role kind.Unbatcher u) plain _
-      (sends_only (λ d. TurnSays history d.msg) (role kind.Unbatcher u) _ (unbatcher_kinds c (role kind.Unbatcher u) refl i) (λ to. unbatcher_sends (λ m. TurnSays history m) (λ seq at reply. tt))) tt;
+      plainly history sent states h (role kind.Unbatcher u) plain _ (sends_only (λ d. TurnSays history d.msg) (role kind.Unbatcher u)
+      _ (unbatcher_kinds c (role kind.Unbatcher u) refl i) (λ to. unbatcher_sends (λ m. TurnSays history m) (λ seq at reply. tt))) tt;
   reader = λ history sent states r v i known h up given.
-      let good = turns_good r history (durable_of reader_rules (reader r) history) v c (subst (λ s. BatchIsKept history (reader r) s) up (h.running (reader r))) i in
+      let good = turns_good r history (durable_of reader_rules (reader r) history) v c
+      (subst (λ s. BatchIsKept history (reader r) s) up (h.running (reader r))) i in
       lands history sent states h (reader r) ReaderIn _ good.says good.runs;
   replacer = λ history sent states x v i known h up given.
-      plainly history sent states h (role kind.Replacer x) ReplacerIn _
-      (sends_only (λ d. TurnSays history d.msg) (role kind.Replacer x) _ (replacer_kinds c (role kind.Replacer x) refl (durable_of replacer_rules (role kind.Replacer x) history) v i)
+      plainly history sent states h (role kind.Replacer x) ReplacerIn _ (sends_only (λ d. TurnSays history d.msg) (role kind.Replacer x)
+      _ (replacer_kinds c (role kind.Replacer x) refl (durable_of replacer_rules (role kind.Replacer x) history) v i)
       (λ to. replacer_sends (λ m. TurnSays history m) (λ b. tt) (λ b s. tt) (λ s w es. tt) (λ s. tt))) tt;
 }
 
 pub turns_hold : (c : Cluster) (es : List Event) → HoldsIn TurnsKept (run c es)
-turns_hold c es = run_keeps c (λ n e. Unit {0}) anything TurnsKept (turns_laws c) es (along_anything (run c []) es) (all_allowed (run c []) es)
+turns_hold c es =
+    run_keeps c (λ n e. Unit {0}) anything TurnsKept (turns_laws c) es (along_anything (run c []) es) (all_allowed (run c []) es)

@@ -24,7 +24,8 @@ use Rattle.cx_inv_run.specs.States.{State, durable_of}
 use Rattle.cx_inv_run.proofs.Members.{Member-cases, Member-one}
 use Rattle.cx_inv_run.proofs.Senders.{batcher_kinds, proxy_kinds, acceptor_kinds, matchmaker_kinds, replica_kinds, unbatcher_kinds}
 use Rattle.cx_inv_run.proofs.LeaderSenders.{leader_kinds, replacer_kinds}
-use Rattle.cx_inv_run.proofs.Sends.{batcher_sends, leader_sends, proxy_sends, acceptor_sends, matchmaker_sends, replica_sends, unbatcher_sends, sends_only}
+use Rattle.cx_inv_run.proofs.Sends.{batcher_sends, leader_sends, proxy_sends, acceptor_sends, matchmaker_sends, replica_sends}
+use Rattle.cx_inv_run.proofs.Sends.{unbatcher_sends, sends_only}
 use Rattle.cx_inv_match.specs.Facts.{InState}
 use Rattle.cx_inv_read.specs.Reads.{IsElse, Unread}
 use Rattle.cx_inv_read.proofs.Requests.{IsReadFor}
@@ -39,8 +40,8 @@ module _ (t : Token) where
   Fresh d = IsElse t d.from d.to d.msg
 
   -- what a reader has running was asked for
-  reader_fresh : (c : Cluster) (r : ℕ) (d : ReaderDurable) (v : ReaderVolatile) (sent : List Letter) → Each Fresh sent → ReaderWasTold sent (role kind.Reader r) v
-      → (i : Input) → Each Fresh (reader_row c (role kind.Reader r) d v i).sends
+  reader_fresh : (c : Cluster) (r : ℕ) (d : ReaderDurable) (v : ReaderVolatile) (sent : List Letter) → Each Fresh sent
+      → ReaderWasTold sent (role kind.Reader r) v → (i : Input) → Each Fresh (reader_row c (role kind.Reader r) d v i).sends
   reader_fresh c r d v sent told was =
       reader_tells Fresh c (role kind.Reader r) d v (λ m. tt) (λ b e m. tt) (λ b e w a. tt)
       (λ b e x m n. told _ ((was.batch b e).requests x m))
@@ -72,31 +73,36 @@ module _ (t : Token) where
     start = λ states h d m. absurd m;
     stop = λ history sent states me h. h;
     wake = λ history sent states me h down. h;
-    ask = λ history sent states n e other known h d m. elim (Member-cases d sent (request n e) m) [ inl k ↦ h d k | inr k ↦ asked_fresh n e other d k ];
+    ask = λ history sent states n e other known h d m.
+        elim (Member-cases d sent (request n e) m) [ inl k ↦ h d k | inr k ↦ asked_fresh n e other d k ];
     batcher = λ history sent states b v i known h up given.
         lands history sent states h (role kind.Batcher b) _ _
         (sends_only Fresh (role kind.Batcher b) _ (batcher_kinds c (role kind.Batcher b) refl v i)
         (λ to. batcher_sends (λ m. IsElse t (role kind.Batcher b) to m) (λ commands. tt)));
     leader = λ history sent states l v i known h up given.
-        lands history sent states h (role kind.Leader l) _ _
-        (sends_only Fresh (role kind.Leader l) _ (leader_kinds c (role kind.Leader l) refl (durable_of leader_rules (role kind.Leader l) history) v i)
-        (λ to. leader_sends (λ m. IsElse t (role kind.Leader l) to m) (λ j. tt) (λ j g. tt) (λ j. tt) (λ j g s cw u. tt) (λ j cw. tt) (λ j g. tt)));
+        lands history sent states h (role kind.Leader l) _ _ (sends_only Fresh (role kind.Leader l)
+        _ (leader_kinds c (role kind.Leader l) refl (durable_of leader_rules (role kind.Leader l) history) v i)
+        (λ to. leader_sends (λ m. IsElse t (role kind.Leader l) to m) (λ j. tt) (λ j g. tt) (λ j. tt) (λ j g s cw u. tt) (λ j cw. tt)
+        (λ j g. tt)));
     proxy = λ history sent states p v i known h up given.
         lands history sent states h (role kind.Proxy p) _ _
         (sends_only Fresh (role kind.Proxy p) _ (proxy_kinds c (role kind.Proxy p) refl v i)
         (λ to. proxy_sends (λ m. IsElse t (role kind.Proxy p) to m) (λ j s cw u. tt) (λ s u. tt) (λ j s. tt)));
     acceptor = λ history sent states a i known h up given.
-        lands history sent states h (role kind.Acceptor a) _ _
-        (sends_only Fresh (role kind.Acceptor a) _ (acceptor_kinds c (role kind.Acceptor a) refl (durable_of acceptor_rules (role kind.Acceptor a) history) i)
-        (λ to. acceptor_sends (λ m. IsElse t (role kind.Acceptor a) to m) (λ j cw votes. tt) (λ j promise. tt) (λ j s. tt) (λ j cw. tt) (λ u w n. tt)));
+        lands history sent states h (role kind.Acceptor a) _ _ (sends_only Fresh (role kind.Acceptor a)
+        _ (acceptor_kinds c (role kind.Acceptor a) refl (durable_of acceptor_rules (role kind.Acceptor a) history) i)
+        (λ to. acceptor_sends (λ m. IsElse t (role kind.Acceptor a) to m) (λ j cw votes. tt) (λ j promise. tt) (λ j s. tt) (λ j cw. tt)
+        (λ u w n. tt)));
     matchmaker = λ history sent states m i known h up given.
-        lands history sent states h (role kind.Matchmaker m) _ _
-        (sends_only Fresh (role kind.Matchmaker m) _ (matchmaker_kinds c (role kind.Matchmaker m) refl (durable_of matchmaker_rules (role kind.Matchmaker m) history) i)
-        (λ to. matchmaker_sends (λ x. IsElse t (role kind.Matchmaker m) to x) (λ j w entries. tt) (λ j reason other. tt) (λ j. tt) (λ u w entries. tt) (λ b w entries a s. tt) (λ b other. tt) (λ b. tt) (λ s. tt)));
+        lands history sent states h (role kind.Matchmaker m) _ _ (sends_only Fresh (role kind.Matchmaker m)
+        _ (matchmaker_kinds c (role kind.Matchmaker m) refl (durable_of matchmaker_rules (role kind.Matchmaker m) history) i)
+        (λ to. matchmaker_sends (λ x. IsElse t (role kind.Matchmaker m) to x) (λ j w entries. tt) (λ j reason other. tt) (λ j. tt)
+        (λ u w entries. tt) (λ b w entries a s. tt) (λ b other. tt) (λ b. tt) (λ s. tt)));
     replica = λ history sent states p v i known h up given.
-        lands history sent states h (role kind.Replica p) _ _
-        (sends_only Fresh (role kind.Replica p) _ (replica_kinds c (role kind.Replica p) refl (durable_of replica_rules (role kind.Replica p) history) v i)
-        (λ to. replica_sends (λ m. IsElse t (role kind.Replica p) to m) (λ s value. tt) (λ s answers. tt) (λ n. tt) (λ s. tt) (λ seq n found. tt)));
+        lands history sent states h (role kind.Replica p) _ _ (sends_only Fresh (role kind.Replica p)
+        _ (replica_kinds c (role kind.Replica p) refl (durable_of replica_rules (role kind.Replica p) history) v i)
+        (λ to. replica_sends (λ m. IsElse t (role kind.Replica p) to m) (λ s value. tt) (λ s answers. tt) (λ n. tt) (λ s. tt)
+        (λ seq n found. tt)));
     snap = λ history sent states p v first known h up e. h;
     unbatcher = λ history sent states u i known h up given.
         lands history sent states h (role kind.Unbatcher u) _ _
@@ -107,7 +113,7 @@ module _ (t : Token) where
         (reader_fresh c r (durable_of reader_rules (role kind.Reader r) history) v sent h
         (subst (λ s. InState c history sent (role kind.Reader r) s) up (known.1.running (role kind.Reader r))).0 i);
     replacer = λ history sent states x v i known h up given.
-        lands history sent states h (role kind.Replacer x) _ _
-        (sends_only Fresh (role kind.Replacer x) _ (replacer_kinds c (role kind.Replacer x) refl (durable_of replacer_rules (role kind.Replacer x) history) v i)
+        lands history sent states h (role kind.Replacer x) _ _ (sends_only Fresh (role kind.Replacer x)
+        _ (replacer_kinds c (role kind.Replacer x) refl (durable_of replacer_rules (role kind.Replacer x) history) v i)
         (λ to. replacer_sends (λ m. IsElse t (role kind.Replacer x) to m) (λ b. tt) (λ b s. tt) (λ s w es. tt) (λ s. tt)));
   }

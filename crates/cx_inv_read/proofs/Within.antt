@@ -1,5 +1,6 @@
 -- An answer reports no more values than some replica kept.
-use Rattle.std.proofs.Common.{◌≡◌, ◌⊎◌, ℕ, ◌+◌, ◌-◌, ◌≤◌, true, false, ◌&&◌, not, List, [], ◌∷◌, ◌++◌, map, filter, length, inl, inr, ap, sym, subst, refl, arith}
+use Rattle.std.proofs.Common.{◌≡◌, ◌⊎◌, ℕ, ◌+◌, ◌-◌, ◌≤◌, true, false, ◌&&◌, not, List, [], ◌∷◌, ◌++◌, map, filter, length, inl, inr, ap}
+use Rattle.std.proofs.Common.{sym, subst, refl, arith}
 use Rattle.std.specs.Prelude.{◌==◌, ◌%◌, nat_lt, nat_le, slice_get, Option, None, Some}
 use Rattle.std.specs.List.{list_any}
 use Rattle.std.proofs.lemmas.Bool.{cases_Bool}
@@ -35,7 +36,10 @@ use Rattle.cx_model.specs.Replacer.{replacer_rules}
 use Rattle.cx_model.specs.Names.{names}
 use Rattle.cx_model.specs.Outcome.{Outcome, either_way}
 use Rattle.cx_model.specs.Reader.{reader_rules, make_token}
-use Rattle.cx_model.specs.Replica.{IsTied, ReplicaDurable, ReplicaVolatile, Machine, Executed, held, new_machine, acting, execute_noted, execute, execute_all, execute_value, machine_from, machine_of, results_at, results_from, read_answer_to, read_answers, apply, fetched_by, fetch_found, read_row, held_to, fetch_to, replica_rules, replica_takes, replica_tick, replica_row}
+use Rattle.cx_model.specs.Replica.{IsTied, ReplicaDurable, ReplicaVolatile, Machine, Executed, held, new_machine, acting, execute_noted}
+use Rattle.cx_model.specs.Replica.{execute, execute_all, execute_value, machine_from, machine_of, results_at, results_from, read_answer_to}
+use Rattle.cx_model.specs.Replica.{read_answers, apply, fetched_by, fetch_found, read_row, held_to, fetch_to, replica_rules, replica_takes}
+use Rattle.cx_model.specs.Replica.{replica_tick, replica_row}
 use Rattle.cx_model.specs.Request.{same_read, request}
 use Rattle.cx_model.specs.Unbatcher.{answer_to, unbatcher_takes, unbatcher_row}
 use Rattle.cx_model.specs.World.{run, values_in}
@@ -57,10 +61,12 @@ use Rattle.cx_inv_read.proofs.Says.{told_lands}
 
 -- a replica's values only grow
 
-log_longer : (me : RoleId) (r : Record) (history : List KeptRecord) (p : ℕ) → length (log_in history p) ≤ length (log_in (entry_by me r ∷ history) p)
+log_longer : (me : RoleId) (r : Record) (history : List KeptRecord) (p : ℕ)
+    → length (log_in history p) ≤ length (log_in (entry_by me r ∷ history) p)
 log_longer me r history p = go (cases_Bool (same_role (role kind.Replica p) me))
   where
-    go : (same_role (role kind.Replica p) me ≡ true) ⊎ (same_role (role kind.Replica p) me ≡ false) → length (log_in history p) ≤ length (log_in (entry_by me r ∷ history) p)
+    go : (same_role (role kind.Replica p) me ≡ true) ⊎ (same_role (role kind.Replica p) me ≡ false)
+        → length (log_in history p) ≤ length (log_in (entry_by me r ∷ history) p)
     go (inl t) =
         subst (λ a. length (log_in history p) ≤ length (log_in (entry_by a r ∷ history) p)) (same_role-true (role kind.Replica p) me t)
         (omega (arith, ap length (log_own p r history), length-append (log_in history p) (values_in (written.Record r))))
@@ -84,9 +90,8 @@ UpTo n answers = (a : Answered) → Member a answers → a.at ≤ n
 
 noted_there : (client seq : ℕ) (notes : List Answered) (a : Answered) → noted_for client seq notes ≡ Some a → Member a notes
 noted_there client seq [] a e = cc
-noted_there client seq (x ∷ notes) a e =
-    either_way (λ (o : Option Answered). o ≡ Some a → Member a (x ∷ notes)) (is_answer_of client seq x) (Some x) (noted_for client seq notes)
-    (λ q. inl (sym (same_Some x a q))) (λ q. inr (noted_there client seq notes a q)) e
+noted_there client seq (x ∷ notes) a e = either_way (λ (o : Option Answered). o ≡ Some a → Member a (x ∷ notes)) (is_answer_of client seq x)
+    (Some x) (noted_for client seq notes) (λ q. inl (sym (same_Some x a q))) (λ q. inr (noted_there client seq notes a q)) e
 
 up_more : (n k : ℕ) (answers : List Answered) → n ≤ k → UpTo n answers → UpTo k answers
 up_more n k answers l h a m = let p = h a m in omega arith
@@ -116,29 +121,35 @@ acting_up at m c h = (
   one_up at _ refl,
 )
 
-noted_up : (at : ℕ) (m : Machine) (c : Command) (o : Option Answered) → noted_for c.client c.seq m.table.notes ≡ o → UpTo at m.table.notes → IsUpTo at (execute_noted at m c o)
+noted_up : (at : ℕ) (m : Machine) (c : Command) (o : Option Answered) → noted_for c.client c.seq m.table.notes ≡ o → UpTo at m.table.notes
+    → IsUpTo at (execute_noted at m c o)
 noted_up at m c None e h = acting_up at m c h
 noted_up at m c (Some last) e h = (
   still_up at c.client c.floor m.table.notes h,
-  λ a k. elim k [ inl q ↦ h a (subst (λ x. Member x m.table.notes) (sym q) (noted_there c.client c.seq m.table.notes last e)) | inr q ↦ absurd q ],
+  λ a k. elim k [
+    | inl q ↦ h a (subst (λ x. Member x m.table.notes) (sym q) (noted_there c.client c.seq m.table.notes last e))
+    | inr q ↦ absurd q
+  ],
 )
 
 behind_up : (at : ℕ) (m : Machine) (c : Command) → UpTo at m.table.notes → IsUpTo at (execute at m c)
-behind_up at m c h =
-    either_way (IsUpTo at) (is_done c.seq (floor_of c.client m.table.floors)) _ _ (still_up at c.client c.floor m.table.notes h, λ a k. absurd k)
-    (noted_up at m c (noted_for c.client c.seq m.table.notes) refl h)
+behind_up at m c h = either_way (IsUpTo at) (is_done c.seq (floor_of c.client m.table.floors))
+    _ _ (still_up at c.client c.floor m.table.notes h, λ a k. absurd k) (noted_up at m c (noted_for c.client c.seq m.table.notes) refl h)
 
 all_up : (at : ℕ) (m : Machine) (cs : List Command) → UpTo at m.table.notes → IsUpTo at (execute_all at m cs)
 all_up at m [] h = (h, λ a k. absurd k)
 all_up at m (c ∷ cs) h =
     let one = behind_up at m c h in
-    let rest = all_up at (execute at m c).machine cs one.0 in
-    (rest.0, Member-both (λ (a : Answered). a.at ≤ at) (execute at m c).answers (execute_all at (execute at m c).machine cs).answers one.1 rest.1)
+    let rest = all_up at (execute at m c).machine cs one.0 in (
+      rest.0,
+      Member-both (λ (a : Answered). a.at ≤ at) (execute at m c).answers (execute_all at (execute at m c).machine cs).answers one.1 rest.1,
+    )
 
 value_up : (slot : ℕ) (m : Machine) (v : Value) → UpTo slot m.table.notes → IsUpTo (slot + 1) (execute_value slot m v)
 value_up slot m v h = all_up (slot + 1) m (commands_of v) (up_more slot (slot + 1) m.table.notes (omega arith) h)
 
-machine_up : (vs : List Value) (slot : ℕ) (m : Machine) → UpTo slot m.table.notes → UpTo (slot + length vs) (machine_from slot m vs).table.notes
+machine_up : (vs : List Value) (slot : ℕ) (m : Machine) → UpTo slot m.table.notes
+    → UpTo (slot + length vs) (machine_from slot m vs).table.notes
 machine_up [] slot m h = up_more slot (slot + 0) m.table.notes (omega arith) h
 machine_up (v ∷ vs) slot m h =
     let rest = machine_up vs (slot + 1) (execute_value slot m v).machine (value_up slot m v h).0 in
@@ -147,15 +158,16 @@ machine_up (v ∷ vs) slot m h =
 log_up : (log : List Value) → UpTo (length log) (machine_of log).table.notes
 log_up log = let h = machine_up log 0 new_machine (λ a k. absurd k) in λ a k. let p = h a k in omega arith
 
-results_up : (P : Letter → Type 0) (c : Cluster) (me : RoleId) (n : ℕ) → ((to : RoleId) (slot : ℕ) (answers : List Answered) → UpTo n answers → P (letter me to (msg.Results slot answers)))
+results_up : (P : Letter → Type 0) (c : Cluster) (me : RoleId) (n : ℕ)
+    → ((to : RoleId) (slot : ℕ) (answers : List Answered) → UpTo n answers → P (letter me to (msg.Results slot answers)))
     → (vs : List Value) (slot : ℕ) (m : Machine) → slot + length vs ≤ n → UpTo slot m.table.notes → Each P (results_from c me slot m vs)
 results_up P c me n says [] slot m l h = λ d k. absurd k
 results_up P c me n says (v ∷ vs) slot m l h =
     let one = value_up slot m v h in
     Member-both P (results_at c me slot (execute_value slot m v).answers) (results_from c me (slot + 1) (execute_value slot m v).machine vs)
     (either_way (Each P) ((slot % c.replicas == me.index) && nat_lt 0 (length (execute_value slot m v).answers)) _ _
-    (Member-one P _ (says _ slot (execute_value slot m v).answers (up_more (slot + 1) n (execute_value slot m v).answers (omega arith) one.1))) (λ d k. absurd k))
-    (results_up P c me n says vs (slot + 1) (execute_value slot m v).machine (omega arith) one.0)
+    (Member-one P _ (says _ slot (execute_value slot m v).answers (up_more (slot + 1) n (execute_value slot m v).answers (omega arith)
+    one.1))) (λ d k. absurd k)) (results_up P c me n says vs (slot + 1) (execute_value slot m v).machine (omega arith) one.0)
 
 -- the rows of each role
 
@@ -167,7 +179,8 @@ abbrev Good : {V : Type 0} → List KeptRecord → RoleId → Outcome V → Type
 Good history me o = Each (Says (with_record me o.kept history)) o.sends
 
 -- a replica, whose durable part is tied to all values that it kept
-module _ (c : Cluster) (history : List KeptRecord) (p : ℕ) (tied : IsTied (durable_of replica_rules (role kind.Replica p) history) (log_in history p)) where
+module _ (c : Cluster) (history : List KeptRecord) (p : ℕ)
+    (tied : IsTied (durable_of replica_rules (role kind.Replica p) history) (log_in history p)) where
   abbrev self : RoleId
   self = role kind.Replica p
 
@@ -189,10 +202,11 @@ module _ (c : Cluster) (history : List KeptRecord) (p : ℕ) (tied : IsTied (dur
       let after = machine_from (held d) d.machine values in
       let says = Says (entry_by self (kept.Log values) ∷ history) in
       let all : n ≡ length (log ++ values) = omega (arith, count, length-append log values) in
-      let noted : UpTo (held d) d.machine.table.notes =
-      subst (λ k. UpTo k d.machine.table.notes) (sym count) (subst (λ (m : Machine). UpTo (length log) m.table.notes) (sym tied.machine) (log_up log)) in
+      let noted : UpTo (held d) d.machine.table.notes = subst (λ k. UpTo k d.machine.table.notes) (sym count)
+      (subst (λ (m : Machine). UpTo (length log) m.table.notes) (sym tied.machine) (log_up log)) in
       Member-both says (results_from c self (held d) d.machine values) (read_answers self n after v.deferred)
-      (results_up says c self n (λ to slot answers h a k. kept_within values a.at (let l = h a k in omega (arith, all, l))) values (held d) d.machine (omega arith) noted)
+      (results_up says c self n (λ to slot answers h a k. kept_within values a.at (let l = h a k in omega (arith, all, l))) values (held d)
+      d.machine (omega arith) noted)
       (λ x k. let r = Member-map (read_answer_to self n after) x (filter (λ (r : Deferred). nat_le r.mark n) v.deferred) k in
       subst says (sym r.2) (kept_within values n (omega (arith, all))))
 
@@ -236,7 +250,8 @@ module _ (c : Cluster) (history : List KeptRecord) (me : RoleId) where
       λ x k. let r = Member-map (answer_to me) x answers k in subst (Says history) (sym r.2) (says r.0 r.1)
   unbatcher_took other says = λ x k. absurd k
 
-  unbatcher_good : (sent : List Letter) → Each (Says history) sent → (i : Input) → Given sent me i → Good history me (unbatcher_row c me tt tt i)
+  unbatcher_good : (sent : List Letter) → Each (Says history) sent → (i : Input) → Given sent me i
+      → Good history me (unbatcher_row c me tt tt i)
   unbatcher_good sent told (input.Take l) given =
       either_way (Good history me) (same_role l.to me && names c l) _ _ (unbatcher_took l.msg (told l given.1)) (λ x k. absurd k)
   unbatcher_good sent told input.Tick given = λ x k. absurd k
@@ -244,7 +259,8 @@ module _ (c : Cluster) (history : List KeptRecord) (me : RoleId) where
 
 lands : {V : Type 0} (history : List KeptRecord) (sent : List Letter) (states : RoleId → State) → Within history sent states
     → (me : RoleId) (make : V → State) (o : Outcome V) → Good history me o → Lands Within history sent states me make o
-lands history sent states told me make o good = told_lands Says (λ a r h d x. still_tells h (entry_by a r ∷ h) (log_longer a r h) d.msg x) history sent states told me make o good
+lands history sent states told me make o good =
+    told_lands Says (λ a r h d x. still_tells h (entry_by a r ∷ h) (log_longer a r h) d.msg x) history sent states told me make o good
 
 within_laws : (c : Cluster) → Laws c (λ n e. Unit {0}) Ties Within
 within_laws c = record {
@@ -256,23 +272,24 @@ within_laws c = record {
       Member-both (Says history) sent (request n e) h
       (requested (Says history) (λ from to command. tt) (λ from to seq replica key. tt) (λ from to seq k key. tt) n e);
   batcher = λ history sent states b v i known h up given.
-      lands history sent states h (role kind.Batcher b) _ _
-      (sends_only _ (role kind.Batcher b) _ (batcher_kinds c (role kind.Batcher b) refl v i) (λ to. batcher_sends (TellsWithin _) (λ commands. tt)));
+      lands history sent states h (role kind.Batcher b) _ _ (sends_only _ (role kind.Batcher b)
+      _ (batcher_kinds c (role kind.Batcher b) refl v i) (λ to. batcher_sends (TellsWithin _) (λ commands. tt)));
   leader = λ history sent states l v i known h up given.
-      lands history sent states h (role kind.Leader l) _ _
-      (sends_only _ (role kind.Leader l) _ (leader_kinds c (role kind.Leader l) refl (durable_of leader_rules (role kind.Leader l) history) v i)
+      lands history sent states h (role kind.Leader l) _ _ (sends_only _ (role kind.Leader l)
+      _ (leader_kinds c (role kind.Leader l) refl (durable_of leader_rules (role kind.Leader l) history) v i)
       (λ to. leader_sends (TellsWithin _) (λ j. tt) (λ j g. tt) (λ j. tt) (λ j g s cw u. tt) (λ j cw. tt) (λ j g. tt)));
   proxy = λ history sent states p v i known h up given.
-      lands history sent states h (role kind.Proxy p) _ _
-      (sends_only _ (role kind.Proxy p) _ (proxy_kinds c (role kind.Proxy p) refl v i) (λ to. proxy_sends (TellsWithin _) (λ j s cw u. tt) (λ s u. tt) (λ j s. tt)));
+      lands history sent states h (role kind.Proxy p) _ _ (sends_only _ (role kind.Proxy p) _ (proxy_kinds c (role kind.Proxy p) refl v i)
+      (λ to. proxy_sends (TellsWithin _) (λ j s cw u. tt) (λ s u. tt) (λ j s. tt)));
   acceptor = λ history sent states a i known h up given.
-      lands history sent states h (role kind.Acceptor a) _ _
-      (sends_only _ (role kind.Acceptor a) _ (acceptor_kinds c (role kind.Acceptor a) refl (durable_of acceptor_rules (role kind.Acceptor a) history) i)
+      lands history sent states h (role kind.Acceptor a) _ _ (sends_only _ (role kind.Acceptor a)
+      _ (acceptor_kinds c (role kind.Acceptor a) refl (durable_of acceptor_rules (role kind.Acceptor a) history) i)
       (λ to. acceptor_sends (TellsWithin _) (λ j cw votes. tt) (λ j promise. tt) (λ j s. tt) (λ j cw. tt) (λ t w n. tt)));
   matchmaker = λ history sent states m i known h up given.
-      lands history sent states h (role kind.Matchmaker m) _ _
-      (sends_only _ (role kind.Matchmaker m) _ (matchmaker_kinds c (role kind.Matchmaker m) refl (durable_of matchmaker_rules (role kind.Matchmaker m) history) i)
-      (λ to. matchmaker_sends (TellsWithin _) (λ j w entries. tt) (λ j reason other. tt) (λ j. tt) (λ t w entries. tt) (λ b w entries a s. tt) (λ b other. tt) (λ b. tt) (λ s. tt)));
+      lands history sent states h (role kind.Matchmaker m) _ _ (sends_only _ (role kind.Matchmaker m)
+      _ (matchmaker_kinds c (role kind.Matchmaker m) refl (durable_of matchmaker_rules (role kind.Matchmaker m) history) i)
+      (λ to. matchmaker_sends (TellsWithin _) (λ j w entries. tt) (λ j reason other. tt) (λ j. tt) (λ t w entries. tt)
+      (λ b w entries a s. tt) (λ b other. tt) (λ b. tt) (λ s. tt)));
   replica = λ history sent states p v i known h up given.
       lands history sent states h (role kind.Replica p) _ _ (replica_good c history p (known.tied p) v i);
   snap = λ history sent states p v first known h up e d m.
@@ -282,12 +299,14 @@ within_laws c = record {
       lands history sent states h (role kind.Unbatcher u) _ _ (unbatcher_good c history (role kind.Unbatcher u) sent h i given);
   reader = λ history sent states r v i known h up given.
       lands history sent states h (role kind.Reader r) _ _
-      (sends_only _ (role kind.Reader r) _ (reader_kinds c (role kind.Reader r) refl (durable_of reader_rules (role kind.Reader r) history) v i) (λ to. reader_sends (TellsWithin _) (λ t. tt) (λ t w. tt) (λ t n key. tt)));
+      (sends_only _ (role kind.Reader r) _ (reader_kinds c (role kind.Reader r) refl (durable_of reader_rules (role kind.Reader r) history)
+      v i) (λ to. reader_sends (TellsWithin _) (λ t. tt) (λ t w. tt) (λ t n key. tt)));
   replacer = λ history sent states x v i known h up given.
-      lands history sent states h (role kind.Replacer x) _ _
-      (sends_only _ (role kind.Replacer x) _ (replacer_kinds c (role kind.Replacer x) refl (durable_of replacer_rules (role kind.Replacer x) history) v i)
+      lands history sent states h (role kind.Replacer x) _ _ (sends_only _ (role kind.Replacer x)
+      _ (replacer_kinds c (role kind.Replacer x) refl (durable_of replacer_rules (role kind.Replacer x) history) v i)
       (λ to. replacer_sends (TellsWithin _) (λ b. tt) (λ b s. tt) (λ s w es. tt) (λ s. tt)));
 }
 
 pub within_holds : (c : Cluster) (es : List Event) → HoldsIn Within (run c es)
-within_holds c es = run_keeps c (λ n e. Unit {0}) Ties Within (within_laws c) es (along c Ties (ties_hold c) [] es) (all_allowed (run c []) es)
+within_holds c es =
+    run_keeps c (λ n e. Unit {0}) Ties Within (within_laws c) es (along c Ties (ties_hold c) [] es) (all_allowed (run c []) es)

@@ -1,6 +1,6 @@
--- What the datagrams of a turn and of a read say: of the history as it was at a moment before the read was first asked for, and of a read that
--- was not asked for; that turns were kept; what the datagrams of a session say; on which question to a replica an answer stands, and how many
--- values some replica kept.
+-- What the datagrams of a turn and of a read say: of the history as it was at a moment before the read was first asked for, and of a read
+-- that was not asked for; that turns were kept; what the datagrams of a session say; on which question to a replica an answer stands, and
+-- how many values some replica kept.
 use Rattle.std.specs.Prelude.{◌≡◌, ◌⊎◌, ℕ, ◌<◌, ◌≤◌, false, List, length, Option, None, Some}
 use Rattle.cx_base.specs.declared.cluster.Cluster.{Cluster}
 use Rattle.cx_base.specs.declared.command.Answered.{Answered}
@@ -50,8 +50,9 @@ IsAbove history n = (j : Round) (s : ℕ) (v : Value) → IsChosenIn history j s
 abbrev pub IsRaised : List KeptRecord → Round → Type 0
 IsRaised history w = (w ≡ no_round) ⊎ ((m : RoleId) × (g : Shape) × HasGarbage history m w g)
 
--- A matchmaker that hadn't stopped at the earlier moment answers. It tells each round that it had then, unless its retirement watermark is above
--- it. It is one of the first set; or it tells all that it began with, unless its retirement watermark, which isn't below that one, is above it.
+-- A matchmaker that hadn't stopped at the earlier moment answers. It tells each round that it had then, unless its retirement watermark is
+-- above it. It is one of the first set; or it tells all that it began with, unless its retirement watermark, which isn't below that one, is
+-- above it.
 pub record IsReadAnswer (c : Cluster) (asked history : List KeptRecord) (m : RoleId) (water : Round) (entries : List Entry) : Type 0 where
   pub running : HasStopped asked m → ⊥
   pub all : (j : Round) (g : Shape) → is_before j water ≡ false → HasRound asked m j g → Member (entry j g) entries
@@ -66,8 +67,8 @@ pub record IsReadAnswer (c : Cluster) (asked history : List KeptRecord) (m : Rol
 abbrev pub IsNew : List KeptRecord → Asking → Type 0
 IsNew asked u = HasTurn asked u → ⊥
 
--- What a datagram says where its turn is new, or where it is of the read, up to the question to a replica. A kind that isn't named says nothing
--- here: of what a replica answers, and of a session, see below.
+-- What a datagram says where its turn is new, or where it is of the read, up to the question to a replica. A kind that isn't named says
+-- nothing here: of what a replica answers, and of a session, see below.
 abbrev pub ReadSays : Cluster → List KeptRecord → Token → List KeptRecord → RoleId → RoleId → Msg → Type 0
 ReadSays c asked t history from to (msg.MatchReadAck u w entries) = IsNew asked u → IsReadAnswer c asked history from w entries
 ReadSays c asked t history from to (msg.PreRead u w) = IsNew asked u → IsRaised history w
@@ -79,9 +80,10 @@ ReadSays c asked t history from to other = Unit {0}
 abbrev pub IsAcked : List Letter → Asking → Round → RoleId → ℕ → Type 0
 IsAcked sent u w a n = (to : RoleId) × Member (letter a to (msg.PreReadAck u w n)) sent
 
--- All numbers by which acceptors answered a turn with this retirement watermark cover the records of one moment, not before the earlier one, at
--- which the rounds below the retirement watermark could be forgotten.
-pub record IsSeen (c : Cluster) (asked : List KeptRecord) (sent0 : List Letter) (u : Asking) (history : List KeptRecord) (sent : List Letter) (w : Round) : Type 0 where
+-- All numbers by which acceptors answered a turn with this retirement watermark cover the records of one moment, not before the earlier
+-- one, at which the rounds below the retirement watermark could be forgotten.
+pub record IsSeen (c : Cluster) (asked : List KeptRecord) (sent0 : List Letter) (u : Asking) (history : List KeptRecord)
+    (sent : List Letter) (w : Round) : Type 0 where
   pub past : List KeptRecord
   pub sent_then : List Letter
   pub within : Has history past
@@ -96,9 +98,10 @@ abbrev pub HasEvidence : Cluster → List KeptRecord → List Letter → Asking 
 HasEvidence c asked sent0 u history sent w =
     (w ≡ no_round) ⊎ (((a : RoleId) (n : ℕ) → IsAcked sent u w a n → ⊥) ⊎ IsSeen c asked sent0 u history sent w)
 
--- No matchmaker was counted twice for a batch, and each is a member of one known set; while more are counted, of the set that the reader knows. And
--- where the read is one of the batch, the batch's turn is a new one.
-pub record IsBatch (c : Cluster) (asked : List KeptRecord) (t : Token) (history : List KeptRecord) (me : RoleId) (s : List ℕ) (b : Batch) : Type 0 where
+-- No matchmaker was counted twice for a batch, and each is a member of one known set; while more are counted, of the set that the reader
+-- knows. And where the read is one of the batch, the batch's turn is a new one.
+pub record IsBatch (c : Cluster) (asked : List KeptRecord) (t : Token) (history : List KeptRecord) (me : RoleId) (s : List ℕ)
+    (b : Batch) : Type 0 where
   pub set : List ℕ
   pub set_known : IsKnown c history set
   pub once : AreOnce (answering_matchmakers b.told)
@@ -115,7 +118,8 @@ InReader c asked t history me (ReaderIn v) = HasBatch c asked t history me v.set
 InReader c asked t history me other = Unit {0}
 
 -- the facts on new turns and on a read, from a moment on that had these records and datagrams
-pub record FreshReadFacts (c : Cluster) (asked : List KeptRecord) (sent0 : List Letter) (t : Token) (history : List KeptRecord) (sent : List Letter) (states : RoleId → State) : Type 0 where
+pub record FreshReadFacts (c : Cluster) (asked : List KeptRecord) (sent0 : List Letter) (t : Token) (history : List KeptRecord)
+    (sent : List Letter) (states : RoleId → State) : Type 0 where
   pub has : Has history asked
   pub has_sent : HasSent sent sent0
   pub says : (d : Letter) → Member d sent → ReadSays c asked t history d.from d.to d.msg
@@ -157,8 +161,8 @@ SessionSays t Marks from other = Unit {0}
 abbrev pub Sessions : Token → (ℕ → Type 0) → List KeptRecord → List Letter → (RoleId → State) → Type 0
 Sessions t Marks history sent states = (d : Letter) → Member d sent → SessionSays t Marks d.from d.msg
 
--- An answer to a client stands on a question that was sent to a replica for this client and number, by a reader or in a session: it is answered
--- after at least as many values as were asked for.
+-- An answer to a client stands on a question that was sent to a replica for this client and number, by a reader or in a session: it is
+-- answered after at least as many values as were asked for.
 pub record HasQuestion (sent : List Letter) (to : RoleId) (seq n : ℕ) : Type 0 where
   pub replica : RoleId
   pub question : Deferred

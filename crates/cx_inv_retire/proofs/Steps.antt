@@ -24,7 +24,8 @@ use Rattle.cx_model.specs.Replica.{replica_rules, replica_row}
 use Rattle.cx_model.specs.Unbatcher.{unbatcher_row}
 use Rattle.cx_model.specs.World.{World, change, step, run, run_from}
 use Rattle.cx_inv_run.specs.Laws.{Laws, HoldsAlong}
-use Rattle.cx_inv_run.specs.States.{State, Down, BatcherIn, ProxyIn, ReplicaIn, ReplacerIn, plain, fresh_state, snap_by, durable_of, HoldsIn}
+use Rattle.cx_inv_run.specs.States.{State, Down, BatcherIn, ProxyIn, ReplicaIn, ReplacerIn, plain, fresh_state, snap_by, durable_of}
+use Rattle.cx_inv_run.specs.States.{HoldsIn}
 use Rattle.cx_inv_run.proofs.KindLaws.{kinds_hold}
 use Rattle.cx_inv_run.proofs.Members.{Member-first, Member-reverse, Member-turned}
 use Rattle.cx_inv_run.proofs.Senders.{acceptor_kinds, batcher_kinds, unbatcher_kinds, proxy_kinds, replica_kinds}
@@ -54,12 +55,14 @@ fresh_counted c kind.Unbatcher = tt
 fresh_counted c kind.Reader = tt
 fresh_counted c kind.Replacer = tt
 
-pub retire_laws : (c : Cluster) (past : List KeptRecord) (fresh : Asking → Type 0) → Laws c (λ n e. Unit {0}) (Known c past) (RetireFacts c past fresh)
+pub retire_laws : (c : Cluster) (past : List KeptRecord) (fresh : Asking → Type 0)
+    → Laws c (λ n e. Unit {0}) (Known c past) (RetireFacts c past fresh)
 retire_laws c past fresh = record {
   same = λ history sent states others e h. same_states c past fresh history sent states h others e;
   start = λ states first. record {
     says = λ d m. absurd m;
-    running = λ a. elim (first a) [ inl e ↦ subst (λ s. HasCounted c s) (sym e) tt | inr e ↦ subst (λ s. HasCounted c s) (sym e) (fresh_counted c a.kind) ];
+    running = λ a. elim (first
+        a) [ inl e ↦ subst (λ s. HasCounted c s) (sym e) tt | inr e ↦ subst (λ s. HasCounted c s) (sym e) (fresh_counted c a.kind) ];
   };
   stop = λ history sent states me h. set c past fresh history sent states h me Down tt;
   wake = λ history sent states me h down. set c past fresh history sent states h me (fresh_state c me.kind) (fresh_counted c me.kind);
@@ -80,7 +83,8 @@ retire_laws c past fresh = record {
       quiet_lands c past fresh history sent states h (role kind.Replica p) ReplicaIn kind.Replica (λ e. cc) (λ e. cc) (λ e. cc) refl
       (replica_row c (role kind.Replica p) (durable_of replica_rules (role kind.Replica p) history) v i)
       (replica_kinds c (role kind.Replica p) refl (durable_of replica_rules (role kind.Replica p) history) v i) tt;
-  snap = λ history sent states p v first known h is e. grown c past fresh history sent states h (snap_by (role kind.Replica p) first ∷ history) (λ k m. inr m);
+  snap = λ history sent states p v first known h is e.
+      grown c past fresh history sent states h (snap_by (role kind.Replica p) first ∷ history) (λ k m. inr m);
   unbatcher = λ history sent states u i known h is given.
       quiet_lands c past fresh history sent states h (role kind.Unbatcher u) plain kind.Unbatcher (λ e. cc) (λ e. cc) (λ e. cc) refl
       (unbatcher_row c (role kind.Unbatcher u) tt tt i) (unbatcher_kinds c (role kind.Unbatcher u) refl i) tt;
@@ -102,16 +106,21 @@ has_from w [] k m = m
 has_from w (e ∷ es) k m = has_from (step w e) es k (step_has w e k m)
 
 pub has_run : (c : Cluster) (es more : List Event) → Has (reverse (run c (es ++ more)).kept) (reverse (run c es).kept)
-has_run c es more = subst (λ (w : World). Has (reverse w.kept) (reverse (run c es).kept)) (sym (run_append c es more)) (has_from (run c es) more)
+has_run c es more =
+    subst (λ (w : World). Has (reverse w.kept) (reverse (run c es).kept)) (sym (run_append c es more)) (has_from (run c es) more)
 
-knows : (c : Cluster) (past : List KeptRecord) → SetFacts c past → (es : List Event) → Has (reverse (run c es).kept) past → HoldsIn (Known c past) (run c es)
-knows c past then es has = record { kinds = kinds_hold c es; facts = facts_hold c es; readers = λ me t. (reads_always c es t).readers me; has = has; then = then }
+knows : (c : Cluster) (past : List KeptRecord) → SetFacts c past → (es : List Event) → Has (reverse (run c es).kept) past
+    → HoldsIn (Known c past) (run c es)
+knows c past then es has =
+    record { kinds = kinds_hold c es; facts = facts_hold c es; readers = λ me t. (reads_always c es t).readers me; has = has; then = then }
 
-knows_along : (c : Cluster) (past : List KeptRecord) → SetFacts c past → (es more : List Event) → Has (reverse (run c es).kept) past → HoldsAlong (Known c past) (run c es) more
+knows_along : (c : Cluster) (past : List KeptRecord) → SetFacts c past → (es more : List Event) → Has (reverse (run c es).kept) past
+    → HoldsAlong (Known c past) (run c es) more
 knows_along c past then es [] has = knows c past then es has
 knows_along c past then es (e ∷ more) has = (
   knows c past then es has,
-  subst (λ w. HoldsAlong (Known c past) w more) (run_append c es (e ∷ [])) (knows_along c past then (es ++ e ∷ []) more (λ k m. has_run c es (e ∷ []) k (has k m))),
+  subst (λ w. HoldsAlong (Known c past) w more) (run_append c es (e ∷ []))
+      (knows_along c past then (es ++ e ∷ []) more (λ k m. has_run c es (e ∷ []) k (has k m))),
 )
 
 -- from the start on there is no past, and no turn is fresh
@@ -132,7 +141,8 @@ pub record IsFresh (sent : List Letter) (u : Asking) : Type 0 where
 
 -- any moment is a past
 
-module _ (c : Cluster) (history : List KeptRecord) (sent : List Letter) (states : RoleId → State) (facts : Facts c history sent states) (h : RetireFacts c [] no_turn history sent states) where
+module _ (c : Cluster) (history : List KeptRecord) (sent : List Letter) (states : RoleId → State) (facts : Facts c history sent states)
+    (h : RetireFacts c [] no_turn history sent states) where
   not_new : (m : RoleId) (k : Round) → HasLog history m k → IsNewRound history k → ⊥
   not_new m k x new = new x.0 (logged x.1)
     where
@@ -141,7 +151,8 @@ module _ (c : Cluster) (history : List KeptRecord) (sent : List Letter) (states 
       logged (inl (inr y)) = ((facts.sets.booted m y.0 y.1 y.2 y.3).1.join.only (entry k x.0) y.4).0
       logged (inr y) = (facts.garbaged m k x.0 y).0
 
-  now_says : (from to : RoleId) (m : Msg) → Member (letter from to m) sent → RetireSays c [] no_turn history from to m → RetireSays c history (IsFresh sent) history from to m
+  now_says : (from to : RoleId) (m : Msg) → Member (letter from to m) sent → RetireSays c [] no_turn history from to m
+      → RetireSays c history (IsFresh sent) history from to m
   now_says from to (msg.MatchB k w es) x says = λ new. absurd (not_new from k (facts.says _ x).matched new)
   now_says from to (msg.GarbageB i) x says = says
   now_says from to (msg.Phase1A k) x says = (says.0, λ new. absurd (new says.0.0 says.0.1))
@@ -153,10 +164,12 @@ module _ (c : Cluster) (history : List KeptRecord) (sent : List Letter) (states 
   now = record { says = λ d m. now_says d.from d.to d.msg m (h.says d m); running = h.running }
 
 -- so the facts hold of a longer run, from there on
-pub since : (c : Cluster) (es more : List Event) → HoldsIn (RetireFacts c (reverse (run c es).kept) (IsFresh (run c es).sent)) (run c (es ++ more))
+pub since : (c : Cluster) (es more : List Event)
+    → HoldsIn (RetireFacts c (reverse (run c es).kept) (IsFresh (run c es).sent)) (run c (es ++ more))
 since c es more =
     let w = run c es in
     let past = reverse w.kept in
-    subst (λ x. HoldsIn (RetireFacts c past (IsFresh w.sent)) x) (sym (run_append c es more))
-    (run_from_keeps c (λ n e. Unit {0}) (Known c past) (RetireFacts c past (IsFresh w.sent)) (retire_laws c past (IsFresh w.sent)) w (run_cluster c es)
-    (now c past w.sent w.roles (facts_hold c es) (retire_holds c es)) more (knows_along c past (facts_hold c es).sets es more (λ k m. m)) (all_allowed w more))
+    subst (λ x. HoldsIn (RetireFacts c past (IsFresh w.sent)) x) (sym (run_append c es more)) (run_from_keeps c (λ n e. Unit {0})
+    (Known c past) (RetireFacts c past (IsFresh w.sent)) (retire_laws c past (IsFresh w.sent)) w (run_cluster c es)
+    (now c past w.sent w.roles (facts_hold c es) (retire_holds c es)) more (knows_along c past (facts_hold c es).sets es more (λ k m. m))
+    (all_allowed w more))

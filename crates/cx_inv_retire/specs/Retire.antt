@@ -50,23 +50,26 @@ pub record IsRetired (c : Cluster) (history : List KeptRecord) (i : Round) : Typ
 abbrev pub IsFromRetired : Cluster → List KeptRecord → List KeptRecord → RoleId → Type 0
 IsFromRetired c past history to = (i : Round) → IsRetired c past i → IsMemberFrom history i to
 
--- a matchmaker that hadn't stopped in the past tells a retirement watermark that isn't below one that it had then, nor below the one with which it
--- began
+-- a matchmaker that hadn't stopped in the past tells a retirement watermark that isn't below one that it had then, nor below the one with
+-- which it began
 pub record IsRisen (c : Cluster) (past history : List KeptRecord) (m : RoleId) (w : Round) : Type 0 where
   pub running : HasStopped past m → ⊥
   pub garbages : (j : Round) (g : Shape) → HasGarbage past m j g → is_before w j ≡ false
   pub boots : (t : List ℕ) (v : Round) (xs : List Entry) → HasBoot past m t v xs → is_before w v ≡ false
-  pub began : Member m.index (first_set c) ⊎ ((t : List ℕ) × (v : Round) × (xs : List Entry) × HasBoot history m t v xs × (is_before w v ≡ false))
+  pub began : Member m.index (first_set c)
+      ⊎ ((t : List ℕ) × (v : Round) × (xs : List Entry) × HasBoot history m t v xs × (is_before w v ≡ false))
 
 -- these entries are of rounds that were kept
 abbrev pub AreConfigs : List KeptRecord → List Entry → Type 0
 AreConfigs history es = (e : Entry) → Member e es → IsConfig history e.round e.grid
 
--- What a datagram says: of itself, and where its round is newer than the past, or its turn is fresh. A kind that isn't named says nothing here.
+-- What a datagram says: of itself, and where its round is newer than the past, or its turn is fresh. A kind that isn't named says nothing
+-- here.
 abbrev pub RetireSays : Cluster → List KeptRecord → (Asking → Type 0) → List KeptRecord → RoleId → RoleId → Msg → Type 0
 RetireSays c past fresh history from to (msg.MatchB k w es) = IsNewRound past k → IsRisen c past history from w
 RetireSays c past fresh history from to (msg.GarbageB i) = HasForgotten history from i
-RetireSays c past fresh history from to (msg.Phase1A k) = ((g : Shape) × IsConfig history k g) × (IsNewRound past k → IsFromRetired c past history to)
+RetireSays c past fresh history from to (msg.Phase1A k) =
+    ((g : Shape) × IsConfig history k g) × (IsNewRound past k → IsFromRetired c past history to)
 RetireSays c past fresh history from to (msg.MatchReadAck u w es) = AreConfigs history es × (fresh u → IsRisen c past history from w)
 RetireSays c past fresh history from to (msg.PreRead u w) = fresh u → IsFromRetired c past history to
 RetireSays c past fresh history from to other = Unit {0}
@@ -87,12 +90,14 @@ WordSays c history own why.Retired = IsRetired c history own
 WordSays c history own other = Unit {0}
 
 -- The facts on retirement, relative to a past and to the turns that are fresh since then.
-pub record RetireFacts (c : Cluster) (past : List KeptRecord) (fresh : Asking → Type 0) (history : List KeptRecord) (sent : List Letter) (states : RoleId → State) : Type 0 where
+pub record RetireFacts (c : Cluster) (past : List KeptRecord) (fresh : Asking → Type 0) (history : List KeptRecord) (sent : List Letter)
+    (states : RoleId → State) : Type 0 where
   pub says : (d : Letter) → Member d sent → RetireSays c past fresh history d.from d.to d.msg
   pub running : (me : RoleId) → HasCounted c (states me)
 
 -- what is known already, from the past on
-pub record Known (c : Cluster) (past : List KeptRecord) (history : List KeptRecord) (sent : List Letter) (states : RoleId → State) : Type 0 where
+pub record Known (c : Cluster) (past : List KeptRecord) (history : List KeptRecord) (sent : List Letter)
+    (states : RoleId → State) : Type 0 where
   pub kinds : Kinds history sent states
   pub facts : Facts c history sent states
   pub readers : (me : RoleId) (t : Token) → InReader c [] t history me (states me)

@@ -27,12 +27,19 @@ use Rattle.cx_model.specs.declared.states.Plan.{Plan}
 use Rattle.cx_model.specs.declared.states.Replacing.{Replacing}
 use Rattle.cx_model.specs.declared.states.Replacing.TheVariants as replacing
 use Rattle.cx_model.specs.Collection.{Collection, with_informed, is_off, is_informing, is_collecting}
-use Rattle.cx_model.specs.Leader.{LeaderDurable, LeaderVolatile, is_idle, is_matching, is_promising, is_leading, is_own, round_of, match_a_to, phase1a_to, leads_to, propose_to, inform_to, garbage_a_to, begin_in, lead_with, is_changed, matched_by, match_counted, promise_counted, is_past_window, propose_in, is_settled, collect_in, informed_in, set_learnt, leader_takes, open_values, stage_sends, tick_in, order_row, leader_row, has_no_room}
+use Rattle.cx_model.specs.Leader.{LeaderDurable, LeaderVolatile, is_idle, is_matching, is_promising, is_leading, is_own, round_of}
+use Rattle.cx_model.specs.Leader.{match_a_to, phase1a_to, leads_to, propose_to, inform_to, garbage_a_to, begin_in, lead_with, is_changed}
+use Rattle.cx_model.specs.Leader.{matched_by, match_counted, promise_counted, is_past_window, propose_in, is_settled, collect_in}
+use Rattle.cx_model.specs.Leader.{informed_in, set_learnt, leader_takes, open_values, stage_sends, tick_in, order_row, leader_row}
+use Rattle.cx_model.specs.Leader.{has_no_room}
 use Rattle.cx_model.specs.Matched.{first_set, is_counted, live_entries, is_member_of, members_of, members_in, rows_whole, enough}
 use Rattle.cx_model.specs.Names.{names, names_grid, names_set}
 use Rattle.cx_model.specs.Outcome.{either_way}
 use Rattle.cx_model.specs.Plan.{promised_by, has_promised, plan, placed_from}
-use Rattle.cx_model.specs.Replacer.{ReplacerDurable, ReplacerVolatile, is_resting, is_stopping, is_deciding, is_booting, has_halted, joined_entries, to_decide, stop_a_to, next_a_to, boot_a_to, sets_to, others, sets_to_all, begin_in as ballot_begun, halt_counted, replacer_takes, tick_in as replacer_tick, replacer_orders, replacer_row}
+use Rattle.cx_model.specs.Replacer.{ReplacerDurable, ReplacerVolatile, is_resting, is_stopping, is_deciding, is_booting, has_halted}
+use Rattle.cx_model.specs.Replacer.{joined_entries, to_decide, stop_a_to, next_a_to, boot_a_to, sets_to, others, sets_to_all}
+use Rattle.cx_model.specs.Replacer.{begin_in as ballot_begun, halt_counted, replacer_takes, tick_in as replacer_tick, replacer_orders}
+use Rattle.cx_model.specs.Replacer.{replacer_row}
 use Rattle.cx_inv_run.specs.Kinds.{OfKind}
 use Rattle.cx_inv_run.proofs.Senders.{AreOwn, none, one, both, mapped, quiet, replying, keeping, pick}
 
@@ -75,9 +82,8 @@ module _ (c : Cluster) (me : RoleId) (is : me.kind ≡ kind.Leader) (d : LeaderD
   answers_counted (Some own) v =
       pick me (nat_lt (length v.told) (enough c)) _ _ (quiet me _ v)
       (pick me (is_changed own.round) _ _
-      (replying me _ _ _
-      (both me (map (propose_to c me own v.cw) v.proposed) (map (leads_to me own.round) (below c.batchers)) (proposing own v.cw v.proposed) (leading own.round)))
-      (matched own v (live_entries v.told)))
+      (replying me _ _ _ (both me (map (propose_to c me own v.cw) v.proposed) (map (leads_to me own.round) (below c.batchers))
+      (proposing own v.cw v.proposed) (leading own.round))) (matched own v (live_entries v.told)))
 
   promises_counted : (o : Option Entry) (v : LeaderVolatile) → OfKind me (promise_counted c me o v)
   promises_counted None v = quiet me _ v
@@ -115,8 +121,8 @@ module _ (c : Cluster) (me : RoleId) (is : me.kind ≡ kind.Leader) (d : LeaderD
       pick me (not (is_matching v.mode && is_own d i && is_in from.index v.set)) _ _ (quiet me _ v)
       (pick me (is_counted from.index v.told) _ _ (quiet me _ v)
       (answers_counted d.own (record v { told = v.told ++ record { matchmaker = from.index; watermark = w; entries = es } ∷ [] })))
-  leader_took v from (msg.MatchNack i reason other) =
-      pick me (is_idle v.mode || not (is_own d i) || not (is_in from.index v.set)) _ _ (quiet me _ _) (pick me (has_no_room reason) _ _ (quiet me _ _) (quiet me _ _))
+  leader_took v from (msg.MatchNack i reason other) = pick me (is_idle v.mode || not (is_own d i) || not (is_in from.index v.set))
+      _ _ (quiet me _ _) (pick me (has_no_room reason) _ _ (quiet me _ _) (quiet me _ _))
   leader_took v from (msg.Phase1B i cw votes) =
       pick me (not (is_promising v.mode && is_own d i)) _ _ (quiet me _ v)
       (pick me (not (is_member_of (live_entries v.told) from.index)) _ _ (quiet me _ v)
@@ -130,7 +136,8 @@ module _ (c : Cluster) (me : RoleId) (is : me.kind ≡ kind.Leader) (d : LeaderD
       (pick me (nat_le v.next s) _ _ (quiet me _ v) (pick me (is_in s v.chosen) _ _ (quiet me _ v) (quiet me _ _))))
   leader_took v from (msg.Held n) = pick me (nat_le n (slice_index_or v.held from.index 0)) _ _ (quiet me _ v) (quiet me _ _)
   leader_took v from (msg.Informed i cw) =
-      pick me (not (is_leading v.mode && is_own d i && is_informing v.collection.stage && nat_le v.collection.mark cw)) _ _ (quiet me _ v) (informed v from d.own)
+      pick me (not (is_leading v.mode && is_own d i && is_informing v.collection.stage && nat_le v.collection.mark cw)) _ _ (quiet me _ v)
+      (informed v from d.own)
   leader_took v from (msg.GarbageB i) =
       pick me (not (is_leading v.mode && is_own d i && is_collecting v.collection.stage && is_in from.index v.set)) _ _ (quiet me _ v)
       (pick me (is_in from.index v.collection.counted) _ _ (quiet me _ v) (quiet me _ _))
@@ -148,10 +155,10 @@ module _ (c : Cluster) (me : RoleId) (is : me.kind ≡ kind.Leader) (d : LeaderD
   leader_ticked v Matching (Some own) = replying me _ v _ (asking_matchmakers own.round own.grid v.set)
   leader_ticked v Phase1 (Some own) = replying me _ v _ (promising own.round (live_entries v.told))
   leader_ticked v Leading (Some own) =
-      replying me _ v _
-      (both me (map (propose_to c me own v.cw) (open_values v) ++ map (leads_to me own.round) (below c.batchers)) (stage_sends c me own v.set v.collection)
-      (both me (map (propose_to c me own v.cw) (open_values v)) (map (leads_to me own.round) (below c.batchers)) (proposing own v.cw (open_values v)) (leading own.round))
-      (stage_all own v.set v.collection))
+      replying me _ v _ (both me (map (propose_to c me own v.cw) (open_values v) ++ map (leads_to me own.round) (below c.batchers))
+      (stage_sends c me own v.set v.collection)
+      (both me (map (propose_to c me own v.cw) (open_values v)) (map (leads_to me own.round) (below c.batchers))
+      (proposing own v.cw (open_values v)) (leading own.round)) (stage_all own v.set v.collection))
 
   ordered : (v : LeaderVolatile) (order : OrderOf) → OfKind me (order_row c me d v order)
   ordered v (Lead g) = pick me (names_grid c g) _ _ (begun v g (lead_after (round_of d.own) v.seen me.index)) (quiet me _ v)
@@ -162,7 +169,8 @@ module _ (c : Cluster) (me : RoleId) (is : me.kind ≡ kind.Leader) (d : LeaderD
   ordered v (Replace s) = quiet me _ v
 
   pub leader_kinds : (v : LeaderVolatile) (i : Input) → OfKind me (leader_row c me d v i)
-  leader_kinds v (Take letter) = pick me (same_role letter.to me && names c letter) _ _ (leader_took v letter.from letter.msg) (quiet me _ v)
+  leader_kinds v (Take letter) =
+      pick me (same_role letter.to me && names c letter) _ _ (leader_took v letter.from letter.msg) (quiet me _ v)
   leader_kinds v Tick = leader_ticked v v.mode d.own
   leader_kinds v (Order order) = ordered v order
 
@@ -178,8 +186,8 @@ module _ (c : Cluster) (me : RoleId) (is : me.kind ≡ kind.Replacer) (d : Repla
   booting s w es set = mapped me (boot_a_to me s w es) set (λ m. (refl, is))
 
   telling : (s : List ℕ) → AreOwn me (sets_to_all c me s)
-  telling s =
-      both me (map (λ l. sets_to me s (role kind.Leader l)) (below c.leaders) ++ map (λ r. sets_to me s (role kind.Reader r)) (below c.readers)) _
+  telling s = both me
+      (map (λ l. sets_to me s (role kind.Leader l)) (below c.leaders) ++ map (λ r. sets_to me s (role kind.Reader r)) (below c.readers)) _
       (both me (map (λ l. sets_to me s (role kind.Leader l)) (below c.leaders)) _
       (mapped me (λ l. sets_to me s (role kind.Leader l)) (below c.leaders) (λ l. (refl, is)))
       (mapped me (λ r. sets_to me s (role kind.Reader r)) (below c.readers) (λ r. (refl, is))))
@@ -187,8 +195,8 @@ module _ (c : Cluster) (me : RoleId) (is : me.kind ≡ kind.Replacer) (d : Repla
 
   halts_counted : (v : ReplacerVolatile) → OfKind me (halt_counted c me d v)
   halts_counted v =
-      pick me (nat_lt (length v.halts) (enough c)) _ _ (quiet me _ v)
-      (pick me (nat_lt 254 (length (joined_entries v.halts))) _ _ (quiet me _ _) (replying me _ _ _ (deciding d.own (to_decide v.next v.halts) v.set)))
+      pick me (nat_lt (length v.halts) (enough c)) _ _ (quiet me _ v) (pick me (nat_lt 254 (length (joined_entries v.halts)))
+      _ _ (quiet me _ _) (replying me _ _ _ (deciding d.own (to_decide v.next v.halts) v.set)))
 
   replacer_took : (v : ReplacerVolatile) (from : RoleId) (m : Msg) → OfKind me (replacer_takes c me d v from m)
   replacer_took v from (msg.StopB b w es a s) =
@@ -196,8 +204,8 @@ module _ (c : Cluster) (me : RoleId) (is : me.kind ≡ kind.Replacer) (d : Repla
       (pick me (has_halted from.index v.halts) _ _ (quiet me _ v) (halts_counted _))
   replacer_took v from (msg.NextB b) =
       pick me (not (is_deciding v.mode && same_round b d.own)) _ _ (quiet me _ v)
-      (pick me (is_in from.index v.counted) _ _ (quiet me _ v)
-      (pick me (nat_lt (length (with_mark from.index v.counted)) (enough c)) _ _ (quiet me _ _) (replying me _ _ _ (booting v.next v.watermark v.entries v.next))))
+      (pick me (is_in from.index v.counted) _ _ (quiet me _ v) (pick me (nat_lt (length (with_mark from.index v.counted)) (enough c))
+      _ _ (quiet me _ _) (replying me _ _ _ (booting v.next v.watermark v.entries v.next))))
   replacer_took v from (msg.BootB s) =
       pick me (not (is_booting v.mode && bytes_eq s v.next)) _ _ (quiet me _ v)
       (pick me (is_in from.index v.counted) _ _ (quiet me _ v)
@@ -226,6 +234,7 @@ module _ (c : Cluster) (me : RoleId) (is : me.kind ≡ kind.Replacer) (d : Repla
   replacer_ordered v Collect = quiet me _ v
 
   pub replacer_kinds : (v : ReplacerVolatile) (i : Input) → OfKind me (replacer_row c me d v i)
-  replacer_kinds v (Take letter) = pick me (same_role letter.to me && names c letter) _ _ (replacer_took v letter.from letter.msg) (quiet me _ v)
+  replacer_kinds v (Take letter) =
+      pick me (same_role letter.to me && names c letter) _ _ (replacer_took v letter.from letter.msg) (quiet me _ v)
   replacer_kinds v Tick = replacer_ticked v v.mode
   replacer_kinds v (Order order) = replacer_ordered v order

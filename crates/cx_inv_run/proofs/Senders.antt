@@ -29,13 +29,22 @@ use Rattle.cx_model.specs.declared.states.Pending.{Pending}
 use Rattle.cx_model.specs.Acceptor.{AcceptorDurable, is_of_round, vote_at, acceptor_takes, acceptor_row}
 use Rattle.cx_model.specs.Batcher.{BatcherVolatile, batcher_takes, batcher_row}
 use Rattle.cx_model.specs.Matched.{is_counted, greatest_watermark, live_entries, is_member_of, members_of, rows_whole}
-use Rattle.cx_model.specs.Matchmaker.{MatchmakerDurable, has_round, is_booted, is_stopped, set_of, in_set, at_work, boot_in, matchmaker_takes, matchmaker_row}
+use Rattle.cx_model.specs.Matchmaker.{MatchmakerDurable, has_round, is_booted, is_stopped, set_of, in_set, at_work, boot_in}
+use Rattle.cx_model.specs.Matchmaker.{matchmaker_takes, matchmaker_row}
 use Rattle.cx_model.specs.Member.{Member}
 use Rattle.cx_model.specs.Names.{names}
 use Rattle.cx_model.specs.Outcome.{Outcome, only_word, replied, either_way}
-use Rattle.cx_model.specs.Proxy.{ProxyVolatile, raised_to, pending_of, pending_at, phase2a_to, column_for, members_for, chosen_to, chosen_in_to, announcement, ask, propose_over, vote_for, proxy_takes, again_for, again_at, proxy_tick, proxy_row}
-use Rattle.cx_model.specs.Reader.{Asked, Batch, ReaderDurable, ReaderVolatile, acked_by, ask_acceptors, ask_matchmakers, ask_replicas, asked_anew, asked_for, asking_of, begin, begin_if, finish, greatest_mark, has_acked, is_among, is_first, is_matched, is_of_batch, last_turn, match_ack_counted, match_ack_row, match_read_to, matched as batch_matched, pre_read_ack_row, pre_read_counted, pre_read_to, read_to, reader_row, reader_takes, reader_tick, request_over, make_token}
-use Rattle.cx_model.specs.Replica.{ReplicaDurable, ReplicaVolatile, Machine, held, execute_value, machine_from, results_at, results_from, read_answer_to, read_answers, apply, read_row, fetched_by, fetch_found, held_to, fetch_to, replica_takes, replica_tick, replica_row}
+use Rattle.cx_model.specs.Proxy.{ProxyVolatile, raised_to, pending_of, pending_at, phase2a_to, column_for, members_for, chosen_to}
+use Rattle.cx_model.specs.Proxy.{chosen_in_to, announcement, ask, propose_over, vote_for, proxy_takes, again_for, again_at, proxy_tick}
+use Rattle.cx_model.specs.Proxy.{proxy_row}
+use Rattle.cx_model.specs.Reader.{Asked, Batch, ReaderDurable, ReaderVolatile, acked_by, ask_acceptors, ask_matchmakers, ask_replicas}
+use Rattle.cx_model.specs.Reader.{asked_anew, asked_for, asking_of, begin, begin_if, finish, greatest_mark, has_acked, is_among, is_first}
+use Rattle.cx_model.specs.Reader.{is_matched, is_of_batch, last_turn, match_ack_counted, match_ack_row, match_read_to}
+use Rattle.cx_model.specs.Reader.{matched as batch_matched, pre_read_ack_row, pre_read_counted, pre_read_to, read_to, reader_row}
+use Rattle.cx_model.specs.Reader.{reader_takes, reader_tick, request_over, make_token}
+use Rattle.cx_model.specs.Replica.{ReplicaDurable, ReplicaVolatile, Machine, held, execute_value, machine_from, results_at, results_from}
+use Rattle.cx_model.specs.Replica.{read_answer_to, read_answers, apply, read_row, fetched_by, fetch_found, held_to, fetch_to, replica_takes}
+use Rattle.cx_model.specs.Replica.{replica_tick, replica_row}
 use Rattle.cx_model.specs.Request.{same_read}
 use Rattle.cx_model.specs.Unbatcher.{answer_to, unbatcher_takes, unbatcher_row}
 use Rattle.cx_inv_run.specs.Kinds.{IsSender, IsKeeper, OfKind}
@@ -54,7 +63,8 @@ one me to x s = Member-one (λ d. (d.from ≡ me) × IsSender me.kind d.msg) (le
 pub both : (me : RoleId) (ds es : List Letter) → AreOwn me ds → AreOwn me es → AreOwn me (ds ++ es)
 both me ds es = Member-both (λ d. (d.from ≡ me) × IsSender me.kind d.msg) ds es
 
-pub mapped : {X : Type 0} (me : RoleId) (f : X → Letter) (xs : List X) → ((x : X) → ((f x).from ≡ me) × IsSender me.kind (f x).msg) → AreOwn me (map f xs)
+pub mapped : {X : Type 0} (me : RoleId) (f : X → Letter) (xs : List X) → ((x : X) → ((f x).from ≡ me) × IsSender me.kind (f x).msg)
+    → AreOwn me (map f xs)
 mapped me f xs h d m =
     let r = Member-map f d xs m in
     subst (λ (e : Letter). (e.from ≡ me) × IsSender me.kind e.msg) (sym r.2) (h r.0)
@@ -92,7 +102,8 @@ module _ (c : Cluster) (me : RoleId) (is : me.kind ≡ kind.Acceptor) (d : Accep
   acceptor_took from other = quiet me _ tt
 
   pub acceptor_kinds : (i : Input) → OfKind me (acceptor_row c me d tt i)
-  acceptor_kinds (Take letter) = pick me (same_role letter.to me && names c letter) _ _ (acceptor_took letter.from letter.msg) (quiet me _ tt)
+  acceptor_kinds (Take letter) =
+      pick me (same_role letter.to me && names c letter) _ _ (acceptor_took letter.from letter.msg) (quiet me _ tt)
   acceptor_kinds Tick = quiet me _ tt
   acceptor_kinds (Order order) = quiet me _ tt
 
@@ -127,7 +138,8 @@ module _ (c : Cluster) (me : RoleId) (is : me.kind ≡ kind.Matchmaker) (d : Mat
   matchmaker_took from other = quiet me _ tt
 
   pub matchmaker_kinds : (i : Input) → OfKind me (matchmaker_row c me d tt i)
-  matchmaker_kinds (Take letter) = pick me (same_role letter.to me && names c letter) _ _ (matchmaker_took letter.from letter.msg) (quiet me _ tt)
+  matchmaker_kinds (Take letter) =
+      pick me (same_role letter.to me && names c letter) _ _ (matchmaker_took letter.from letter.msg) (quiet me _ tt)
   matchmaker_kinds Tick = quiet me _ tt
   matchmaker_kinds (Order order) = quiet me _ tt
 
@@ -158,7 +170,8 @@ module _ (c : Cluster) (me : RoleId) (is : me.kind ≡ kind.Unbatcher) where
 -- the proxy leader's rows
 module _ (c : Cluster) (me : RoleId) (is : me.kind ≡ kind.Proxy) where
   announced : (p : Pending) → AreOwn me (announcement c me p)
-  announced p = both me (map (chosen_to me p) (below c.replicas)) (chosen_in_to me p ∷ []) (mapped me (chosen_to me p) (below c.replicas) (λ r. (refl, inl is))) (one me _ _ is)
+  announced p = both me (map (chosen_to me p) (below c.replicas)) (chosen_in_to me p ∷ [])
+      (mapped me (chosen_to me p) (below c.replicas) (λ r. (refl, inl is))) (one me _ _ is)
 
   asked : (v : ProxyVolatile) (p : Pending) → OfKind me (ask c me v p)
   asked v p = replying me _ _ _ (mapped me (phase2a_to me p) (column_for c p) (λ a. (refl, is)))
@@ -173,8 +186,8 @@ module _ (c : Cluster) (me : RoleId) (is : me.kind ≡ kind.Proxy) where
   voted_for v acceptor i (Some p) =
       pick me (not (same_round p.round i && is_in acceptor p.grid.members)) _ _ (quiet me _ v)
       (pick me p.done _ _ (quiet me _ v)
-      (pick me (is_in acceptor p.marks) _ _ (quiet me _ v)
-      (pick me (column_whole p.grid (with_mark acceptor p.marks)) _ _ (replying me _ _ _ (announced (record p { marks = with_mark acceptor p.marks }))) (quiet me _ _))))
+      (pick me (is_in acceptor p.marks) _ _ (quiet me _ v) (pick me (column_whole p.grid (with_mark acceptor p.marks))
+      _ _ (replying me _ _ _ (announced (record p { marks = with_mark acceptor p.marks }))) (quiet me _ _))))
 
   proxy_took : (v : ProxyVolatile) (from : RoleId) (m : Msg) → OfKind me (proxy_takes c me v from m)
   proxy_took v from (msg.Propose i g s cw value) =
@@ -190,7 +203,8 @@ module _ (c : Cluster) (me : RoleId) (is : me.kind ≡ kind.Proxy) where
 
   again_all : (ps : List Pending) (slots : List ℕ) → AreOwn me (again_at c me ps slots)
   again_all ps [] = none me
-  again_all ps (s ∷ slots) = both me (again_for c me (pending_at s ps)) (again_at c me ps slots) (again_one (pending_at s ps)) (again_all ps slots)
+  again_all ps (s ∷ slots) =
+      both me (again_for c me (pending_at s ps)) (again_at c me ps slots) (again_one (pending_at s ps)) (again_all ps slots)
 
   ticked : (v : ProxyVolatile) (ps : List Pending) → OfKind me (proxy_tick c me v ps)
   ticked v [] = quiet me _ v
@@ -204,13 +218,15 @@ module _ (c : Cluster) (me : RoleId) (is : me.kind ≡ kind.Proxy) where
 -- the replica's rows
 module _ (c : Cluster) (me : RoleId) (is : me.kind ≡ kind.Replica) (d : ReplicaDurable) where
   results_one : (slot : ℕ) (answers : List Answered) → AreOwn me (results_at c me slot answers)
-  results_one slot answers = either_way (AreOwn me) ((slot % c.replicas == me.index) && nat_lt 0 (length answers)) _ _ (one me _ _ is) (none me)
+  results_one slot answers =
+      either_way (AreOwn me) ((slot % c.replicas == me.index) && nat_lt 0 (length answers)) _ _ (one me _ _ is) (none me)
 
   results_all : (slot : ℕ) (machine : Machine) (values : List Value) → AreOwn me (results_from c me slot machine values)
   results_all slot machine [] = none me
   results_all slot machine (v ∷ values) =
       let e = execute_value slot machine v in
-      both me (results_at c me slot e.answers) (results_from c me (slot + 1) e.machine values) (results_one slot e.answers) (results_all (slot + 1) e.machine values)
+      both me (results_at c me slot e.answers) (results_from c me (slot + 1) e.machine values) (results_one slot e.answers)
+      (results_all (slot + 1) e.machine values)
 
   read_all : (n : ℕ) (machine : Machine) (rs : List Deferred) → AreOwn me (read_answers me n machine rs)
   read_all n machine rs = mapped me (read_answer_to me n machine) (filter (λ (r : Deferred). nat_le r.mark n) rs) (λ r. (refl, is))
@@ -239,7 +255,8 @@ module _ (c : Cluster) (me : RoleId) (is : me.kind ≡ kind.Replica) (d : Replic
       (pick me (nat_le (held d + 32) s) _ _ (quiet me _ v)
       (pick me (nat_lt (held d) s) _ _ (quiet me _ _) (applied v (ready_values (held d) v.early value))))
   replica_took v from (msg.Read t n key) = read_took v (record { token = t; mark = n; key = key })
-  replica_took v from (msg.SessRead seq n key) = read_took v (record { token = record { client = from.index; seq = seq }; mark = n; key = key })
+  replica_took v from (msg.SessRead seq n key) =
+      read_took v (record { token = record { client = from.index; seq = seq }; mark = n; key = key })
   replica_took v from (msg.Fetch s) =
       let asked = fetched_by c me v from s in
       pick me (nat_lt s d.first) _ _ (quiet me _ asked) (fetched asked from s (slice_get d.log (s - d.first)))
@@ -253,7 +270,8 @@ module _ (c : Cluster) (me : RoleId) (is : me.kind ≡ kind.Replica) (d : Replic
       (either_way (AreOwn me) (nat_lt 1 c.replicas) _ _ (one me _ _ is) (none me)))
 
   pub replica_kinds : (v : ReplicaVolatile) (i : Input) → OfKind me (replica_row c me d v i)
-  replica_kinds v (Take letter) = pick me (same_role letter.to me && names c letter) _ _ (replica_took v letter.from letter.msg) (quiet me _ v)
+  replica_kinds v (Take letter) =
+      pick me (same_role letter.to me && names c letter) _ _ (replica_took v letter.from letter.msg) (quiet me _ v)
   replica_kinds v Tick = replica_ticked v
   replica_kinds v (Order order) = quiet me _ v
 
@@ -262,8 +280,10 @@ module _ (c : Cluster) (me : RoleId) (is : me.kind ≡ kind.Reader) (d : ReaderD
   matchmakers_asked : (set : List ℕ) (turn : ℕ) → AreOwn me (ask_matchmakers me set turn)
   matchmakers_asked set turn = mapped me (match_read_to me (asking_of me turn)) set (λ m. (refl, is))
 
-  batch_begun : (v : ReaderVolatile) (w : Why) (first : List Letter) (rs : List Asked) → AreOwn me first → OfKind me (begin me d v w first rs)
-  batch_begun v w first rs own = keeping me _ _ _ _ is (both me first (ask_matchmakers me v.set (d.turn + 1)) own (matchmakers_asked v.set (d.turn + 1)))
+  batch_begun : (v : ReaderVolatile) (w : Why) (first : List Letter) (rs : List Asked) → AreOwn me first
+      → OfKind me (begin me d v w first rs)
+  batch_begun v w first rs own =
+      keeping me _ _ _ _ is (both me first (ask_matchmakers me v.set (d.turn + 1)) own (matchmakers_asked v.set (d.turn + 1)))
 
   begun_if : (v : ReaderVolatile) (w : Why) (rs : List Asked) → OfKind me (begin_if me d v w rs)
   begun_if v w rs = pick me (d.turn == last_turn) _ _ (quiet me _ v) (batch_begun v w [] rs (none me))
@@ -278,7 +298,8 @@ module _ (c : Cluster) (me : RoleId) (is : me.kind ≡ kind.Reader) (d : ReaderD
   reads_sent : (v : ReaderVolatile) (b : Batch) (n : ℕ) → OfKind me (finish me d v b n)
   reads_sent v b n =
       let own : AreOwn me (ask_replicas me b n) = mapped me (read_to me n) b.reads (λ r. (refl, is)) in
-      pick me (nat_lt 0 (length v.waiting) && not (d.turn == last_turn)) _ _ (batch_begun v _ (ask_replicas me b n) v.waiting own) (replying me _ _ _ own)
+      pick me (nat_lt 0 (length v.waiting) && not (d.turn == last_turn)) _ _ (batch_begun v _ (ask_replicas me b n) v.waiting own)
+      (replying me _ _ _ own)
 
   matched_read : (v : ReaderVolatile) (b : Batch) (es : List Entry) → OfKind me (batch_matched c me d v b es)
   matched_read v b [] = reads_sent v b 0
@@ -287,7 +308,8 @@ module _ (c : Cluster) (me : RoleId) (is : me.kind ≡ kind.Reader) (d : ReaderD
   told_counted : (v : ReaderVolatile) (b : Batch) → OfKind me (match_ack_counted c me d v b)
   told_counted v b = pick me (is_matched c b) _ _ (matched_read v b (live_entries b.told)) (quiet me _ _)
 
-  told_row : (v : ReaderVolatile) (from : RoleId) (u : Asking) (w : Round) (es : List Entry) (o : Option Batch) → OfKind me (match_ack_row c me d v from u w es o)
+  told_row : (v : ReaderVolatile) (from : RoleId) (u : Asking) (w : Round) (es : List Entry) (o : Option Batch)
+      → OfKind me (match_ack_row c me d v from u w es o)
   told_row v from u w es None = quiet me _ v
   told_row v from u w es (Some b) =
       pick me (not (is_of_batch me b u && not (is_matched c b) && is_in from.index v.set)) _ _ (quiet me _ v)
@@ -297,7 +319,8 @@ module _ (c : Cluster) (me : RoleId) (is : me.kind ≡ kind.Reader) (d : ReaderD
   acks_counted : (v : ReaderVolatile) (b : Batch) → OfKind me (pre_read_counted c me d v b)
   acks_counted v b = pick me (rows_whole (live_entries b.told) (acked_by b.acks)) _ _ (reads_sent v b (greatest_mark b.acks)) (quiet me _ _)
 
-  acked_row : (v : ReaderVolatile) (from : RoleId) (u : Asking) (w : Round) (n : ℕ) (o : Option Batch) → OfKind me (pre_read_ack_row c me d v from u w n o)
+  acked_row : (v : ReaderVolatile) (from : RoleId) (u : Asking) (w : Round) (n : ℕ) (o : Option Batch)
+      → OfKind me (pre_read_ack_row c me d v from u w n o)
   acked_row v from u w n None = quiet me _ v
   acked_row v from u w n (Some b) =
       pick me (not (is_of_batch me b u && is_matched c b && is_member_of (live_entries b.told) from.index)) _ _ (quiet me _ v)
@@ -311,8 +334,8 @@ module _ (c : Cluster) (me : RoleId) (is : me.kind ≡ kind.Reader) (d : ReaderD
   batch_anew v (Some b) = pick me (is_matched c b) _ _ (quiet me _ v) (replying me _ _ _ (matchmakers_asked v.set b.turn))
 
   reader_took : (v : ReaderVolatile) (from : RoleId) (m : Msg) → OfKind me (reader_takes c me d v from m)
-  reader_took v from (msg.ReadReq seq replica key) =
-      (let r = asked_for (make_token from.index seq) replica key in pick me (is_among r.read v.waiting) _ _ (quiet me _ _) (requested v r v.running))
+  reader_took v from (msg.ReadReq seq replica key) = (let r = asked_for (make_token from.index seq) replica key in pick me
+      (is_among r.read v.waiting) _ _ (quiet me _ _) (requested v r v.running))
   reader_took v from (msg.MatchReadAck u w es) = told_row v from u w es v.running
   reader_took v from (msg.PreReadAck u w n) = acked_row v from u w n v.running
   reader_took v from (msg.Sets s) = pick me (is_above s v.set) _ _ (batch_anew (record v { set = s }) v.running) (quiet me _ v)
@@ -325,6 +348,7 @@ module _ (c : Cluster) (me : RoleId) (is : me.kind ≡ kind.Reader) (d : ReaderD
       (mapped me (pre_read_to me b) (members_of c (live_entries b.told)) (λ a. (refl, is))) (matchmakers_asked v.set b.turn))
 
   pub reader_kinds : (v : ReaderVolatile) (i : Input) → OfKind me (reader_row c me d v i)
-  reader_kinds v (Take letter) = pick me (same_role letter.to me && names c letter) _ _ (reader_took v letter.from letter.msg) (quiet me _ v)
+  reader_kinds v (Take letter) =
+      pick me (same_role letter.to me && names c letter) _ _ (reader_took v letter.from letter.msg) (quiet me _ v)
   reader_kinds v Tick = reader_ticked v v.running
   reader_kinds v (Order order) = quiet me _ v

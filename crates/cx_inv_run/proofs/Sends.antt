@@ -33,9 +33,10 @@ batcher_sends P batch (msg.Chosen t v) (inl e) = cc
 batcher_sends P batch (msg.Chosen t v) (inr e) = cc
 batcher_sends P batch other s = cc
 
-pub leader_sends : (P : Msg → Type 0) → ((i : Round) → P (msg.Leads i)) → ((i : Round) (g : Shape) → P (msg.MatchA i g)) → ((i : Round) → P (msg.Phase1A i))
-    → ((i : Round) (g : Shape) (s cw : ℕ) (v : Value) → P (msg.Propose i g s cw v)) → ((i : Round) (cw : ℕ) → P (msg.Inform i cw)) → ((i : Round) (g : Shape) → P (msg.GarbageA i g))
-    → (m : Msg) → IsSender kind.Leader m → P m
+pub leader_sends : (P : Msg → Type 0) → ((i : Round) → P (msg.Leads i)) → ((i : Round) (g : Shape) → P (msg.MatchA i g))
+    → ((i : Round) → P (msg.Phase1A i))
+    → ((i : Round) (g : Shape) (s cw : ℕ) (v : Value) → P (msg.Propose i g s cw v)) → ((i : Round) (cw : ℕ) → P (msg.Inform i cw))
+    → ((i : Round) (g : Shape) → P (msg.GarbageA i g)) → (m : Msg) → IsSender kind.Leader m → P m
 leader_sends P leads match_a phase1a propose inform garbage_a (msg.Leads i) s = leads i
 leader_sends P leads match_a phase1a propose inform garbage_a (msg.MatchA i g) s = match_a i g
 leader_sends P leads match_a phase1a propose inform garbage_a (msg.Phase1A i) s = phase1a i
@@ -46,16 +47,17 @@ leader_sends P leads match_a phase1a propose inform garbage_a (msg.Chosen t v) (
 leader_sends P leads match_a phase1a propose inform garbage_a (msg.Chosen t v) (inr e) = cc
 leader_sends P leads match_a phase1a propose inform garbage_a other s = cc
 
-pub proxy_sends : (P : Msg → Type 0) → ((i : Round) (s cw : ℕ) (v : Value) → P (msg.Phase2A i s cw v)) → ((s : ℕ) (v : Value) → P (msg.Chosen s v))
-    → ((i : Round) (s : ℕ) → P (msg.ChosenIn i s)) → (m : Msg) → IsSender kind.Proxy m → P m
+pub proxy_sends : (P : Msg → Type 0) → ((i : Round) (s cw : ℕ) (v : Value) → P (msg.Phase2A i s cw v))
+    → ((s : ℕ) (v : Value) → P (msg.Chosen s v)) → ((i : Round) (s : ℕ) → P (msg.ChosenIn i s)) → (m : Msg) → IsSender kind.Proxy m → P m
 proxy_sends P phase2a chosen chosen_in (msg.Phase2A i t cw v) s = phase2a i t cw v
 proxy_sends P phase2a chosen chosen_in (msg.Chosen t v) s = chosen t v
 proxy_sends P phase2a chosen chosen_in (msg.ChosenIn i t) s = chosen_in i t
 proxy_sends P phase2a chosen chosen_in other s = cc
 
-pub acceptor_sends : (P : Msg → Type 0) → ((i : Round) (cw : ℕ) (votes : List Vote) → P (msg.Phase1B i cw votes)) → ((i promise : Round) → P (msg.Nack i promise))
-    → ((i : Round) (s : ℕ) → P (msg.Phase2B i s)) → ((i : Round) (cw : ℕ) → P (msg.Informed i cw)) → ((u : Asking) (w : Round) (n : ℕ) → P (msg.PreReadAck u w n))
-    → (m : Msg) → IsSender kind.Acceptor m → P m
+pub acceptor_sends : (P : Msg → Type 0) → ((i : Round) (cw : ℕ) (votes : List Vote) → P (msg.Phase1B i cw votes))
+    → ((i promise : Round) → P (msg.Nack i promise))
+    → ((i : Round) (s : ℕ) → P (msg.Phase2B i s)) → ((i : Round) (cw : ℕ) → P (msg.Informed i cw))
+    → ((u : Asking) (w : Round) (n : ℕ) → P (msg.PreReadAck u w n)) → (m : Msg) → IsSender kind.Acceptor m → P m
 acceptor_sends P phase1b nack phase2b informed pre_read_ack (msg.Phase1B i cw votes) s = phase1b i cw votes
 acceptor_sends P phase1b nack phase2b informed pre_read_ack (msg.Nack i promise) s = nack i promise
 acceptor_sends P phase1b nack phase2b informed pre_read_ack (msg.Phase2B i t) s = phase2b i t
@@ -65,16 +67,21 @@ acceptor_sends P phase1b nack phase2b informed pre_read_ack (msg.Chosen t v) (in
 acceptor_sends P phase1b nack phase2b informed pre_read_ack (msg.Chosen t v) (inr e) = cc
 acceptor_sends P phase1b nack phase2b informed pre_read_ack other s = cc
 
-pub matchmaker_sends : (P : Msg → Type 0) → ((i w : Round) (entries : List Entry) → P (msg.MatchB i w entries)) → ((i : Round) (reason : NackReason) (other : Round) → P (msg.MatchNack i reason other))
+pub matchmaker_sends : (P : Msg → Type 0) → ((i w : Round) (entries : List Entry) → P (msg.MatchB i w entries))
+    → ((i : Round) (reason : NackReason) (other : Round) → P (msg.MatchNack i reason other))
     → ((i : Round) → P (msg.GarbageB i)) → ((u : Asking) (w : Round) (entries : List Entry) → P (msg.MatchReadAck u w entries))
-    → ((b w : Round) (entries : List Entry) (a : Round) (s : List ℕ) → P (msg.StopB b w entries a s)) → ((b other : Round) → P (msg.StopNack b other))
-    → ((b : Round) → P (msg.NextB b)) → ((s : List ℕ) → P (msg.BootB s))
+    → ((b w : Round) (entries : List Entry) (a : Round) (s : List ℕ) → P (msg.StopB b w entries a s))
+    → ((b other : Round) → P (msg.StopNack b other)) → ((b : Round) → P (msg.NextB b)) → ((s : List ℕ) → P (msg.BootB s))
     → (m : Msg) → IsSender kind.Matchmaker m → P m
-matchmaker_sends P match_b match_nack garbage_b match_read_ack stop_b stop_nack next_b boot_b (msg.MatchB i w entries) s = match_b i w entries
-matchmaker_sends P match_b match_nack garbage_b match_read_ack stop_b stop_nack next_b boot_b (msg.MatchNack i reason other) s = match_nack i reason other
+matchmaker_sends P match_b match_nack garbage_b match_read_ack stop_b stop_nack next_b boot_b (msg.MatchB i w entries) s =
+    match_b i w entries
+matchmaker_sends P match_b match_nack garbage_b match_read_ack stop_b stop_nack next_b boot_b (msg.MatchNack i reason other) s =
+    match_nack i reason other
 matchmaker_sends P match_b match_nack garbage_b match_read_ack stop_b stop_nack next_b boot_b (msg.GarbageB i) s = garbage_b i
-matchmaker_sends P match_b match_nack garbage_b match_read_ack stop_b stop_nack next_b boot_b (msg.MatchReadAck u w entries) s = match_read_ack u w entries
-matchmaker_sends P match_b match_nack garbage_b match_read_ack stop_b stop_nack next_b boot_b (msg.StopB b w entries a next) s = stop_b b w entries a next
+matchmaker_sends P match_b match_nack garbage_b match_read_ack stop_b stop_nack next_b boot_b (msg.MatchReadAck u w entries) s =
+    match_read_ack u w entries
+matchmaker_sends P match_b match_nack garbage_b match_read_ack stop_b stop_nack next_b boot_b (msg.StopB b w entries a next) s =
+    stop_b b w entries a next
 matchmaker_sends P match_b match_nack garbage_b match_read_ack stop_b stop_nack next_b boot_b (msg.StopNack b other) s = stop_nack b other
 matchmaker_sends P match_b match_nack garbage_b match_read_ack stop_b stop_nack next_b boot_b (msg.NextB b) s = next_b b
 matchmaker_sends P match_b match_nack garbage_b match_read_ack stop_b stop_nack next_b boot_b (msg.BootB set) s = boot_b set
@@ -82,7 +89,8 @@ matchmaker_sends P match_b match_nack garbage_b match_read_ack stop_b stop_nack 
 matchmaker_sends P match_b match_nack garbage_b match_read_ack stop_b stop_nack next_b boot_b (msg.Chosen t v) (inr e) = cc
 matchmaker_sends P match_b match_nack garbage_b match_read_ack stop_b stop_nack next_b boot_b other s = cc
 
-pub replica_sends : (P : Msg → Type 0) → ((s : ℕ) (v : Value) → P (msg.Chosen s v)) → ((s : ℕ) (answers : List Answered) → P (msg.Results s answers))
+pub replica_sends : (P : Msg → Type 0) → ((s : ℕ) (v : Value) → P (msg.Chosen s v))
+    → ((s : ℕ) (answers : List Answered) → P (msg.Results s answers))
     → ((n : ℕ) → P (msg.Held n)) → ((s : ℕ) → P (msg.Fetch s)) → ((seq n : ℕ) (found : Option (List ℕ)) → P (msg.ReadAnswer seq n found))
     → (m : Msg) → IsSender kind.Replica m → P m
 replica_sends P chosen results held fetch read_answer (msg.Chosen t v) s = chosen t v
@@ -92,14 +100,15 @@ replica_sends P chosen results held fetch read_answer (msg.Fetch t) s = fetch t
 replica_sends P chosen results held fetch read_answer (msg.ReadAnswer seq n found) s = read_answer seq n found
 replica_sends P chosen results held fetch read_answer other s = cc
 
-pub unbatcher_sends : (P : Msg → Type 0) → ((seq at : ℕ) (reply : Reply) → P (msg.Answer seq at reply)) → (m : Msg) → IsSender kind.Unbatcher m → P m
+pub unbatcher_sends : (P : Msg → Type 0) → ((seq at : ℕ) (reply : Reply) → P (msg.Answer seq at reply)) → (m : Msg)
+    → IsSender kind.Unbatcher m → P m
 unbatcher_sends P answer (msg.Answer seq at reply) s = answer seq at reply
 unbatcher_sends P answer (msg.Chosen t v) (inl e) = cc
 unbatcher_sends P answer (msg.Chosen t v) (inr e) = cc
 unbatcher_sends P answer other s = cc
 
-pub reader_sends : (P : Msg → Type 0) → ((u : Asking) → P (msg.MatchRead u)) → ((u : Asking) (w : Round) → P (msg.PreRead u w)) → ((t : Token) (n : ℕ) (key : List ℕ) → P (msg.Read t n key))
-    → (m : Msg) → IsSender kind.Reader m → P m
+pub reader_sends : (P : Msg → Type 0) → ((u : Asking) → P (msg.MatchRead u)) → ((u : Asking) (w : Round) → P (msg.PreRead u w))
+    → ((t : Token) (n : ℕ) (key : List ℕ) → P (msg.Read t n key)) → (m : Msg) → IsSender kind.Reader m → P m
 reader_sends P match_read pre_read read (msg.MatchRead u) s = match_read u
 reader_sends P match_read pre_read read (msg.PreRead u w) s = pre_read u w
 reader_sends P match_read pre_read read (msg.Read t n key) s = read t n key
@@ -109,16 +118,18 @@ reader_sends P match_read pre_read read other s = cc
 
 -- the records of each kind of role that keeps some
 
-pub acceptor_keeps : (P : Record → Type 0) → ((i : Round) → P (kept.Promise i)) → ((i : Round) (s cw : ℕ) (v : Value) → P (kept.Vote i s cw v)) → ((i : Round) (cw : ℕ) → P (kept.Water i cw))
+pub acceptor_keeps : (P : Record → Type 0) → ((i : Round) → P (kept.Promise i))
+    → ((i : Round) (s cw : ℕ) (v : Value) → P (kept.Vote i s cw v)) → ((i : Round) (cw : ℕ) → P (kept.Water i cw))
     → (r : Record) → IsKeeper kind.Acceptor r → P r
 acceptor_keeps P promise vote water (kept.Promise i) k = promise i
 acceptor_keeps P promise vote water (kept.Vote i s cw v) k = vote i s cw v
 acceptor_keeps P promise vote water (kept.Water i cw) k = water i cw
 acceptor_keeps P promise vote water other k = cc
 
-pub matchmaker_keeps : (P : Record → Type 0) → ((i : Round) (g : Shape) → P (kept.Match i g)) → ((i : Round) (g : Shape) → P (kept.Garbage i g))
-    → ((b : Round) → P (kept.Stop b)) → ((b : Round) (s : List ℕ) → P (kept.Next b s)) → ((s : List ℕ) (w : Round) (es : List Entry) → P (kept.Boot s w es))
-    → (r : Record) → IsKeeper kind.Matchmaker r → P r
+pub matchmaker_keeps : (P : Record → Type 0) → ((i : Round) (g : Shape) → P (kept.Match i g))
+    → ((i : Round) (g : Shape) → P (kept.Garbage i g))
+    → ((b : Round) → P (kept.Stop b)) → ((b : Round) (s : List ℕ) → P (kept.Next b s))
+    → ((s : List ℕ) (w : Round) (es : List Entry) → P (kept.Boot s w es)) → (r : Record) → IsKeeper kind.Matchmaker r → P r
 matchmaker_keeps P matches garbage stop next boot (kept.Match i g) k = matches i g
 matchmaker_keeps P matches garbage stop next boot (kept.Garbage i g) k = garbage i g
 matchmaker_keeps P matches garbage stop next boot (kept.Stop b) k = stop b
@@ -159,8 +170,8 @@ unbatcher_keeps other k = cc
 -- from a row's kinds
 
 -- a property of each message that such a role may send holds of all that the row sends
-pub sends_only : {V : Type 0} (P : Letter → Type 0) (me : RoleId) (o : Outcome V) → OfKind me o → ((to : RoleId) (m : Msg) → IsSender me.kind m → P (letter me to m))
-    → (d : Letter) → Member d o.sends → P d
+pub sends_only : {V : Type 0} (P : Letter → Type 0) (me : RoleId) (o : Outcome V) → OfKind me o
+    → ((to : RoleId) (m : Msg) → IsSender me.kind m → P (letter me to m)) → (d : Letter) → Member d o.sends → P d
 sends_only P me o kinds h d m =
     let own = kinds.sends d m in
     subst (λ (from : RoleId). P (letter from d.to d.msg)) (sym own.0) (h d.to d.msg own.1)

@@ -40,7 +40,8 @@ pub record SameKept (history longer : List KeptRecord) : Type 0 where
   pub logs : (p : ℕ) → log_in longer p ≡ log_in history p
 
 -- what a replica's changes leave by the rules of another kind: nothing
-module _ {D V : Type 0} (rules : Rules D V) (none : (d : D) (first : ℕ) → rules.renewed d first ≡ []) (still : (d : D) (vs : List Value) → rules.after d (kept.Log vs) ≡ d) where
+module _ {D V : Type 0} (rules : Rules D V) (none : (d : D) (first : ℕ) → rules.renewed d first ≡ [])
+    (still : (d : D) (vs : List Value) → rules.after d (kept.Log vs) ≡ d) where
   untouched : (d : D) (w : Written) → IsWriter kind.Replica w → d ≡ rules.empty → written_after rules d w ≡ rules.empty
   untouched d (written.Record (kept.Log vs)) is e = still d vs ∙ e
   untouched d (written.Record (kept.Promise i)) is e = absurd cc
@@ -66,11 +67,11 @@ module _ {D V : Type 0} (rules : Rules D V) (none : (d : D) (first : ℕ) → ru
   foreign p (k ∷ ks) keepers = go (bool_cases (same_role (role kind.Replica p) k.role)) (foreign p ks (λ x m. keepers x (inr m)))
     where
       go : (same_role (role kind.Replica p) k.role ≡ true) ⊎ (same_role (role kind.Replica p) k.role ≡ false)
-          → durable_of rules (role kind.Replica p) ks ≡ rules.empty
-          → (if same_role (role kind.Replica p) k.role then written_after rules (durable_of rules (role kind.Replica p) ks) k.what else durable_of rules (role kind.Replica p) ks) ≡ rules.empty
+          → durable_of rules (role kind.Replica p) ks ≡ rules.empty → (if same_role (role kind.Replica p) k.role then written_after rules
+          (durable_of rules (role kind.Replica p) ks) k.what else durable_of rules (role kind.Replica p) ks) ≡ rules.empty
       go (inl t) rest =
-          rw t (untouched (durable_of rules (role kind.Replica p) ks) k.what
-          (subst (λ (a : RoleId). IsWriter a.kind k.what) (sym (same_role-true (role kind.Replica p) k.role t)) (keepers k (inl refl))) rest)
+          rw t (untouched (durable_of rules (role kind.Replica p) ks) k.what (subst (λ (a : RoleId). IsWriter a.kind k.what)
+          (sym (same_role-true (role kind.Replica p) k.role t)) (keepers k (inl refl))) rest)
       go (inr f) rest = rw f rest
 
   same_durable : (p first : ℕ) (history : List KeptRecord) → AreKeepers history → (a : RoleId)
@@ -82,7 +83,8 @@ module _ {D V : Type 0} (rules : Rules D V) (none : (d : D) (first : ℕ) → ru
       (λ a e. durable_else rules (role kind.Replica p) a first history e)
 
 -- a renewal of a replica's list
-pub snap_same : (history : List KeptRecord) → AreKeepers history → (p first : ℕ) → SameKept history (snap_by (role kind.Replica p) first ∷ history)
+pub snap_same : (history : List KeptRecord) → AreKeepers history → (p first : ℕ)
+    → SameKept history (snap_by (role kind.Replica p) first ∷ history)
 snap_same history keepers p first = record {
   more = λ k m. inr m;
   back = λ a r h. no_snap (role kind.Replica p) a first r history h;
@@ -98,6 +100,7 @@ log_if : (b : Bool) (vs none : List Value) → none ≡ [] → (if b then vs ++ 
 log_if true vs none e = ap (λ l. vs ++ l) e ∙ append-nil vs
 log_if false vs none e = refl
 
-pub log_else : (me : RoleId) (p : ℕ) (r : Record) (history : List KeptRecord) → values_in (written.Record r) ≡ [] → log_in (entry_by me r ∷ history) p ≡ log_in history p
+pub log_else : (me : RoleId) (p : ℕ) (r : Record) (history : List KeptRecord) → values_in (written.Record r) ≡ []
+    → log_in (entry_by me r ∷ history) p ≡ log_in history p
 unfolding log_in
 log_else me p r history e = log_if (same_role (role kind.Replica p) me) (log_in history p) (values_in (written.Record r)) e

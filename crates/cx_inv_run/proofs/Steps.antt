@@ -1,5 +1,6 @@
 -- Each event keeps a property that has its laws, so it holds of every run.
-use Rattle.std.proofs.Common.{◌≡◌, ℕ, Bool, true, false, ◌⊎◌, List, [], ◌∷◌, ◌++◌, reverse, Option, None, Some, ap, sym, ◌∙◌, subst, refl, inl, inr, append-nil}
+use Rattle.std.proofs.Common.{◌≡◌, ℕ, Bool, true, false, ◌⊎◌, List, [], ◌∷◌, ◌++◌, reverse, Option, None, Some, ap, sym, ◌∙◌, subst, refl}
+use Rattle.std.proofs.Common.{inl, inr, append-nil}
 use Rattle.std.specs.Prelude.{slice_get, if◌then◌else◌}
 use Rattle.std.proofs.lemmas.List.{reverse-append}
 use Rattle.cx_base.specs.declared.cluster.Cluster.{Cluster}
@@ -38,8 +39,12 @@ use Rattle.cx_model.specs.Request.{is_stale, request, token_of}
 use Rattle.cx_model.specs.Rules.{Rules}
 use Rattle.cx_model.specs.Turn.{Turn, turn, turn_with, whole_turn, snap_turn, still}
 use Rattle.cx_model.specs.Unbatcher.{unbatcher_rules, unbatcher_row}
-use Rattle.cx_model.specs.World.{World, Change, change, turned, nothing, come, act_at, act_of, durable_part, kept_by, start, step, run, run_from}
-use Rattle.cx_inv_run.specs.States.{State, Down, Plain, BatcherIn, LeaderIn, ProxyIn, ReplicaIn, ReaderIn, ReplacerIn, plain, state_of, plain_volatile, batcher_volatile, leader_volatile, proxy_volatile, replica_volatile, reader_volatile, replacer_volatile, fresh_state, set_state, entry_by, snap_by, with_written, durable_of, Given, Property, HoldsIn}
+use Rattle.cx_model.specs.World.{World, Change, change, turned, nothing, come, act_at, act_of, durable_part, kept_by, start, step, run}
+use Rattle.cx_model.specs.World.{run_from}
+use Rattle.cx_inv_run.specs.States.{State, Down, Plain, BatcherIn, LeaderIn, ProxyIn, ReplicaIn, ReaderIn, ReplacerIn, plain, state_of}
+use Rattle.cx_inv_run.specs.States.{plain_volatile, batcher_volatile, leader_volatile, proxy_volatile, replica_volatile, reader_volatile}
+use Rattle.cx_inv_run.specs.States.{replacer_volatile, fresh_state, set_state, entry_by, snap_by, with_written, durable_of, Given, Property}
+use Rattle.cx_inv_run.specs.States.{HoldsIn}
 use Rattle.cx_inv_run.specs.Laws.{Lands, Laws, anything, heard_of, AllAllowed, HoldsAlong, StepLaw, RunFromLaw, RunLaw}
 use Rattle.cx_inv_run.proofs.Members.{Member-at}
 use Rattle.cx_inv_run.proofs.Histories.{durable_by_time, record_written, set_same, set_twice, state_own}
@@ -135,7 +140,8 @@ as_role P k me is h = subst P (role_from_parts k me.kind me.index me.index (sym 
 
 module _ (c : Cluster) (Allowed : ℕ → Event → Type 0) (known holds : Property) (laws : Laws c Allowed known holds) where
   -- a turn of a role
-  module _ {V : Type 0} (kept : List KeptRecord) (sent : List Letter) (states : RoleId → State) (h : holds kept sent states) (me : RoleId) (make : V → State) where
+  module _ {V : Type 0} (kept : List KeptRecord) (sent : List Letter) (states : RoleId → State) (h : holds kept sent states) (me : RoleId)
+      (make : V → State) where
     abbrev AfterTurn : Turn V → Type 0
     AfterTurn t = holds (with_written me t.kept kept) (sent ++ t.sends) (set_state me (state_of make t.role) states)
 
@@ -146,26 +152,30 @@ module _ (c : Cluster) (Allowed : ℕ → Event → Type 0) (known holds : Prope
     stopped = quiet Down (laws.stop kept sent states me h)
 
     whole : (o : Outcome V) → Lands holds kept sent states me make o → AfterTurn (whole_turn o)
-    whole o lands = subst (λ l. holds l (sent ++ o.sends) (set_state me (make o.volatile) states)) (sym (record_written me o.kept kept)) lands.whole
+    whole o lands =
+        subst (λ l. holds l (sent ++ o.sends) (set_state me (make o.volatile) states)) (sym (record_written me o.kept kept)) lands.whole
 
-    landed : (cut : Cut) (o : Outcome V) (r : Option Record) → o.kept ≡ r → Lands holds kept sent states me make o → AfterTurn (turn_with cut r o)
+    landed : (cut : Cut) (o : Outcome V) (r : Option Record) → o.kept ≡ r → Lands holds kept sent states me make o
+        → AfterTurn (turn_with cut r o)
     landed cut o None e lands = whole o lands
     landed Whole o (Some r) e lands = whole o lands
     landed Torn o (Some r) e lands = stopped
-    landed Kept o (Some r) e lands = subst (λ l. holds (entry_by me r ∷ kept) l (set_state me Down states)) (sym (append-nil sent)) (lands.cut r e)
+    landed Kept o (Some r) e lands =
+        subst (λ l. holds (entry_by me r ∷ kept) l (set_state me Down states)) (sym (append-nil sent)) (lands.cut r e)
 
     -- nothing is done to a role that runs
     stays : (v : V) → states me ≡ make v → holds kept (sent ++ []) (set_state me (make v) states)
     stays v is = quiet (make v) (laws.same kept sent states (set_state me (make v) states) (set_same me (make v) states is) h)
 
     -- a snap, once what it forgets is known
-    forgot : (cut : Cut) (v : V) (o : Option ℕ) → states me ≡ make v → ((first : ℕ) → o ≡ Some first → holds (snap_by me first ∷ kept) sent states)
-        → AfterTurn (snap_turn cut v o)
+    forgot : (cut : Cut) (v : V) (o : Option ℕ) → states me ≡ make v
+        → ((first : ℕ) → o ≡ Some first → holds (snap_by me first ∷ kept) sent states) → AfterTurn (snap_turn cut v o)
     forgot cut v None is snaps = stays v is
     forgot Whole v (Some first) is snaps =
         let after = snap_by me first ∷ kept in
         let running = set_state me (make v) states in
-        subst (λ l. holds after l running) (sym (append-nil sent)) (laws.same after sent states running (set_same me (make v) states is) (snaps first refl))
+        subst (λ l. holds after l running) (sym (append-nil sent))
+        (laws.same after sent states running (set_same me (make v) states is) (snaps first refl))
     forgot Torn v (Some first) is snaps = stopped
     forgot Kept v (Some first) is snaps =
         let after = snap_by me first ∷ kept in
@@ -179,14 +189,16 @@ module _ (c : Cluster) (Allowed : ℕ → Event → Type 0) (known holds : Prope
         (laws.wake kept sent (set_state me Down states) me (laws.stop kept sent states me h) (state_own me Down states))
 
     acted : {D : Type 0} (rules : Rules D V) (d : D) → fresh_state c me.kind ≡ make (rules.fresh c)
-        → (running : Option V) → ((v : V) → running ≡ Some v → states me ≡ make v)
-        → (act : Act) → ((v : V) (i : Input) (cut : Cut) → act ≡ Give i cut → states me ≡ make v → Lands holds kept sent states me make (rules.row c me d v i))
+        → (running : Option V) → ((v : V) → running ≡ Some v → states me ≡ make v) → (act : Act) → ((v : V) (i : Input) (cut : Cut)
+        → act ≡ Give i cut → states me ≡ make v → Lands holds kept sent states me make (rules.row c me d v i))
         → ((v : V) (first : ℕ) → states me ≡ make v → rules.snap c me d v ≡ Some first → holds (snap_by me first ∷ kept) sent states)
         → AfterTurn (turn rules c me d act running)
     acted rules d fresh None is (Give i cut) row snaps = stopped
-    acted rules d fresh (Some v) is (Give i cut) row snaps = landed cut (rules.row c me d v i) ((rules.row c me d v i).kept) refl (row v i cut refl (is v refl))
+    acted rules d fresh (Some v) is (Give i cut) row snaps =
+        landed cut (rules.row c me d v i) ((rules.row c me d v i).kept) refl (row v i cut refl (is v refl))
     acted rules d fresh None is (Snap cut) row snaps = stopped
-    acted rules d fresh (Some v) is (Snap cut) row snaps = forgot cut v (rules.snap c me d v) (is v refl) (λ first e. snaps v first (is v refl) e)
+    acted rules d fresh (Some v) is (Snap cut) row snaps =
+        forgot cut v (rules.snap c me d v) (is v refl) (λ first e. snaps v first (is v refl) e)
     acted rules d fresh None is Stop row snaps = stopped
     acted rules d fresh (Some v) is Stop row snaps = stopped
     acted rules d fresh None is Wake row snaps =
@@ -202,8 +214,8 @@ module _ (c : Cluster) (Allowed : ℕ → Event → Type 0) (known holds : Prope
     no_change : holds (reverse w.kept) (w.sent ++ []) w.roles
     no_change = subst (λ l. holds (reverse w.kept) l w.roles) (sym (append-nil w.sent)) h
 
-    placed : {D V : Type 0} (k : Kind) (make : V → State) (get : State → Option V) → Only make get → (rules : Rules D V) (me : RoleId) (act : Act) → me.kind ≡ k
-        → fresh_state c k ≡ make (rules.fresh c)
+    placed : {D V : Type 0} (k : Kind) (make : V → State) (get : State → Option V) → Only make get
+        → (rules : Rules D V) (me : RoleId) (act : Act) → me.kind ≡ k → fresh_state c k ≡ make (rules.fresh c)
         → ((v : V) (i : Input) (cut : Cut) → act ≡ Give i cut → w.roles me ≡ make v
         → Lands holds (reverse w.kept) w.sent w.roles me make (rules.row c me (durable_of rules me (reverse w.kept)) v i))
         → ((v : V) (first : ℕ) → w.roles me ≡ make v → rules.snap c me (durable_of rules me (reverse w.kept)) v ≡ Some first
@@ -215,7 +227,8 @@ module _ (c : Cluster) (Allowed : ℕ → Event → Type 0) (known holds : Prope
         subst (λ l. holds l (w.sent ++ t.sends) (set_state me (state_of make t.role) w.roles)) (kept_turned me t.kept kept)
         (acted kept w.sent w.roles h me make rules (durable_part rules me w.kept) (ap (λ j. fresh_state c j) is ∙ fresh)
         (get (w.roles me)) (λ v e. only (w.roles me) v e) act
-        (λ v i cut p s. subst (λ x. Lands holds kept w.sent w.roles me make (rules.row c me x v i)) (sym (durable_by_time rules me w.kept)) (row v i cut p s))
+        (λ v i cut p s. subst (λ x. Lands holds kept w.sent w.roles me make (rules.row c me x v i)) (sym (durable_by_time rules me w.kept))
+        (row v i cut p s))
         (λ v first s e. snaps v first s (subst (λ x. rules.snap c me x v ≡ Some first) (durable_by_time rules me w.kept) e)))
 
     module _ (me : RoleId) (act : Act) (given : ActGiven w.sent me act) where
@@ -226,48 +239,56 @@ module _ (c : Cluster) (Allowed : ℕ → Event → Type 0) (known holds : Prope
       at_role kind.Client is = no_change
       at_role kind.Batcher is =
           placed kind.Batcher BatcherIn batcher_volatile only_batcher batcher_rules me act is refl
-          (λ v i cut p s. as_role (λ a. w.roles a ≡ BatcherIn v → Given w.sent a i → Lands holds (reverse w.kept) w.sent w.roles a BatcherIn (batcher_row c a tt v i)) kind.Batcher me is
+          (λ v i cut p s. as_role (λ a. w.roles a ≡ BatcherIn v → Given w.sent a i
+          → Lands holds (reverse w.kept) w.sent w.roles a BatcherIn (batcher_row c a tt v i)) kind.Batcher me is
           (laws.batcher (reverse w.kept) w.sent w.roles me.index v i knows h) s (given_to i cut p))
           (λ v first s e. absurd cc)
       at_role kind.Leader is =
           placed kind.Leader LeaderIn leader_volatile only_leader leader_rules me act is refl
-          (λ v i cut p s. as_role (λ a. w.roles a ≡ LeaderIn v → Given w.sent a i → Lands holds (reverse w.kept) w.sent w.roles a LeaderIn (leader_row c a (durable_of leader_rules a (reverse w.kept)) v i)) kind.Leader me is
+          (λ v i cut p s. as_role (λ a. w.roles a ≡ LeaderIn v → Given w.sent a i → Lands holds (reverse w.kept) w.sent w.roles a LeaderIn
+          (leader_row c a (durable_of leader_rules a (reverse w.kept)) v i)) kind.Leader me is
           (laws.leader (reverse w.kept) w.sent w.roles me.index v i knows h) s (given_to i cut p))
           (λ v first s e. absurd cc)
       at_role kind.Proxy is =
-          placed kind.Proxy ProxyIn proxy_volatile only_proxy proxy_rules me act is refl
-          (λ v i cut p s. as_role (λ a. w.roles a ≡ ProxyIn v → Given w.sent a i → Lands holds (reverse w.kept) w.sent w.roles a ProxyIn (proxy_row c a tt v i)) kind.Proxy me is
+          placed kind.Proxy ProxyIn proxy_volatile only_proxy proxy_rules me act is refl (λ v i cut p s. as_role (λ a. w.roles a ≡ ProxyIn v
+          → Given w.sent a i → Lands holds (reverse w.kept) w.sent w.roles a ProxyIn (proxy_row c a tt v i)) kind.Proxy me is
           (laws.proxy (reverse w.kept) w.sent w.roles me.index v i knows h) s (given_to i cut p))
           (λ v first s e. absurd cc)
       at_role kind.Acceptor is =
           placed kind.Acceptor plain plain_volatile only_plain acceptor_rules me act is refl
-          (λ v i cut p s. as_role (λ a. w.roles a ≡ Plain → Given w.sent a i → Lands holds (reverse w.kept) w.sent w.roles a plain (acceptor_row c a (durable_of acceptor_rules a (reverse w.kept)) tt i)) kind.Acceptor me is
+          (λ v i cut p s. as_role (λ a. w.roles a ≡ Plain → Given w.sent a i → Lands holds (reverse w.kept) w.sent w.roles a plain
+          (acceptor_row c a (durable_of acceptor_rules a (reverse w.kept)) tt i)) kind.Acceptor me is
           (laws.acceptor (reverse w.kept) w.sent w.roles me.index i knows h) s (given_to i cut p))
           (λ v first s e. absurd cc)
       at_role kind.Matchmaker is =
           placed kind.Matchmaker plain plain_volatile only_plain matchmaker_rules me act is refl
-          (λ v i cut p s. as_role (λ a. w.roles a ≡ Plain → Given w.sent a i → Lands holds (reverse w.kept) w.sent w.roles a plain (matchmaker_row c a (durable_of matchmaker_rules a (reverse w.kept)) tt i)) kind.Matchmaker me is
+          (λ v i cut p s. as_role (λ a. w.roles a ≡ Plain → Given w.sent a i → Lands holds (reverse w.kept) w.sent w.roles a plain
+          (matchmaker_row c a (durable_of matchmaker_rules a (reverse w.kept)) tt i)) kind.Matchmaker me is
           (laws.matchmaker (reverse w.kept) w.sent w.roles me.index i knows h) s (given_to i cut p))
           (λ v first s e. absurd cc)
       at_role kind.Replica is =
           placed kind.Replica ReplicaIn replica_volatile only_replica replica_rules me act is refl
-          (λ v i cut p s. as_role (λ a. w.roles a ≡ ReplicaIn v → Given w.sent a i → Lands holds (reverse w.kept) w.sent w.roles a ReplicaIn (replica_row c a (durable_of replica_rules a (reverse w.kept)) v i)) kind.Replica me is
+          (λ v i cut p s. as_role (λ a. w.roles a ≡ ReplicaIn v → Given w.sent a i → Lands holds (reverse w.kept) w.sent w.roles a ReplicaIn
+          (replica_row c a (durable_of replica_rules a (reverse w.kept)) v i)) kind.Replica me is
           (laws.replica (reverse w.kept) w.sent w.roles me.index v i knows h) s (given_to i cut p))
-          (λ v first. as_role (λ a. w.roles a ≡ ReplicaIn v → replica_rules.snap c a (durable_of replica_rules a (reverse w.kept)) v ≡ Some first → holds (snap_by a first ∷ reverse w.kept) w.sent w.roles) kind.Replica me is
+          (λ v first. as_role (λ a. w.roles a ≡ ReplicaIn v → replica_rules.snap c a (durable_of replica_rules a (reverse w.kept)) v
+          ≡ Some first → holds (snap_by a first ∷ reverse w.kept) w.sent w.roles) kind.Replica me is
           (laws.snap (reverse w.kept) w.sent w.roles me.index v first knows h))
       at_role kind.Unbatcher is =
-          placed kind.Unbatcher plain plain_volatile only_plain unbatcher_rules me act is refl
-          (λ v i cut p s. as_role (λ a. w.roles a ≡ Plain → Given w.sent a i → Lands holds (reverse w.kept) w.sent w.roles a plain (unbatcher_row c a tt tt i)) kind.Unbatcher me is
+          placed kind.Unbatcher plain plain_volatile only_plain unbatcher_rules me act is refl (λ v i cut p s. as_role (λ a. w.roles a
+          ≡ Plain → Given w.sent a i → Lands holds (reverse w.kept) w.sent w.roles a plain (unbatcher_row c a tt tt i)) kind.Unbatcher me is
           (laws.unbatcher (reverse w.kept) w.sent w.roles me.index i knows h) s (given_to i cut p))
           (λ v first s e. absurd cc)
       at_role kind.Reader is =
           placed kind.Reader ReaderIn reader_volatile only_reader reader_rules me act is refl
-          (λ v i cut p s. as_role (λ a. w.roles a ≡ ReaderIn v → Given w.sent a i → Lands holds (reverse w.kept) w.sent w.roles a ReaderIn (reader_row c a (durable_of reader_rules a (reverse w.kept)) v i)) kind.Reader me is
+          (λ v i cut p s. as_role (λ a. w.roles a ≡ ReaderIn v → Given w.sent a i → Lands holds (reverse w.kept) w.sent w.roles a ReaderIn
+          (reader_row c a (durable_of reader_rules a (reverse w.kept)) v i)) kind.Reader me is
           (laws.reader (reverse w.kept) w.sent w.roles me.index v i knows h) s (given_to i cut p))
           (λ v first s e. absurd cc)
       at_role kind.Replacer is =
           placed kind.Replacer ReplacerIn replacer_volatile only_replacer replacer_rules me act is refl
-          (λ v i cut p s. as_role (λ a. w.roles a ≡ ReplacerIn v → Given w.sent a i → Lands holds (reverse w.kept) w.sent w.roles a ReplacerIn (replacer_row c a (durable_of replacer_rules a (reverse w.kept)) v i)) kind.Replacer me is
+          (λ v i cut p s. as_role (λ a. w.roles a ≡ ReplacerIn v → Given w.sent a i → Lands holds (reverse w.kept) w.sent w.roles a
+          ReplacerIn (replacer_row c a (durable_of replacer_rules a (reverse w.kept)) v i)) kind.Replacer me is
           (laws.replacer (reverse w.kept) w.sent w.roles me.index v i knows h) s (given_to i cut p))
           (λ v first s e. absurd cc)
 
@@ -281,20 +302,27 @@ module _ (c : Cluster) (Allowed : ℕ → Event → Type 0) (known holds : Prope
     abbrev asked : Event → Token → Bool → Change
     asked e t stale =
         if stale
-        then nothing (Some (role kind.Client t.client)) w.roles why.Stale
-        else record { who = Some (role kind.Client t.client); why = why.Sent; roles = w.roles; kept = []; sends = request (heard_by t.client w.sent w.events) e }
+        then nothing (Some (role kind.Client t.client)) w.roles why.Stale else record {
+          who = Some (role kind.Client t.client);
+          why = why.Sent;
+          roles = w.roles;
+          kept = [];
+          sends = request (heard_by t.client w.sent w.events) e;
+        }
 
-    asks : (e : Event) (t : Token) (stale : Bool) → ((asked e t stale).why ≡ why.Sent → Allowed (heard_by t.client w.sent w.events) e) → AfterChange (asked e t stale)
+    asks : (e : Event) (t : Token) (stale : Bool) → ((asked e t stale).why ≡ why.Sent → Allowed (heard_by t.client w.sent w.events) e)
+        → AfterChange (asked e t stale)
     asks e t true allowed = no_change
     asks e t false allowed = laws.ask (reverse w.kept) w.sent w.roles (heard_by t.client w.sent w.events) e (allowed refl) knows h
 
     changes : (e : Event) → ((change w e).why ≡ why.Sent → Allowed (heard_of w (token_of e)) e) → AfterChange (change w e)
-    changes (event.Write command batcher) allowed =
-        (let t : Token = record { client = command.client; seq = command.seq } in asks (event.Write command batcher) t (is_stale t (event.Write command batcher) w.events) allowed)
+    changes (event.Write command batcher) allowed = (let t : Token = record { client = command.client; seq = command.seq } in
+        asks (event.Write command batcher) t (is_stale t (event.Write command batcher) w.events) allowed)
     changes (event.Read client seq floor reader replica key) allowed =
-        (let t : Token = record { client = client; seq = seq } in asks (event.Read client seq floor reader replica key) t (is_stale t (event.Read client seq floor reader replica key) w.events) allowed)
-    changes (event.Session client seq floor replica key) allowed =
-        (let t : Token = record { client = client; seq = seq } in asks (event.Session client seq floor replica key) t (is_stale t (event.Session client seq floor replica key) w.events) allowed)
+        (let t : Token = record { client = client; seq = seq } in asks (event.Read client seq floor reader replica key) t
+        (is_stale t (event.Read client seq floor reader replica key) w.events) allowed)
+    changes (event.Session client seq floor replica key) allowed = (let t : Token = record { client = client; seq = seq } in
+        asks (event.Session client seq floor replica key) t (is_stale t (event.Session client seq floor replica key) w.events) allowed)
     changes (event.Deliver n cut) allowed = comes cut (slice_get w.sent n) (λ d e. (refl, Member-at d w.sent n e))
     changes (event.Tick r) allowed = acts (Give input.Tick Whole) r tt
     changes (event.Order l order cut) allowed = acts (Give (input.Order order) cut) (role kind.Leader l) tt
@@ -319,8 +347,8 @@ step_keeps c Allowed known holds laws w is knows h e allowed = stepped c Allowed
 
 pub run_from_keeps : RunFromLaw
 run_from_keeps c Allowed known holds laws w is h [] along allowed = h
-run_from_keeps c Allowed known holds laws w is h (e ∷ es) along allowed =
-    run_from_keeps c Allowed known holds laws (step w e) (step_cluster w e ∙ is) (step_keeps c Allowed known holds laws w is along.0 h e allowed.0) es along.1 allowed.1
+run_from_keeps c Allowed known holds laws w is h (e ∷ es) along allowed = run_from_keeps c Allowed known holds laws (step w e)
+    (step_cluster w e ∙ is) (step_keeps c Allowed known holds laws w is along.0 h e allowed.0) es along.1 allowed.1
 
 -- at the start each role is fresh or isn't there
 
@@ -328,7 +356,8 @@ fresh_if : (b : Bool) (s : State) → ((if b then s else Down) ≡ Down) ⊎ ((i
 fresh_if true s = inr refl
 fresh_if false s = inl refl
 
-pub start_holds : (c : Cluster) (Allowed : ℕ → Event → Type 0) (known holds : Property) → Laws c Allowed known holds → HoldsIn holds (run c [])
+pub start_holds : (c : Cluster) (Allowed : ℕ → Event → Type 0) (known holds : Property) → Laws c Allowed known holds
+    → HoldsIn holds (run c [])
 start_holds c Allowed known holds laws = laws.start ((start c).roles) (λ a. fresh_if (names_role c a) (fresh_state c a.kind))
 
 pub run_keeps : RunLaw
@@ -352,7 +381,8 @@ run_cluster c es = go (start c) refl es
     go w is (e ∷ es) = go (step w e) (step_cluster w e ∙ is) es
 
 -- what holds of every run holds along each
-pub along : (c : Cluster) (holds : Property) → ((es : List Event) → HoldsIn holds (run c es)) → (es more : List Event) → HoldsAlong holds (run c es) more
+pub along : (c : Cluster) (holds : Property) → ((es : List Event) → HoldsIn holds (run c es)) → (es more : List Event)
+    → HoldsAlong holds (run c es) more
 along c holds always es [] = always es
 along c holds always es (e ∷ more) =
     (always es, subst (λ w. HoldsAlong holds w more) (run_append c es (e ∷ [])) (along c holds always (es ++ e ∷ []) more))

@@ -1,5 +1,6 @@
 -- A durable part stays tied to all values that its replica kept: with more values, and without those below a slot.
-use Rattle.std.proofs.Common.{◌≡◌, ◌≤◌, ◌<◌, ℕ, ◌+◌, ◌-◌, ◌||◌, Bool, true, false, List, [], ◌∷◌, ◌++◌, length, drop, Some, refl, sym, ◌∙◌, ap, subst, arith, length-append, length-drop}
+use Rattle.std.proofs.Common.{◌≡◌, ◌≤◌, ◌<◌, ℕ, ◌+◌, ◌-◌, ◌||◌, Bool, true, false, List, [], ◌∷◌, ◌++◌, length, drop, Some, refl, sym, ◌∙◌}
+use Rattle.std.proofs.Common.{ap, subst, arith, length-append, length-drop}
 use Rattle.std.specs.Prelude.{◌==◌, nat_le, min, if◌then◌else◌, None}
 use Rattle.std.proofs.lemmas.Bool.Decides.{nat_tests}
 use Rattle.std.proofs.lemmas.List.{drop-append-le, drop-drop}
@@ -10,7 +11,8 @@ use Rattle.cx_letter.specs.declared.kept.Record.TheVariants as kept
 use Rattle.cx_model.specs.Ordered.{machine_ordered}
 use Rattle.cx_model.specs.Renewed.{IsOrdered, forgets}
 use Rattle.cx_model.specs.RenewedLaws.{renewed_folds}
-use Rattle.cx_model.specs.Replica.{IsTied, Machine, ReplicaDurable, ReplicaVolatile, execute_value, held, machine_from, machine_of, new_machine, replica_after, replica_renewed, replica_rules, replica_snap, snap_limit}
+use Rattle.cx_model.specs.Replica.{IsTied, Machine, ReplicaDurable, ReplicaVolatile, execute_value, held, machine_from, machine_of}
+use Rattle.cx_model.specs.Replica.{new_machine, replica_after, replica_renewed, replica_rules, replica_snap, snap_limit}
 use Rattle.cx_model.specs.Rules.{folded}
 
 -- how many slots are held is how many values were kept
@@ -18,7 +20,8 @@ pub held_is : (d : ReplicaDurable) (values : List Value) → IsTied d values →
 held_is d values tied = omega (arith, tied.within, ap length tied.log, length-drop d.first values)
 
 -- more values go through the machine that the first ones leave
-pub machine_goes_on : (n : ℕ) (m : Machine) (vs ws : List Value) → machine_from n m (vs ++ ws) ≡ machine_from (n + length vs) (machine_from n m vs) ws
+pub machine_goes_on : (n : ℕ) (m : Machine) (vs ws : List Value)
+    → machine_from n m (vs ++ ws) ≡ machine_from (n + length vs) (machine_from n m vs) ws
 machine_goes_on n m [] ws = (let same : n ≡ n + 0 = omega arith in ap (λ k. machine_from k m ws) same)
 machine_goes_on n m (v ∷ vs) ws =
     let first = (execute_value n m v).machine in
@@ -34,11 +37,13 @@ tied_more d values vs tied = record {
   log = ap (λ l. l ++ vs) tied.log ∙ sym (drop-append-le d.first values vs tied.within);
   machine =
       let count : held d ≡ 0 + length values = omega (arith, held_is d values tied) in
-      ap (λ m. machine_from (held d) m vs) tied.machine ∙ ap (λ n. machine_from n (machine_of values) vs) count ∙ sym (machine_goes_on 0 new_machine values vs);
+      ap (λ m. machine_from (held d) m vs) tied.machine ∙ ap (λ n. machine_from n (machine_of values) vs) count
+      ∙ sym (machine_goes_on 0 new_machine values vs);
   whole = tied.whole;
 }
 
-pub tied_forgets : (d : ReplicaDurable) (first : ℕ) (values : List Value) → d.first ≤ first → first ≤ held d → IsTied d values → IsTied (forgets d first) values
+pub tied_forgets : (d : ReplicaDurable) (first : ℕ) (values : List Value) → d.first ≤ first → first ≤ held d → IsTied d values
+    → IsTied (forgets d first) values
 tied_forgets d first values from most tied = record {
   within = omega (arith, most, held_is d values tied);
   log =

@@ -1,5 +1,5 @@
--- What a property of moments needs, so that every step keeps it: one law for each kind of step, one for each kind of role's rows, and one for
--- a replica that forgets values.
+-- What a property of moments needs, so that every step keeps it: one law for each kind of step, one for each kind of role's rows, and one
+-- for a replica that forgets values.
 use Rattle.std.specs.Prelude.{◌≡◌, ◌⊎◌, ℕ, List, [], ◌∷◌, ◌++◌, Option, None, Some}
 use Rattle.cx_base.specs.declared.cluster.Cluster.{Cluster}
 use Rattle.cx_base.specs.declared.event.Event.{Event}
@@ -25,15 +25,18 @@ use Rattle.cx_model.specs.Replica.{ReplicaVolatile, replica_rules, replica_row}
 use Rattle.cx_model.specs.Request.{request, token_of}
 use Rattle.cx_model.specs.Unbatcher.{unbatcher_row}
 use Rattle.cx_model.specs.World.{World, change, step, run, run_from}
-use Rattle.cx_inv_run.specs.States.{State, Down, Plain, BatcherIn, LeaderIn, ProxyIn, ReplicaIn, ReaderIn, ReplacerIn, plain, fresh_state, set_state, entry_by, snap_by, with_record, durable_of, Given, Property, HoldsIn}
+use Rattle.cx_inv_run.specs.States.{State, Down, Plain, BatcherIn, LeaderIn, ProxyIn, ReplicaIn, ReaderIn, ReplacerIn, plain, fresh_state}
+use Rattle.cx_inv_run.specs.States.{set_state, entry_by, snap_by, with_record, durable_of, Given, Property, HoldsIn}
 
--- The outcome of a row keeps a property: the whole step, and the step that is cut after its record was kept. (A step that is cut before is a stop.)
-pub record Lands {V : Type 0} (holds : Property) (kept : List KeptRecord) (sent : List Letter) (states : RoleId → State) (me : RoleId) (make : V → State) (o : Outcome V) : Type 0 where
+-- The outcome of a row keeps a property: the whole step, and the step that is cut after its record was kept. (A step that is cut before is
+-- a stop.)
+pub record Lands {V : Type 0} (holds : Property) (kept : List KeptRecord) (sent : List Letter) (states : RoleId → State) (me : RoleId)
+    (make : V → State) (o : Outcome V) : Type 0 where
   pub whole : holds (with_record me o.kept kept) (sent ++ o.sends) (set_state me (make o.volatile) states)
   pub cut : (r : Record) → o.kept ≡ Some r → holds (entry_by me r ∷ kept) sent (set_state me Down states)
 
--- The laws of a property over a cluster. `known` is another property that every moment is known to have, `Allowed` says which requests go out,
--- where their clients have heard of so many values.
+-- The laws of a property over a cluster. `known` is another property that every moment is known to have, `Allowed` says which requests go
+-- out, where their clients have heard of so many values.
 pub record Laws (c : Cluster) (Allowed : ℕ → Event → Type 0) (known holds : Property) : Type 0 where
   -- only the state of each role counts
   pub same : (kept : List KeptRecord) (sent : List Letter) (states others : RoleId → State)
@@ -55,19 +58,23 @@ pub record Laws (c : Cluster) (Allowed : ℕ → Event → Type 0) (known holds 
       → Lands holds kept sent states (role kind.Batcher b) BatcherIn (batcher_row c (role kind.Batcher b) tt v i)
   pub leader : (kept : List KeptRecord) (sent : List Letter) (states : RoleId → State) (l : ℕ) (v : LeaderVolatile) (i : Input)
       → known kept sent states → holds kept sent states → states (role kind.Leader l) ≡ LeaderIn v → Given sent (role kind.Leader l) i
-      → Lands holds kept sent states (role kind.Leader l) LeaderIn (leader_row c (role kind.Leader l) (durable_of leader_rules (role kind.Leader l) kept) v i)
+      → Lands holds kept sent states (role kind.Leader l) LeaderIn
+      (leader_row c (role kind.Leader l) (durable_of leader_rules (role kind.Leader l) kept) v i)
   pub proxy : (kept : List KeptRecord) (sent : List Letter) (states : RoleId → State) (p : ℕ) (v : ProxyVolatile) (i : Input)
       → known kept sent states → holds kept sent states → states (role kind.Proxy p) ≡ ProxyIn v → Given sent (role kind.Proxy p) i
       → Lands holds kept sent states (role kind.Proxy p) ProxyIn (proxy_row c (role kind.Proxy p) tt v i)
   pub acceptor : (kept : List KeptRecord) (sent : List Letter) (states : RoleId → State) (a : ℕ) (i : Input)
       → known kept sent states → holds kept sent states → states (role kind.Acceptor a) ≡ Plain → Given sent (role kind.Acceptor a) i
-      → Lands holds kept sent states (role kind.Acceptor a) plain (acceptor_row c (role kind.Acceptor a) (durable_of acceptor_rules (role kind.Acceptor a) kept) tt i)
+      → Lands holds kept sent states (role kind.Acceptor a) plain
+      (acceptor_row c (role kind.Acceptor a) (durable_of acceptor_rules (role kind.Acceptor a) kept) tt i)
   pub matchmaker : (kept : List KeptRecord) (sent : List Letter) (states : RoleId → State) (m : ℕ) (i : Input)
       → known kept sent states → holds kept sent states → states (role kind.Matchmaker m) ≡ Plain → Given sent (role kind.Matchmaker m) i
-      → Lands holds kept sent states (role kind.Matchmaker m) plain (matchmaker_row c (role kind.Matchmaker m) (durable_of matchmaker_rules (role kind.Matchmaker m) kept) tt i)
+      → Lands holds kept sent states (role kind.Matchmaker m) plain
+      (matchmaker_row c (role kind.Matchmaker m) (durable_of matchmaker_rules (role kind.Matchmaker m) kept) tt i)
   pub replica : (kept : List KeptRecord) (sent : List Letter) (states : RoleId → State) (p : ℕ) (v : ReplicaVolatile) (i : Input)
       → known kept sent states → holds kept sent states → states (role kind.Replica p) ≡ ReplicaIn v → Given sent (role kind.Replica p) i
-      → Lands holds kept sent states (role kind.Replica p) ReplicaIn (replica_row c (role kind.Replica p) (durable_of replica_rules (role kind.Replica p) kept) v i)
+      → Lands holds kept sent states (role kind.Replica p) ReplicaIn
+      (replica_row c (role kind.Replica p) (durable_of replica_rules (role kind.Replica p) kept) v i)
   -- A replica forgets values. (A snap that is cut after the renewal is this, and then a stop.)
   pub snap : (kept : List KeptRecord) (sent : List Letter) (states : RoleId → State) (p : ℕ) (v : ReplicaVolatile) (first : ℕ)
       → known kept sent states → holds kept sent states → states (role kind.Replica p) ≡ ReplicaIn v
@@ -78,10 +85,12 @@ pub record Laws (c : Cluster) (Allowed : ℕ → Event → Type 0) (known holds 
       → Lands holds kept sent states (role kind.Unbatcher u) plain (unbatcher_row c (role kind.Unbatcher u) tt tt i)
   pub reader : (kept : List KeptRecord) (sent : List Letter) (states : RoleId → State) (r : ℕ) (v : ReaderVolatile) (i : Input)
       → known kept sent states → holds kept sent states → states (role kind.Reader r) ≡ ReaderIn v → Given sent (role kind.Reader r) i
-      → Lands holds kept sent states (role kind.Reader r) ReaderIn (reader_row c (role kind.Reader r) (durable_of reader_rules (role kind.Reader r) kept) v i)
+      → Lands holds kept sent states (role kind.Reader r) ReaderIn
+      (reader_row c (role kind.Reader r) (durable_of reader_rules (role kind.Reader r) kept) v i)
   pub replacer : (kept : List KeptRecord) (sent : List Letter) (states : RoleId → State) (x : ℕ) (v : ReplacerVolatile) (i : Input)
       → known kept sent states → holds kept sent states → states (role kind.Replacer x) ≡ ReplacerIn v → Given sent (role kind.Replacer x) i
-      → Lands holds kept sent states (role kind.Replacer x) ReplacerIn (replacer_row c (role kind.Replacer x) (durable_of replacer_rules (role kind.Replacer x) kept) v i)
+      → Lands holds kept sent states (role kind.Replacer x) ReplacerIn
+      (replacer_row c (role kind.Replacer x) (durable_of replacer_rules (role kind.Replacer x) kept) v i)
 
 -- nothing is known
 abbrev pub anything : Property

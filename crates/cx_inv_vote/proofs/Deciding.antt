@@ -1,5 +1,5 @@
--- What an event's word `decided` says: a replacer lets a set begin in the place of the one that it knows, and by this word alone. So whoever is asked
--- to begin in a set, and whoever begins in it, was so after an event that decided this set.
+-- What an event's word `decided` says: a replacer lets a set begin in the place of the one that it knows, and by this word alone. So
+-- whoever is asked to begin in a set, and whoever begins in it, was so after an event that decided this set.
 use Rattle.std.proofs.Common.{◌≡◌, ℕ, not, ◌&&◌, ◌||◌, map, ◌⊎◌, List, [], ◌++◌, length, Option, Some, None, inl, inr, ap, sym, ◌∙◌, refl}
 use Rattle.std.specs.Prelude.{nat_lt, nat_le, bytes_eq, if◌then◌else◌}
 use Rattle.std.specs.List.{list_any}
@@ -29,11 +29,15 @@ use Rattle.cx_letter.specs.declared.message.Msg.TheVariants as msg
 use Rattle.cx_model.specs.declared.states.Replacing.{Replacing}
 use Rattle.cx_model.specs.declared.states.Replacing.TheVariants.{Idle, Stopping, Deciding, Booting}
 use Rattle.cx_model.specs.Matched.{enough, first_set}
-use Rattle.cx_model.specs.Matchmaker.{MatchmakerDurable, matchmaker_takes, match_a_row, garbage_a_row, match_read_row, stop_a_row, next_a_row, boot_in, boot_a_row, in_set, at_work, set_of, is_booted, is_stopped, has_round}
+use Rattle.cx_model.specs.Matchmaker.{MatchmakerDurable, matchmaker_takes, match_a_row, garbage_a_row, match_read_row, stop_a_row}
+use Rattle.cx_model.specs.Matchmaker.{next_a_row, boot_in, boot_a_row, in_set, at_work, set_of, is_booted, is_stopped, has_round}
 use Rattle.cx_model.specs.Member.{Member}
 use Rattle.cx_model.specs.Names.{names, names_set}
 use Rattle.cx_model.specs.Outcome.{Outcome, only_word, replied, by_test}
-use Rattle.cx_model.specs.Replacer.{ReplacerDurable, ReplacerVolatile, is_stopping, is_deciding, is_booting, is_resting, has_halted, joined_entries, to_decide, stop_a_to, next_a_to, boot_a_to, sets_to, others, sets_to_all, begin_in, decide, halt_counted, stop_b_row, next_b_row, boot_b_row, with_seen, stop_nack_row, sets_row, replacer_takes, tick_in, replacer_orders, replacer_row}
+use Rattle.cx_model.specs.Replacer.{ReplacerDurable, ReplacerVolatile, is_stopping, is_deciding, is_booting, is_resting, has_halted}
+use Rattle.cx_model.specs.Replacer.{joined_entries, to_decide, stop_a_to, next_a_to, boot_a_to, sets_to, others, sets_to_all, begin_in}
+use Rattle.cx_model.specs.Replacer.{decide, halt_counted, stop_b_row, next_b_row, boot_b_row, with_seen, stop_nack_row, sets_row}
+use Rattle.cx_model.specs.Replacer.{replacer_takes, tick_in, replacer_orders, replacer_row}
 use Rattle.cx_inv_run.proofs.Members.{Member-both}
 use Rattle.cx_inv_vote.proofs.Leading.{each}
 
@@ -51,8 +55,8 @@ begun_in other = []
 abbrev pub Begins : ReplacerVolatile → Why → List ℕ → Type 0
 Begins v y t = ((v.mode ≡ Booting) ⊎ (y ≡ why.Decided)) × (v.next ≡ t)
 
--- What a row says: it asks to begin in such a set alone, it leaves the replacer in such a set alone, and by its word it goes on with the two sets that
--- it had.
+-- What a row says: it asks to begin in such a set alone, it leaves the replacer in such a set alone, and by its word it goes on with the
+-- two sets that it had.
 pub record RowSays (v : ReplacerVolatile) (o : Outcome ReplacerVolatile) : Type 0 where
   pub asks : (d : Letter) → Member d o.sends → (t : List ℕ) (w : Round) (es : List Entry) → msg.BootA t w es ≡ d.msg → Begins v o.why t
   pub boots : o.volatile.mode ≡ Booting → Begins v o.why o.volatile.next
@@ -73,7 +77,8 @@ says_else v u y r ds other stays none = record {
 says_nothing : (v u : ReplacerVolatile) (y : Why) → (y ≡ why.Decided → ⊥) → Stays v u → RowSays v (only_word y u)
 says_nothing v u y other stays = says_else v u y None [] other stays (λ d m. absurd m)
 
-none_each : (make : ℕ → Letter) (ns : List ℕ) → ((n : ℕ) (t : List ℕ) (w : Round) (es : List Entry) → msg.BootA t w es ≡ (make n).msg → ⊥) → NoBoot (map make ns)
+none_each : (make : ℕ → Letter) (ns : List ℕ) → ((n : ℕ) (t : List ℕ) (w : Round) (es : List Entry) → msg.BootA t w es ≡ (make n).msg → ⊥)
+    → NoBoot (map make ns)
 none_each make ns h = each (λ (d : Letter). (t : List ℕ) (w : Round) (es : List Entry) → msg.BootA t w es ≡ d.msg → ⊥) make ns h
 
 module _ (c : Cluster) (me : RoleId) (dur : ReplacerDurable) (v : ReplacerVolatile) where
@@ -109,9 +114,8 @@ module _ (c : Cluster) (me : RoleId) (dur : ReplacerDurable) (v : ReplacerVolati
 
   begin_says : (s : List ℕ) (next : Option Round) → Says (begin_in me v s next)
   begin_says s None = same why.End (λ e. cc)
-  begin_says s (Some b) =
-      says_else v (record v { mode = Stopping; next = s; halts = []; counted = [] }) why.Started (Some (kept.Ballot b)) (map (stop_a_to me b) v.set)
-      (λ e. cc) (λ e. cc) (none_each (stop_a_to me b) v.set (λ n t w es e. cc))
+  begin_says s (Some b) = says_else v (record v { mode = Stopping; next = s; halts = []; counted = [] }) why.Started (Some (kept.Ballot b))
+      (map (stop_a_to me b) v.set) (λ e. cc) (λ e. cc) (none_each (stop_a_to me b) v.set (λ n t w es e. cc))
 
   order_says : (order : OrderOf) → Says (replacer_orders c me dur v order)
   order_says (Replace s) =
@@ -131,8 +135,8 @@ module _ (c : Cluster) (me : RoleId) (dur : ReplacerDurable) (v : ReplacerVolati
       by_test Says (is_above v.set (first_set c)) _ _
       (λ t. says_else v v why.Resent None (sets_to_all c me v.set) (λ e. cc) (λ e. (e, refl)) (tells_no_boot v.set))
       (λ f. same why.Idle (λ e. cc))
-  tick_says Stopping is =
-      says_else v v why.Resent None (map (stop_a_to me dur.own) v.set) (λ e. cc) (λ e. (e, refl)) (none_each (stop_a_to me dur.own) v.set (λ n t w es e. cc))
+  tick_says Stopping is = says_else v v why.Resent None (map (stop_a_to me dur.own) v.set) (λ e. cc) (λ e. (e, refl))
+      (none_each (stop_a_to me dur.own) v.set (λ n t w es e. cc))
   tick_says Deciding is =
       says_else v v why.Resent None (map (next_a_to me dur.own v.next) v.set) (λ e. cc) (λ e. (e, refl))
       (none_each (next_a_to me dur.own v.next) v.set (λ n t w es e. cc))
@@ -143,8 +147,8 @@ module _ (c : Cluster) (me : RoleId) (dur : ReplacerDurable) (v : ReplacerVolati
   decide_says : (u : ReplacerVolatile) (es : List Entry) (s : List ℕ) → Says (decide me dur u es s)
   decide_says u es s =
       by_test Says (nat_lt 254 (length es)) _ _
-      (λ t. says_nothing v (record u { mode = Idle }) why.Full (λ e. cc) (λ e. cc))
-      (λ f. says_else v _ why.Asking None (map (next_a_to me dur.own s) u.set) (λ e. cc) (λ e. cc) (none_each (next_a_to me dur.own s) u.set (λ n t w es e. cc)))
+      (λ t. says_nothing v (record u { mode = Idle }) why.Full (λ e. cc) (λ e. cc)) (λ f. says_else v _ why.Asking None
+      (map (next_a_to me dur.own s) u.set) (λ e. cc) (λ e. cc) (none_each (next_a_to me dur.own s) u.set (λ n t w es e. cc)))
 
   halt_says : (u : ReplacerVolatile) → (u.mode ≡ v.mode) → (v.next ≡ u.next) → Says (halt_counted c me dur u)
   halt_says u mode next =
@@ -169,8 +173,8 @@ module _ (c : Cluster) (me : RoleId) (dur : ReplacerDurable) (v : ReplacerVolati
       (λ f. by_test Says (is_in from.index v.counted) _ _
       (λ t. same why.Same (λ e. cc))
       (λ g. by_test Says (nat_lt (length (with_mark from.index v.counted)) (enough c)) _ _
-      (λ t. says_nothing v (record v { counted = with_mark from.index v.counted }) why.Counted (λ e. cc) (λ e. (e, refl)))
-      (λ k. asks_boot why.Decided (record v { mode = Booting; counted = [] }) (inr refl, refl) (λ e. (inr refl, refl)) (λ e. (refl, refl, refl)))))
+      (λ t. says_nothing v (record v { counted = with_mark from.index v.counted }) why.Counted (λ e. cc) (λ e. (e, refl))) (λ k. asks_boot
+      why.Decided (record v { mode = Booting; counted = [] }) (inr refl, refl) (λ e. (inr refl, refl)) (λ e. (refl, refl, refl)))))
 
   -- a member of the next set has begun
 
@@ -181,8 +185,8 @@ module _ (c : Cluster) (me : RoleId) (dur : ReplacerDurable) (v : ReplacerVolati
       (λ f. by_test Says (is_in from.index v.counted) _ _
       (λ t. same why.Same (λ e. cc))
       (λ g. by_test Says (nat_lt (length (with_mark from.index v.counted)) (enough c)) _ _
-      (λ t. says_nothing v (record v { counted = with_mark from.index v.counted }) why.Counted (λ e. cc) (λ e. (e, refl)))
-      (λ k. says_else v (record v { mode = Idle; set = v.next }) why.Replaced None (sets_to_all c me v.next) (λ e. cc) (λ e. cc) (tells_no_boot v.next))))
+      (λ t. says_nothing v (record v { counted = with_mark from.index v.counted }) why.Counted (λ e. cc) (λ e. (e, refl))) (λ k. says_else v
+      (record v { mode = Idle; set = v.next }) why.Replaced None (sets_to_all c me v.next) (λ e. cc) (λ e. cc) (tells_no_boot v.next))))
 
   -- a greater ballot, another set
 
@@ -253,7 +257,8 @@ module _ (c : Cluster) (me : RoleId) (d : MatchmakerDurable) (m : Msg) where
       (λ k t w es e. cc)
       (λ k. by_test WasAsked (same_round b d.accepted) _ _ (λ k t w es e. cc) (λ k t w es e. cc))
 
-  boot_a_asked : (from : RoleId) (s : List ℕ) (w : Round) (es : List Entry) → m ≡ msg.BootA s w es → WasAsked (boot_a_row c me d from s w es)
+  boot_a_asked : (from : RoleId) (s : List ℕ) (w : Round) (es : List Entry) → m ≡ msg.BootA s w es
+      → WasAsked (boot_a_row c me d from s w es)
   boot_a_asked from s w es is = by_test WasAsked (is_in me.index s) _ _ (λ k. go (set_of c me d.booted)) (λ k t v xs e. cc)
     where
       begun : (t : List ℕ) (v : Round) (xs : List Entry) → kept.Boot s w es ≡ kept.Boot t v xs → msg.BootA t v xs ≡ msg.BootA s w es
@@ -263,13 +268,15 @@ module _ (c : Cluster) (me : RoleId) (d : MatchmakerDurable) (m : Msg) where
       go None = λ t v xs e. begun t v xs (same_Some (kept.Boot s w es) (kept.Boot t v xs) e) ∙ sym is
       go (Some u) = by_test WasAsked (bytes_eq s u) _ _ (λ k t v xs e. cc) (λ k t v xs e. cc)
 
-pub boot_asked : (c : Cluster) (me : RoleId) (d : MatchmakerDurable) (from : RoleId) (m : Msg) → WasAsked c me d m (matchmaker_takes c me d from m)
+pub boot_asked : (c : Cluster) (me : RoleId) (d : MatchmakerDurable) (from : RoleId) (m : Msg)
+    → WasAsked c me d m (matchmaker_takes c me d from m)
 boot_asked c me d from (msg.MatchA i g) =
     at_work_asked c me d (msg.MatchA i g) (match_a_row me d from i g) (match_a_asked c me d (msg.MatchA i g) from i g)
 boot_asked c me d from (msg.GarbageA i g) =
     at_work_asked c me d (msg.GarbageA i g) (garbage_a_row me d from i g) (garbage_a_asked c me d (msg.GarbageA i g) from i g)
 boot_asked c me d from (msg.MatchRead u) = at_work_asked c me d (msg.MatchRead u) (match_read_row me d from u) (λ t w es e. cc)
 boot_asked c me d from (msg.StopA b) = in_set_asked c me d (msg.StopA b) (stop_a_row me d from b) (stop_a_asked c me d (msg.StopA b) from b)
-boot_asked c me d from (msg.NextA b s) = in_set_asked c me d (msg.NextA b s) (next_a_row me d from b s) (next_a_asked c me d (msg.NextA b s) from b s)
+boot_asked c me d from (msg.NextA b s) =
+    in_set_asked c me d (msg.NextA b s) (next_a_row me d from b s) (next_a_asked c me d (msg.NextA b s) from b s)
 boot_asked c me d from (msg.BootA s w es) = boot_a_asked c me d (msg.BootA s w es) from s w es refl
 boot_asked c me d from other = λ t w es e. cc

@@ -50,10 +50,12 @@ use Rattle.cx_model.specs.Turn.{still as still_turn}
 use Rattle.cx_model.specs.Unbatcher.{unbatcher_rules}
 use Rattle.cx_model.specs.World.{World, Change, change, changed, nothing, come, ask, act_at, act_of, durable_part, kept_by}
 use Rattle.cx_inv_run.specs.Kinds.{IsSender, IsKept, OfKind}
-use Rattle.cx_inv_run.specs.States.{State, BatcherIn, LeaderIn, ProxyIn, ReplicaIn, ReaderIn, ReplacerIn, plain, replacer_volatile, state_of, Given}
+use Rattle.cx_inv_run.specs.States.{State, BatcherIn, LeaderIn, ProxyIn, ReplicaIn, ReaderIn, ReplacerIn, plain, replacer_volatile}
+use Rattle.cx_inv_run.specs.States.{state_of, Given}
 use Rattle.cx_inv_run.proofs.Histories.{state_own, state_other}
 use Rattle.cx_inv_run.proofs.Members.{Member-at, Member-one}
-use Rattle.cx_inv_run.proofs.Senders.{acceptor_kinds, matchmaker_kinds, batcher_kinds, unbatcher_kinds, proxy_kinds, replica_kinds, reader_kinds}
+use Rattle.cx_inv_run.proofs.Senders.{acceptor_kinds, matchmaker_kinds, batcher_kinds, unbatcher_kinds, proxy_kinds, replica_kinds}
+use Rattle.cx_inv_run.proofs.Senders.{reader_kinds}
 use Rattle.cx_inv_run.proofs.LeaderSenders.{leader_kinds, replacer_kinds}
 use Rattle.cx_inv_run.proofs.Steps.{only_replacer}
 use Rattle.cx_inv_vote.proofs.Rows.{is_role}
@@ -78,9 +80,11 @@ module _ (w : World) (Was : List ℕ → Type 0)
     pub next_is : volatile.next ≡ t
 
   pub record Follows (ch : Change) : Type 0 where
-    pub asks : (d : Letter) → Member d ch.sends → (t : List ℕ) (v : Round) (es : List Entry) → msg.BootA t v es ≡ d.msg → Was t ⊎ DecidedBy ch t
+    pub asks : (d : Letter) → Member d ch.sends → (t : List ℕ) (v : Round) (es : List Entry) → msg.BootA t v es ≡ d.msg
+        → Was t ⊎ DecidedBy ch t
     pub begins : (who : RoleId) (t : List ℕ) (v : Round) (es : List Entry) → HasKept ch.kept who (kept.Boot t v es) → Was t
-    pub boots : (x : ℕ) (v : ReplacerVolatile) → ch.roles (role kind.Replacer x) ≡ ReplacerIn v → v.mode ≡ Booting → Was v.next ⊎ DecidedBy ch v.next
+    pub boots : (x : ℕ) (v : ReplacerVolatile) → ch.roles (role kind.Replacer x) ≡ ReplacerIn v → v.mode ≡ Booting
+        → Was v.next ⊎ DecidedBy ch v.next
     pub decides : (who : RoleId) → who.kind ≡ kind.Replacer → ch.who ≡ Some who → ch.why ≡ why.Decided
         → (v : ReplacerVolatile) → w.roles who ≡ ReplacerIn v
         → (u : ReplacerVolatile) × (ch.roles who ≡ ReplacerIn u) × (u.mode ≡ Booting) × (u.set ≡ v.set) × (u.next ≡ v.next)
@@ -106,10 +110,12 @@ module _ (w : World) (Was : List ℕ → Type 0)
     sends_mild : (o : Outcome V) → OfKind me o → NoBoot o.sends
     sends_mild o of_kind d m t v es e = no_replacer (subst (λ x. IsSender me.kind x) (sym e) (of_kind.sends d m).1)
 
-    whole_mild : (o : Outcome V) → OfKind me o → ((s : List ℕ) (v : Round) (es : List Entry) → o.kept ≡ Some (kept.Boot s v es) → Was s) → IsMild (whole_turn o)
+    whole_mild : (o : Outcome V) → OfKind me o → ((s : List ℕ) (v : Round) (es : List Entry) → o.kept ≡ Some (kept.Boot s v es) → Was s)
+        → IsMild (whole_turn o)
     whole_mild o of_kind begins = record { asks = sends_mild o of_kind; begins = go o.kept refl }
       where
-        go : (r : Option Record) → o.kept ≡ r → (s : List ℕ) (v : Round) (es : List Entry) → option_map written.Record r ≡ Some (written.Record (kept.Boot s v es)) → Was s
+        go : (r : Option Record) → o.kept ≡ r → (s : List ℕ) (v : Round) (es : List Entry)
+            → option_map written.Record r ≡ Some (written.Record (kept.Boot s v es)) → Was s
         go None e s v es q = cc
         go (Some r) e s v es q = begins s v es (e ∙ cc)
 
@@ -120,12 +126,15 @@ module _ (w : World) (Was : List ℕ → Type 0)
     cut_mild Torn o (Some r) e of_kind begins = record { asks = λ d m. absurd m; begins = λ s v es q. cc }
     cut_mild Kept o (Some r) e of_kind begins = record { asks = λ d m. absurd m; begins = λ s v es q. begins s v es (e ∙ cc) }
 
-  still_mild : {V : Type 0} (t : Turn V) → t.sends ≡ [] → ((s : List ℕ) (v : Round) (es : List Entry) → t.kept ≡ Some (written.Record (kept.Boot s v es)) → ⊥) → IsMild t
-  still_mild t silent none = record { asks = subst (λ ds. NoBoot ds) (sym silent) (λ d m. absurd m); begins = λ s v es q. absurd (none s v es q) }
+  still_mild : {V : Type 0} (t : Turn V) → t.sends ≡ []
+      → ((s : List ℕ) (v : Round) (es : List Entry) → t.kept ≡ Some (written.Record (kept.Boot s v es)) → ⊥) → IsMild t
+  still_mild t silent none =
+      record { asks = subst (λ ds. NoBoot ds) (sym silent) (λ d m. absurd m); begins = λ s v es q. absurd (none s v es q) }
 
   module _ {D V : Type 0} (rules : Rules D V) (me : RoleId) (no_replacer : me.kind ≡ kind.Replacer → ⊥) (d : D) (act : Act)
       (of_kind : (v : V) (i : Input) → OfKind me (rules.row w.cluster me d v i))
-      (begins : (v : V) (i : Input) (cut : Cut) → act ≡ Give i cut → (s : List ℕ) (b : Round) (es : List Entry) → (rules.row w.cluster me d v i).kept ≡ Some (kept.Boot s b es) → Was s) where
+      (begins : (v : V) (i : Input) (cut : Cut) → act ≡ Give i cut → (s : List ℕ) (b : Round) (es : List Entry)
+      → (rules.row w.cluster me d v i).kept ≡ Some (kept.Boot s b es) → Was s) where
     snap_mild : (cut : Cut) (v : V) (o : Option ℕ) → IsMild (snap_turn cut v o)
     snap_mild cut v None = still_mild _ refl (λ s b es q. cc)
     snap_mild Whole v (Some first) = still_mild _ refl (λ s b es q. cc)
@@ -134,8 +143,8 @@ module _ (w : World) (Was : List ℕ → Type 0)
 
     turn_mild : (a : Act) → act ≡ a → (running : Option V) → IsMild (turn rules w.cluster me d a running)
     turn_mild (Give i cut) is None = still_mild _ refl (λ s b es q. cc)
-    turn_mild (Give i cut) is (Some v) =
-        cut_mild me no_replacer cut (rules.row w.cluster me d v i) ((rules.row w.cluster me d v i).kept) refl (of_kind v i) (begins v i cut is)
+    turn_mild (Give i cut) is (Some v) = cut_mild me no_replacer cut (rules.row w.cluster me d v i) ((rules.row w.cluster me d v i).kept)
+        refl (of_kind v i) (begins v i cut is)
     turn_mild (Snap cut) is None = still_mild _ refl (λ s b es q. cc)
     turn_mild (Snap cut) is (Some v) = snap_mild cut v (rules.snap w.cluster me d v)
     turn_mild Stop is None = still_mild _ refl (λ s b es q. cc)
@@ -151,7 +160,8 @@ module _ (w : World) (Was : List ℕ → Type 0)
   kept_of me who (Some x) r (inl e) = ap (λ (k : KeptRecord). Some k.what) (sym e)
   kept_of me who (Some x) r (inr m) = absurd m
 
-  mild_follows : {V : Type 0} (make : V → State) (me : RoleId) (k : Kind) → me.kind ≡ k → (k ≡ kind.Replacer → ⊥) → (t : Turn V) → IsMild t → Follows (changed make me w.roles t)
+  mild_follows : {V : Type 0} (make : V → State) (me : RoleId) (k : Kind) → me.kind ≡ k → (k ≡ kind.Replacer → ⊥) → (t : Turn V) → IsMild t
+      → Follows (changed make me w.roles t)
   mild_follows make me k is other t mild =
       unchanged (changed make me w.roles t)
       (λ x. state_other me (role kind.Replacer x) (state_of make t.role) w.roles
@@ -179,7 +189,8 @@ module _ (w : World) (Was : List ℕ → Type 0)
     asks : (d : Letter) → Member d t.sends → (s : List ℕ) (v : Round) (es : List Entry) → msg.BootA s v es ≡ d.msg
         → (u : ReplacerVolatile) × (running ≡ Some u) × Begins u t.why s
     begins : (s : List ℕ) (v : Round) (es : List Entry) → t.kept ≡ Some (written.Record (kept.Boot s v es)) → ⊥
-    boots : (v : ReplacerVolatile) → t.role ≡ Some v → v.mode ≡ Booting → (u : ReplacerVolatile) × (running ≡ Some u) × Begins u t.why v.next
+    boots : (v : ReplacerVolatile) → t.role ≡ Some v → v.mode ≡ Booting
+        → (u : ReplacerVolatile) × (running ≡ Some u) × Begins u t.why v.next
     decided : t.why ≡ why.Decided → (v : ReplacerVolatile) → running ≡ Some v
         → (u : ReplacerVolatile) × (t.role ≡ Some u) × (u.mode ≡ Booting) × (u.set ≡ v.set) × (u.next ≡ v.next)
 
@@ -195,7 +206,8 @@ module _ (w : World) (Was : List ℕ → Type 0)
   }
 
   module _ (me : RoleId) (is : me.kind ≡ kind.Replacer) (d : ReplacerDurable) where
-    row_kept : (v : ReplacerVolatile) (i : Input) (s : List ℕ) (b : Round) (es : List Entry) → (replacer_row w.cluster me d v i).kept ≡ Some (kept.Boot s b es) → ⊥
+    row_kept : (v : ReplacerVolatile) (i : Input) (s : List ℕ) (b : Round) (es : List Entry)
+        → (replacer_row w.cluster me d v i).kept ≡ Some (kept.Boot s b es) → ⊥
     row_kept v i s b es e = no_matchmaker (sym is ∙ subst (λ o. IsKept me.kind o) e (replacer_kinds w.cluster me is d v i).keeps)
       where
         no_matchmaker : kind.Replacer ≡ kind.Matchmaker → ⊥
@@ -208,11 +220,21 @@ module _ (w : World) (Was : List ℕ → Type 0)
         record {
           asks = λ x m s b es e. (v, refl, says.asks x m s b es e);
           begins = go o.kept refl;
-          boots = λ u e m. (v, refl, subst (λ (x : ReplacerVolatile). Begins v o.why x.next) (same_Some o.volatile u e) (says.boots (subst (λ (x : ReplacerVolatile). x.mode ≡ Booting) (sym (same_Some o.volatile u e)) m)));
+          boots = λ u e m. (
+            v,
+            refl,
+            subst (λ (x : ReplacerVolatile). Begins v o.why x.next) (same_Some o.volatile u e)
+                (says.boots (subst (λ (x : ReplacerVolatile). x.mode ≡ Booting) (sym (same_Some o.volatile u e)) m)),
+          );
           decided = λ e u q.
               let p = says.decided e in
-              let same = same_Some v u q in
-              (o.volatile, refl, p.0, subst (λ (x : ReplacerVolatile). o.volatile.set ≡ x.set) same p.1, subst (λ (x : ReplacerVolatile). o.volatile.next ≡ x.next) same p.2);
+              let same = same_Some v u q in (
+                o.volatile,
+                refl,
+                p.0,
+                subst (λ (x : ReplacerVolatile). o.volatile.set ≡ x.set) same p.1,
+                subst (λ (x : ReplacerVolatile). o.volatile.next ≡ x.next) same p.2,
+              );
         }
       where
         go : (r : Option Record) → (replacer_row w.cluster me d v i).kept ≡ r → (s : List ℕ) (b : Round) (es : List Entry)
@@ -232,7 +254,8 @@ module _ (w : World) (Was : List ℕ → Type 0)
       decided = λ q. cc;
     }
 
-    idle : (v : ReplacerVolatile) → ◌≡◌ {A = Option ReplacerVolatile} (Some (replacer_rules.fresh w.cluster)) (Some v) → v.mode ≡ Booting → ⊥
+    idle : (v : ReplacerVolatile) → ◌≡◌ {A = Option ReplacerVolatile} (Some (replacer_rules.fresh w.cluster)) (Some v)
+        → v.mode ≡ Booting → ⊥
     idle v e m = (let p : Idle ≡ Booting = ap (λ (x : ReplacerVolatile). x.mode) (same_Some (replacer_rules.fresh w.cluster) v e) ∙ m in cc)
 
     turn_says : (act : Act) (running : Option ReplacerVolatile) → TurnSays running (turn replacer_rules w.cluster me d act running)
@@ -242,8 +265,8 @@ module _ (w : World) (Was : List ℕ → Type 0)
     turn_says (Snap cut) (Some v) = still_says (Some v) (Some v) why.Idle (λ q. cc) (λ u q m. q)
     turn_says Stop None = still_says None None why.Down (λ q. cc) (λ u q m. q)
     turn_says Stop (Some v) = still_says (Some v) None why.Crashed (λ q. cc) (λ u q m. cc)
-    turn_says Wake None =
-        either_way (TurnSays None) (names_role w.cluster me) (still_turn (Some (replacer_rules.fresh w.cluster)) why.Opened) (still_turn None why.Down)
+    turn_says Wake None = either_way (TurnSays None) (names_role w.cluster me)
+        (still_turn (Some (replacer_rules.fresh w.cluster)) why.Opened) (still_turn None why.Down)
         (still_says None (Some (replacer_rules.fresh w.cluster)) why.Opened (λ q. cc) (λ u q m. absurd (idle u q m)))
         (still_says None None why.Down (λ q. cc) (λ u q m. q))
     turn_says Wake (Some v) = still_says (Some v) (Some v) why.Up (λ q. cc) (λ u q m. q)
@@ -280,10 +303,11 @@ module _ (w : World) (Was : List ℕ → Type 0)
         }
       ]
 
-      after : (x : ℕ) (v : ReplacerVolatile) → ch.roles (role kind.Replacer x) ≡ ReplacerIn v → v.mode ≡ Booting → Was v.next ⊎ DecidedBy ch v.next
+      after : (x : ℕ) (v : ReplacerVolatile) → ch.roles (role kind.Replacer x) ≡ ReplacerIn v → v.mode ≡ Booting
+          → Was v.next ⊎ DecidedBy ch v.next
       after x v e m = ⊎_elim
-          (λ t. either v.next (says.boots v (up_is done.role v
-          (sym (state_own me (state_of ReplacerIn done.role) w.roles) ∙ subst (λ (a : RoleId). ch.roles a ≡ ReplacerIn v) (same_role-true (role kind.Replacer x) me t) e)) m))
+          (λ t. either v.next (says.boots v (up_is done.role v (sym (state_own me (state_of ReplacerIn done.role) w.roles)
+          ∙ subst (λ (a : RoleId). ch.roles a ≡ ReplacerIn v) (same_role-true (role kind.Replacer x) me t) e)) m))
           (λ f. inl (was_booting x v (sym (state_other me (role kind.Replacer x) (state_of ReplacerIn done.role) w.roles f) ∙ e) m))
           (bool_cases (same_role (role kind.Replacer x) me))
 
@@ -297,7 +321,8 @@ module _ (w : World) (Was : List ℕ → Type 0)
             let place = subst (λ (a : RoleId). w.roles a ≡ ReplacerIn v) (sym mine) knew in
             let r = says.decided word v (sym tied ∙ ap replacer_volatile place) in (
               r.0,
-              subst (λ (a : RoleId). ch.roles a ≡ ReplacerIn r.0) mine (state_own me (state_of ReplacerIn done.role) w.roles ∙ ap (state_of ReplacerIn) r.1),
+              subst (λ (a : RoleId). ch.roles a ≡ ReplacerIn r.0) mine
+                  (state_own me (state_of ReplacerIn done.role) w.roles ∙ ap (state_of ReplacerIn) r.1),
               r.2,
               r.3,
               r.4,
@@ -307,9 +332,11 @@ module _ (w : World) (Was : List ℕ → Type 0)
   -- a turn of a matchmaker
 
   module _ (me : RoleId) (d : MatchmakerDurable) where
-    boot_was : (i : Input) → Given w.sent me i → (s : List ℕ) (b : Round) (es : List Entry) → (matchmaker_row w.cluster me d tt i).kept ≡ Some (kept.Boot s b es) → Was s
+    boot_was : (i : Input) → Given w.sent me i → (s : List ℕ) (b : Round) (es : List Entry)
+        → (matchmaker_row w.cluster me d tt i).kept ≡ Some (kept.Boot s b es) → Was s
     boot_was (input.Take l) given =
-        by_test (λ (o : Outcome (Unit {0})). (s : List ℕ) (b : Round) (es : List Entry) → o.kept ≡ Some (kept.Boot s b es) → Was s) (same_role l.to me && names w.cluster l) _ _
+        by_test (λ (o : Outcome (Unit {0})). (s : List ℕ) (b : Round) (es : List Entry) → o.kept ≡ Some (kept.Boot s b es) → Was s)
+        (same_role l.to me && names w.cluster l) _ _
         (λ t s b es e. was_asked l given.1 s b es (boot_asked w.cluster me d l.from l.msg s b es e))
         (λ f s b es e. cc)
     boot_was input.Tick given = λ s b es e. cc
@@ -319,14 +346,16 @@ module _ (w : World) (Was : List ℕ → Type 0)
       → IsMild (turn matchmaker_rules w.cluster me (durable_part matchmaker_rules me w.kept) act running)
   matchmaker_turns act me given is =
       let d = durable_part matchmaker_rules me w.kept in
-      turn_mild matchmaker_rules me (λ e. no_replacer (sym is ∙ e)) d act (λ v i. matchmaker_kinds w.cluster me is d i) (λ v i cut p. boot_was me d i (given i cut p)) act refl
+      turn_mild matchmaker_rules me (λ e. no_replacer (sym is ∙ e)) d act (λ v i. matchmaker_kinds w.cluster me is d i)
+      (λ v i cut p. boot_was me d i (given i cut p)) act refl
     where
       no_replacer : kind.Matchmaker ≡ kind.Replacer → ⊥
       no_replacer e = cc
 
   -- an act at a role of each kind
 
-  act_follows : (act : Act) (me : RoleId) → GivenBy w.sent me act → (k : Kind) → me.kind ≡ k → Follows (act_of w.cluster w.roles w.kept act me k)
+  act_follows : (act : Act) (me : RoleId) → GivenBy w.sent me act → (k : Kind) → me.kind ≡ k
+      → Follows (act_of w.cluster w.roles w.kept act me k)
   act_follows act me given kind.Client is = unchanged _ (λ x. refl) (λ d m. absurd m) (λ who t v es m. absurd m) (λ who k at word. cc)
   act_follows act me given kind.Batcher is =
       mild_follows BatcherIn me kind.Batcher is (λ e. cc) _
@@ -368,7 +397,8 @@ module _ (w : World) (Was : List ℕ → Type 0)
 
   -- a client asks nobody to begin
   request_asks : (n : ℕ) (e : Event) → NoBoot (request n e)
-  request_asks n (event.Write command batcher) = Member-one (λ (d : Letter). (t : List ℕ) (v : Round) (es : List Entry) → msg.BootA t v es ≡ d.msg → ⊥) _ (λ t v es e. cc)
+  request_asks n (event.Write command batcher) =
+      Member-one (λ (d : Letter). (t : List ℕ) (v : Round) (es : List Entry) → msg.BootA t v es ≡ d.msg → ⊥) _ (λ t v es e. cc)
   request_asks n (event.Read client seq floor reader replica key) =
       Member-one (λ (d : Letter). (t : List ℕ) (v : Round) (es : List Entry) → msg.BootA t v es ≡ d.msg → ⊥) _ (λ t v es e. cc)
   request_asks n (event.Session client seq floor replica key) =
@@ -392,12 +422,14 @@ module _ (w : World) (Was : List ℕ → Type 0)
 
   pub follows : (e : Event) → Follows (change w e)
   follows (event.Write command batcher) = asked (event.Write command batcher) (record { client = command.client; seq = command.seq })
-  follows (event.Read client seq floor reader replica key) = asked (event.Read client seq floor reader replica key) (record { client = client; seq = seq })
-  follows (event.Session client seq floor replica key) = asked (event.Session client seq floor replica key) (record { client = client; seq = seq })
+  follows (event.Read client seq floor reader replica key) =
+      asked (event.Read client seq floor reader replica key) (record { client = client; seq = seq })
+  follows (event.Session client seq floor replica key) =
+      asked (event.Session client seq floor replica key) (record { client = client; seq = seq })
   follows (event.Deliver n cut) = comes cut (slice_get w.sent n) (λ d e. Member-at d w.sent n e)
   follows (event.Tick r) = acts (Give input.Tick Whole) r (λ i cut e. let q : input.Tick ≡ i = cc in subst (λ x. Given w.sent r x) q tt)
-  follows (event.Order l order cut) =
-      acts (Give (input.Order order) cut) (role kind.Leader l) (λ i k e. let q : input.Order order ≡ i = cc in subst (λ x. Given w.sent (role kind.Leader l) x) q tt)
+  follows (event.Order l order cut) = acts (Give (input.Order order) cut) (role kind.Leader l)
+      (λ i k e. let q : input.Order order ≡ i = cc in subst (λ x. Given w.sent (role kind.Leader l) x) q tt)
   follows (event.Replace x s cut) =
       acts (Give (input.Order (Replace s)) cut) (role kind.Replacer x)
       (λ i k e. let q : input.Order (Replace s) ≡ i = cc in subst (λ y. Given w.sent (role kind.Replacer x) y) q tt)

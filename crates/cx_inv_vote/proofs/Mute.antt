@@ -21,7 +21,8 @@ use Rattle.cx_inv_vote.proofs.Rows.{lands, quiet_kind}
 -- Kinds of roles that keep nothing but turns, and whose datagrams say nothing of what was kept.
 module _ (k : Kind) (no_leader : k ≡ kind.Leader → ⊥) (no_matchmaker : k ≡ kind.Matchmaker → ⊥) (no_acceptor : k ≡ kind.Acceptor → ⊥)
     (no_proxy : k ≡ kind.Proxy → ⊥) (no_replica : k ≡ kind.Replica → ⊥) (no_replacer : k ≡ kind.Replacer → ⊥) where
-  mute_says : (c : Cluster) (history : List KeptRecord) (sent : List Letter) (from : RoleId) (m : Msg) → IsSender k m → Says c history sent from m
+  mute_says : (c : Cluster) (history : List KeptRecord) (sent : List Letter) (from : RoleId) (m : Msg) → IsSender k m
+      → Says c history sent from m
   mute_says c history sent from (msg.Leads i) e = absurd (no_leader e)
   mute_says c history sent from (msg.MatchA i g) e = absurd (no_leader e)
   mute_says c history sent from (msg.MatchB i w entries) e = absurd (no_matchmaker e)
@@ -59,13 +60,14 @@ module _ (k : Kind) (no_leader : k ≡ kind.Leader → ⊥) (no_matchmaker : k �
   module _ (c : Cluster) (history : List KeptRecord) (sent : List Letter) (states : RoleId → State) (facts : Facts c history sent states)
       (me : RoleId) (is : me.kind ≡ k) where
     -- of such a role's row only the new state matters
-    pub mute_lands : {V : Type 0} (make : V → State) (o : Outcome V) → OfKind me o → InState c (with_record me o.kept history) sent me (make o.volatile)
-        → Lands (Facts c) history sent states me make o
+    pub mute_lands : {V : Type 0} (make : V → State) (o : Outcome V) → OfKind me o
+        → InState c (with_record me o.kept history) sent me (make o.volatile) → Lands (Facts c) history sent states me make o
     mute_lands make o of_kind state =
         lands c history sent states facts me make o (quiet_kind me o (λ e. no_leader (sym is ∙ e)) (λ e. no_replacer (sym is ∙ e)) of_kind)
         record {
-          lawful = λ r e. mute_keeps (λ (x : Record). Facts c (entry_by me x ∷ history) sent (set_state me Down states)) (λ n. keep_turn c history sent states facts me n) r
-              (subst (λ x. IsKeeper x r) is (subst (λ x. IsKept me.kind x) e of_kind.keeps));
-          says = λ longer more d m. mute_says c (with_record me o.kept history) longer d.from d.msg (subst (λ x. IsSender x d.msg) is (of_kind.sends d m).1);
+          lawful = λ r e. mute_keeps (λ (x : Record). Facts c (entry_by me x ∷ history) sent (set_state me Down states)) (λ n.
+              keep_turn c history sent states facts me n) r (subst (λ x. IsKeeper x r) is (subst (λ x. IsKept me.kind x) e of_kind.keeps));
+          says = λ longer more d m.
+              mute_says c (with_record me o.kept history) longer d.from d.msg (subst (λ x. IsSender x d.msg) is (of_kind.sends d m).1);
           state = state;
         }

@@ -40,7 +40,8 @@ kept_from : (w : World) (es : List Event) (k : KeptRecord) → Member k w.kept �
 kept_from w [] k m = m
 kept_from w (e ∷ es) k m = kept_from (step w e) es k (kept_step w e k m)
 
-kept_on : (c : Cluster) (es more : List Event) (k : KeptRecord) → Member k (reverse (run c es).kept) → Member k (reverse (run c (es ++ more)).kept)
+kept_on : (c : Cluster) (es more : List Event) (k : KeptRecord) → Member k (reverse (run c es).kept)
+    → Member k (reverse (run c (es ++ more)).kept)
 kept_on c es more k m =
     Member-reverse k (run c (es ++ more)).kept
     (subst (λ w. Member k w.kept) (sym (run_append c es more)) (kept_from (run c es) more k (Member-turned k (run c es).kept m)))
@@ -50,11 +51,13 @@ boots_decided : (c : Cluster) (es : List Event) (x : ℕ) (s t : List ℕ) → B
     → IsKnown c (reverse (run c es).kept) s × IsDecided c (reverse (run c es).kept) s t
 boots_decided c es x s t b =
     let facts = facts_hold c es in
-    let state = subst (λ y. InState c (reverse (run c es).kept) (run c es).sent (role kind.Replacer x) y) b.at_it (facts.running (role kind.Replacer x)) in
+    let state = subst (λ y. InState c (reverse (run c es).kept) (run c es).sent (role kind.Replacer x) y) b.at_it
+    (facts.running (role kind.Replacer x)) in
     let work = subst (λ y. InWork c (reverse (run c es).kept) (run c es).sent (role kind.Replacer x)
     (durable_of replacer_rules (role kind.Replacer x) (reverse (run c es).kept)).own b.volatile y) b.mode state.1 in (
       subst (λ y. IsKnown c (reverse (run c es).kept) y) b.known state.0,
-      subst (λ y. IsDecided c (reverse (run c es).kept) y t) b.known (subst (λ y. IsDecided c (reverse (run c es).kept) b.volatile.set y) b.next work.decided),
+      subst (λ y. IsDecided c (reverse (run c es).kept) y t) b.known
+          (subst (λ y. IsDecided c (reverse (run c es).kept) b.volatile.set y) b.next work.decided),
     )
 
 -- replacers that let a set begin
@@ -64,7 +67,8 @@ one_begins = record {
   one = λ c es more x y s t u b d.
       let old = boots_decided c es x s t b in
       let new = boots_decided c (es ++ more) y s u d in
-      let longer = more_nth c (reverse (run c es).kept) (reverse (run c (es ++ more)).kept) (kept_on c es more) (suc old.0.0) t (s, old.0.1, old.1) in
+      let longer =
+      more_nth c (reverse (run c es).kept) (reverse (run c (es ++ more)).kept) (kept_on c es more) (suc old.0.0) t (s, old.0.1, old.1) in
       let facts = (facts_hold c (es ++ more)).sets in
       let same = nth_once c (reverse (run c (es ++ more)).kept) (run c (es ++ more)).sent facts old.0.0 longer.0 s longer.1
       (more_nth c (reverse (run c es).kept) (reverse (run c (es ++ more)).kept) (kept_on c es more) old.0.0 s old.0.1) in
@@ -83,9 +87,16 @@ decided_boots : (w : World) (e : Event) (s t : List ℕ) → (d : Decides w e s 
 unfolding step
 decided_boots w e s t d =
     let r = (follows w (λ u. Unit {0}) (λ x m u v es q. tt) (λ x v q m. tt) e).decides d.who d.kind_is d.at_it d.word d.volatile d.knew in
-    record { volatile = r.0; at_it = subst (λ (a : RoleId). (step w e).roles a ≡ ReplacerIn r.0) (is_role d.who kind.Replacer d.kind_is) r.1; mode = r.2; known = r.3 ∙ d.set_is; next = r.4 ∙ d.next_is }
+    record {
+      volatile = r.0;
+      at_it = subst (λ (a : RoleId). (step w e).roles a ≡ ReplacerIn r.0) (is_role d.who kind.Replacer d.kind_is) r.1;
+      mode = r.2;
+      known = r.3 ∙ d.set_is;
+      next = r.4 ∙ d.next_is;
+    }
 
-decides_boots : (c : Cluster) (then : List Event) (e : Event) (s t : List ℕ) → (d : Decides (run c then) e s t) → Boots (run c (then ++ e ∷ [])) d.who.index s t
+decides_boots : (c : Cluster) (then : List Event) (e : Event) (s t : List ℕ) → (d : Decides (run c then) e s t)
+    → Boots (run c (then ++ e ∷ [])) d.who.index s t
 decides_boots c then e s t d = subst (λ w. Boots w d.who.index s t) (sym (run_append c then (e ∷ []))) (decided_boots (run c then) e s t d)
 
 pub one_next_set : OfEveryRun OneNextSet
@@ -117,8 +128,8 @@ start_decided : (c : Cluster) → AreDecided c [] (run c [])
 start_decided c = record {
   asks = λ d m. absurd m;
   begins = λ who t v xs m. absurd m;
-  boots = λ x u e m.
-      either_way (λ (s : State). s ≡ ReplacerIn u → WasDecided c [] u.next) (names_role c (role kind.Replacer x)) (ReplacerIn (replacer_rules.fresh c)) Down
+  boots = λ x u e m. either_way (λ (s : State). s ≡ ReplacerIn u → WasDecided c [] u.next) (names_role c (role kind.Replacer x))
+      (ReplacerIn (replacer_rules.fresh c)) Down
       (λ e. rests (subst (λ (y : ReplacerVolatile). y.mode ≡ Booting) (fresh_rests (replacer_rules.fresh c) u e) m)) (λ e. never_up u e) e;
 }
   where
@@ -161,12 +172,15 @@ module _ (c : Cluster) (then : List Event) (e : Event) (old : AreDecided c then 
   step_decided : AreDecided c (then ++ e ∷ []) (step w e)
   unfolding step
   step_decided = record {
-    asks = λ d m t v xs q. elim (Member-cases d w.sent (change w e).sends m) [ inl k ↦ longer t (old.asks d k t v xs q) | inr k ↦ now t (done.asks d k t v xs q) ];
-    begins = λ who t v xs m. elim (Member-cases _ w.kept (change w e).kept m) [ inl k ↦ longer t (old.begins who t v xs k) | inr k ↦ longer t (done.begins who t v xs k) ];
+    asks = λ d m t v xs q. elim (Member-cases d w.sent (change w e).sends
+        m) [ inl k ↦ longer t (old.asks d k t v xs q) | inr k ↦ now t (done.asks d k t v xs q) ];
+    begins = λ who t v xs m. elim (Member-cases _ w.kept (change w e).kept
+        m) [ inl k ↦ longer t (old.begins who t v xs k) | inr k ↦ longer t (done.begins who t v xs k) ];
     boots = λ x v q m. now v.next (done.boots x v q m);
   }
 
-all_decided : (c : Cluster) (then later : List Event) → AreDecided c then (run c then) → AreDecided c (then ++ later) (run c (then ++ later))
+all_decided : (c : Cluster) (then later : List Event) → AreDecided c then (run c then)
+    → AreDecided c (then ++ later) (run c (then ++ later))
 all_decided c then [] h = subst (λ l. AreDecided c l (run c l)) (sym (append-nil then)) h
 all_decided c then (e ∷ later) h =
     subst (λ l. AreDecided c l (run c l)) (append_assoc then (e ∷ []) later)

@@ -1,5 +1,6 @@
 -- Each row of a reader keeps the facts.
-use Rattle.std.proofs.Common.{◌≡◌, ℕ, ◌==◌, true, false, not, ◌&&◌, ◌⊎◌, List, [], ◌∷◌, ◌++◌, length, Option, Some, None, inl, inr, sym, ◌∙◌, subst, refl}
+use Rattle.std.proofs.Common.{◌≡◌, ℕ, ◌==◌, true, false, not, ◌&&◌, ◌⊎◌, List, [], ◌∷◌, ◌++◌, length, Option, Some, None, inl, inr, sym}
+use Rattle.std.proofs.Common.{◌∙◌, subst, refl}
 use Rattle.std.specs.Prelude.{◌+◌, nat_le, nat_lt}
 use Rattle.std.proofs.lemmas.Bool.{and_parts, not-false, not-true, true≢false}
 use Rattle.std.proofs.lemmas.Option.{none-some, same_Some}
@@ -29,7 +30,11 @@ use Rattle.cx_model.specs.Matched.{is_counted, is_member_of, greatest_watermark,
 use Rattle.cx_model.specs.Member.{Member}
 use Rattle.cx_model.specs.Names.{names}
 use Rattle.cx_model.specs.Outcome.{Outcome, by_test, either_way}
-use Rattle.cx_model.specs.Reader.{Asked, Batch, ReaderDurable, ReaderVolatile, acked_by, ask_replicas, asked_anew, asked_for, asking_of, begin, begin_if, finish, greatest_mark, has_acked, is_among, is_first, is_matched, is_of_batch, last_turn, match_ack_counted, match_ack_row, matched, new_batch, pre_read_ack_row, pre_read_counted, reader_row, reader_rules, reader_takes, reader_tick, request_over, request_row, same_asking, sets_row, make_token, with_asked, with_batch}
+use Rattle.cx_model.specs.Reader.{Asked, Batch, ReaderDurable, ReaderVolatile, acked_by, ask_replicas, asked_anew, asked_for, asking_of}
+use Rattle.cx_model.specs.Reader.{begin, begin_if, finish, greatest_mark, has_acked, is_among, is_first, is_matched, is_of_batch, last_turn}
+use Rattle.cx_model.specs.Reader.{match_ack_counted, match_ack_row, matched, new_batch, pre_read_ack_row, pre_read_counted, reader_row}
+use Rattle.cx_model.specs.Reader.{reader_rules, reader_takes, reader_tick, request_over, request_row, same_asking, sets_row, make_token}
+use Rattle.cx_model.specs.Reader.{with_asked, with_batch}
 use Rattle.cx_model.specs.Request.{same_read}
 use Rattle.cx_inv_run.specs.Kinds.{Kinds}
 use Rattle.cx_inv_run.specs.Laws.{Lands}
@@ -114,8 +119,8 @@ module _ (c : Cluster) (history : List KeptRecord) (sent : List Letter) (states 
     more_waiting rs all = record { waiting = all; running = old.running; known = old.known }
 
     request_good : (one : Asked) → WasAsked one → GoodOf (request_row me d v one)
-    request_good one new =
-        either_way GoodOf (is_among one.read v.waiting) _ _ (more_waiting (with_asked one v.waiting) (with_all one v.waiting new old.waiting)) (over v.running refl)
+    request_good one new = either_way GoodOf (is_among one.read v.waiting)
+        _ _ (more_waiting (with_asked one v.waiting) (with_all one v.waiting new old.waiting)) (over v.running refl)
       where
         last : AllAsked (v.waiting ++ one ∷ [])
         last = Member-both WasAsked v.waiting (one ∷ []) old.waiting (Member-one WasAsked one new)
@@ -123,15 +128,14 @@ module _ (c : Cluster) (history : List KeptRecord) (sent : List Letter) (states 
         over : (o : Option Batch) → v.running ≡ o → GoodOf (request_over me d v one o)
         over None is = either_way GoodOf (nat_le 64 (length v.waiting)) _ _ old (begun_if _ (v.waiting ++ one ∷ []) last)
         over (Some b) is =
-            either_way GoodOf (is_first one.read b.reads) _ _
-            (begun_if _ (with_asked one b.reads ++ v.waiting) (Member-both WasAsked (with_asked one b.reads) v.waiting (with_all one b.reads new (old.running b is).told.requests) old.waiting))
+            either_way GoodOf (is_first one.read b.reads) _ _ (begun_if _ (with_asked one b.reads ++ v.waiting) (Member-both WasAsked
+            (with_asked one b.reads) v.waiting (with_all one b.reads new (old.running b is).told.requests) old.waiting))
             (either_way GoodOf (is_among one.read b.reads) _ _ old
             (either_way GoodOf (nat_le 64 (length v.waiting + length b.reads)) _ _ old (more_waiting (v.waiting ++ one ∷ []) last)))
 
     finished : (b : Batch) (n : ℕ) → GoodOf (finish me d v b n)
-    finished b n =
-        either_way GoodOf (nat_lt 0 (length v.waiting) && not (d.turn == last_turn)) _ _ (begun Sent (ask_replicas me b n) v.waiting old.waiting)
-        (record { waiting = old.waiting; running = λ b e. absurd (none-some b e); known = old.known })
+    finished b n = either_way GoodOf (nat_lt 0 (length v.waiting) && not (d.turn == last_turn)) _ _ (begun Sent (ask_replicas me b n)
+        v.waiting old.waiting) (record { waiting = old.waiting; running = λ b e. absurd (none-some b e); known = old.known })
 
     runs_on : (b : Batch) → IsKnown b → Good (with_batch v b)
     runs_on b new = record { waiting = old.waiting; running = λ x e. subst IsKnown (same_Some b x e) new; known = old.known }
@@ -151,7 +155,8 @@ module _ (c : Cluster) (history : List KeptRecord) (sent : List Letter) (states 
         (λ f. either_way GoodOf (is_counted from.index b.told) _ _ old
         (
         let h = old.running b found in
-        let both = and_parts (is_of_batch me b u && not (is_matched c b)) (is_in from.index v.set) (not-false (is_of_batch me b u && not (is_matched c b) && is_in from.index v.set) f) in
+        let both = and_parts (is_of_batch me b u && not (is_matched c b)) (is_in from.index v.set)
+        (not-false (is_of_batch me b u && not (is_matched c b) && is_in from.index v.set) f) in
         let tests = and_parts (is_of_batch me b u) (not (is_matched c b)) both.0 in
         let n = not-true (is_matched c b) tests.1 in
         let answer : MatchAnswer = record { matchmaker = from.index; watermark = w; entries = es } in
@@ -162,8 +167,10 @@ module _ (c : Cluster) (history : List KeptRecord) (sent : List Letter) (states 
         answered_good (record b { told = b.told ++ answer ∷ [] }) (record {
           told = record {
             requests = h.told.requests;
-            answers = Member-both (λ (a : MatchAnswer). Member (letter (role kind.Matchmaker a.matchmaker) me (msg.MatchReadAck (asking_of me b.turn) a.watermark a.entries)) sent) b.told (answer ∷ []) h.told.answers
-                (Member-one (λ (a : MatchAnswer). Member (letter (role kind.Matchmaker a.matchmaker) me (msg.MatchReadAck (asking_of me b.turn) a.watermark a.entries)) sent) answer told);
+            answers = Member-both (λ (a : MatchAnswer). Member (letter (role kind.Matchmaker a.matchmaker) me
+                (msg.MatchReadAck (asking_of me b.turn) a.watermark a.entries)) sent) b.told (answer ∷ []) h.told.answers
+                (Member-one (λ (a : MatchAnswer). Member (letter (role kind.Matchmaker a.matchmaker) me
+                (msg.MatchReadAck (asking_of me b.turn) a.watermark a.entries)) sent) answer told);
             acks = λ a m. absurd (h.unasked n a m);
           };
           unasked = λ g a m. h.unasked n a m;
@@ -171,7 +178,8 @@ module _ (c : Cluster) (history : List KeptRecord) (sent : List Letter) (states 
         ))
 
     acked_good : (b : Batch) → IsKnown b → GoodOf (pre_read_counted c me d v b)
-    acked_good b new = either_way GoodOf (rows_whole (live_entries b.told) (acked_by b.acks)) _ _ (finished b (greatest_mark b.acks)) (runs_on b new)
+    acked_good b new =
+        either_way GoodOf (rows_whole (live_entries b.told) (acked_by b.acks)) _ _ (finished b (greatest_mark b.acks)) (runs_on b new)
 
     pre_read_ack_good : (from : RoleId) (u : Asking) (w : Round) (n : ℕ) (o : Option Batch) → v.running ≡ o
         → Member (letter from me (msg.PreReadAck u w n)) sent → GoodOf (pre_read_ack_row c me d v from u w n o)
@@ -182,20 +190,25 @@ module _ (c : Cluster) (history : List KeptRecord) (sent : List Letter) (states 
         (λ g. either_way GoodOf (has_acked from.index b.acks) _ _ old
         (
         let h = old.running b found in
-        let tests = and_parts (is_of_batch me b u && is_matched c b) (is_member_of (live_entries b.told) from.index) (not-false (is_of_batch me b u && is_matched c b && is_member_of (live_entries b.told) from.index) f) in
+        let tests = and_parts (is_of_batch me b u && is_matched c b) (is_member_of (live_entries b.told) from.index)
+        (not-false (is_of_batch me b u && is_matched c b && is_member_of (live_entries b.told) from.index) f) in
         let both = and_parts (is_of_batch me b u) (is_matched c b) tests.0 in
         let ack : Acked = record { acceptor = from.index; mark = n } in
-        let same : w ≡ greatest_watermark b.told = same_round-true w (greatest_watermark b.told) (not-false (same_round w (greatest_watermark b.told)) g) in
+        let same : w ≡ greatest_watermark b.told =
+        same_round-true w (greatest_watermark b.told) (not-false (same_round w (greatest_watermark b.told)) g) in
         let from_is : from ≡ role kind.Acceptor from.index = is_role from kind.Acceptor (kinds.senders _ is_sent) in
-        let told : Member (letter (role kind.Acceptor from.index) me (msg.PreReadAck (asking_of me b.turn) (greatest_watermark b.told) n)) sent =
-        subst (λ x. Member (letter x me (msg.PreReadAck (asking_of me b.turn) (greatest_watermark b.told) n)) sent) from_is
-        (subst (λ x. Member (letter from me (msg.PreReadAck (asking_of me b.turn) x n)) sent) same (subst (λ x. Member (letter from me (msg.PreReadAck x w n)) sent) (same_asking-true u (asking_of me b.turn) both.0) is_sent)) in
+        let told : Member (letter (role kind.Acceptor from.index) me (msg.PreReadAck (asking_of me b.turn) (greatest_watermark b.told) n))
+        sent = subst (λ x. Member (letter x me (msg.PreReadAck (asking_of me b.turn) (greatest_watermark b.told) n)) sent) from_is
+        (subst (λ x. Member (letter from me (msg.PreReadAck (asking_of me b.turn) x n)) sent) same
+        (subst (λ x. Member (letter from me (msg.PreReadAck x w n)) sent) (same_asking-true u (asking_of me b.turn) both.0) is_sent)) in
         acked_good (record b { acks = b.acks ++ ack ∷ [] }) (record {
           told = record {
             requests = h.told.requests;
             answers = h.told.answers;
-            acks = Member-both (λ (a : Acked). Member (letter (role kind.Acceptor a.acceptor) me (msg.PreReadAck (asking_of me b.turn) (greatest_watermark b.told) a.mark)) sent) b.acks (ack ∷ []) h.told.acks
-                (Member-one (λ (a : Acked). Member (letter (role kind.Acceptor a.acceptor) me (msg.PreReadAck (asking_of me b.turn) (greatest_watermark b.told) a.mark)) sent) ack told);
+            acks = Member-both (λ (a : Acked). Member (letter (role kind.Acceptor a.acceptor) me
+                (msg.PreReadAck (asking_of me b.turn) (greatest_watermark b.told) a.mark)) sent) b.acks (ack ∷ []) h.told.acks
+                (Member-one (λ (a : Acked). Member (letter (role kind.Acceptor a.acceptor) me
+                (msg.PreReadAck (asking_of me b.turn) (greatest_watermark b.told) a.mark)) sent) ack told);
           };
           unasked = λ g a m. true≢false (sym both.1 ∙ g);
         })
@@ -203,12 +216,16 @@ module _ (c : Cluster) (history : List KeptRecord) (sent : List Letter) (states 
 
     -- another set of matchmakers took over: what was counted of the one before goes
 
-    anew_good : (s : List ℕ) → IsKnownSet c history s → (o : Option Batch) → v.running ≡ o → GoodOf (asked_anew c me (record v { set = s }) o)
+    anew_good : (s : List ℕ) → IsKnownSet c history s → (o : Option Batch) → v.running ≡ o
+        → GoodOf (asked_anew c me (record v { set = s }) o)
     anew_good s known None is = record { waiting = old.waiting; running = old.running; known = known }
     anew_good s known (Some b) is =
         by_test GoodOf (is_matched c b) _ _
-        (λ t. record { waiting = old.waiting; running = old.running; known = known })
-        (λ f. record { waiting = old.waiting; running = λ x e. subst IsKnown (same_Some (record b { told = [] }) x e) (uncounted f); known = known })
+        (λ t. record { waiting = old.waiting; running = old.running; known = known }) (λ f. record {
+          waiting = old.waiting;
+          running = λ x e. subst IsKnown (same_Some (record b { told = [] }) x e) (uncounted f);
+          known = known;
+        })
       where
         h : IsKnown b
         h = old.running b is
@@ -247,9 +264,14 @@ module _ (c : Cluster) (history : List KeptRecord) (sent : List Letter) (states 
   reader_lands v i up given =
       let d = durable_of reader_rules me history in
       let o = reader_row c me d v i in
-      let state = in_state o.volatile (row_good d v (known_in v (subst (λ s. InState c history sent me s) up (facts.running me))) i given) in
-      mute_lands kind.Reader (λ e. cc) (λ e. cc) (λ e. cc) (λ e. cc) (λ e. cc) (λ e. cc) c history sent states facts me refl ReaderIn o (reader_kinds c me refl d v i) (
+      let state =
+      in_state o.volatile (row_good d v (known_in v (subst (λ s. InState c history sent me s) up (facts.running me))) i given) in
+      mute_lands kind.Reader (λ e. cc) (λ e. cc) (λ e. cc) (λ e. cc) (λ e. cc) (λ e. cc) c history sent states facts me refl ReaderIn o
+      (reader_kinds c me refl d v i) (
         state.0,
         state.1,
-        (state.2.0, more_nth c history (with_record me o.kept history) (λ k m. kept_longer me o.kept history k m) state.2.0 o.volatile.set state.2.1),
+        (
+          state.2.0,
+          more_nth c history (with_record me o.kept history) (λ k m. kept_longer me o.kept history k m) state.2.0 o.volatile.set state.2.1,
+        ),
       )

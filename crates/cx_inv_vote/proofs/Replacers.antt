@@ -1,5 +1,6 @@
 -- Each row of a replacer keeps the facts.
-use Rattle.std.proofs.Common.{◌≡◌, ℕ, suc, ◌+◌, ◌<◌, ◌≤◌, Bool, true, false, not, ◌&&◌, ◌||◌, map, ◌⊎◌, List, [], ◌∷◌, ◌++◌, length, Option, Some, None, inl, inr, ap, sym, subst, ◌∙◌, refl, arith, max, ◌==◌}
+use Rattle.std.proofs.Common.{◌≡◌, ℕ, suc, ◌+◌, ◌<◌, ◌≤◌, Bool, true, false, not, ◌&&◌, ◌||◌, map, ◌⊎◌, List, [], ◌∷◌, ◌++◌, length, Option}
+use Rattle.std.proofs.Common.{Some, None, inl, inr, ap, sym, subst, ◌∙◌, refl, arith, max, ◌==◌}
 use Rattle.std.specs.Prelude.{nat_lt, bytes_eq, if◌then◌else◌}
 use Rattle.std.proofs.lemmas.Option.{same_Some}
 use Rattle.std.proofs.lemmas.Slice.Eq.{bytes_eq-Decides}
@@ -38,12 +39,17 @@ use Rattle.cx_model.specs.Member.{Member}
 use Rattle.cx_model.specs.Names.{names, names_set}
 use Rattle.cx_model.specs.Outcome.{Outcome, only_word, replied, by_test}
 use Rattle.cx_model.specs.Promises.{HasKept}
-use Rattle.cx_model.specs.Replacer.{ReplacerDurable, ReplacerVolatile, replacer_rules, is_stopping, is_deciding, is_booting, is_resting, answers_of, has_halted, joined_entries, latest, next_of, to_decide, stop_a_to, next_a_to, boot_a_to, sets_to, others, sets_to_all, begin_in, replace_row, decide, halt_counted, stop_b_row, next_counted, next_b_row, boot_b_row, with_seen, stop_nack_row, sets_row, replacer_takes, tick_in, replacer_orders, replacer_row}
+use Rattle.cx_model.specs.Replacer.{ReplacerDurable, ReplacerVolatile, replacer_rules, is_stopping, is_deciding, is_booting, is_resting}
+use Rattle.cx_model.specs.Replacer.{answers_of, has_halted, joined_entries, latest, next_of, to_decide, stop_a_to, next_a_to, boot_a_to}
+use Rattle.cx_model.specs.Replacer.{sets_to, others, sets_to_all, begin_in, replace_row, decide, halt_counted, stop_b_row, next_counted}
+use Rattle.cx_model.specs.Replacer.{next_b_row, boot_b_row, with_seen, stop_nack_row, sets_row, replacer_takes, tick_in, replacer_orders}
+use Rattle.cx_model.specs.Replacer.{replacer_row}
 use Rattle.cx_inv_run.specs.Kinds.{Kinds}
 use Rattle.cx_inv_run.specs.Laws.{Lands}
 use Rattle.cx_inv_run.specs.States.{State, ReplacerIn, entry_by, durable_of, Given}
 use Rattle.cx_inv_run.proofs.Histories.{durable_own}
-use Rattle.cx_inv_run.proofs.Members.{Member-map, Member-cases, Member-first, Member-both, Member-any, any-Member, is_in-Member, Member-is_in}
+use Rattle.cx_inv_run.proofs.Members.{Member-map, Member-cases, Member-first, Member-both, Member-any, any-Member, is_in-Member}
+use Rattle.cx_inv_run.proofs.Members.{Member-is_in}
 use Rattle.cx_inv_run.proofs.Quorums.{once_count}
 use Rattle.cx_inv_run.proofs.Rounds.{before-from_at_most, before-higher, before-itself, least, same_round-true}
 use Rattle.cx_inv_match.specs.Words.{how_many, HasNext, IsKnown, IsNth, IsDecided, IsNextSet, IsBoot, IsHalt}
@@ -63,17 +69,20 @@ use Rattle.cx_inv_vote.proofs.Send.{Widens, grows_wide, QuietSends, send}
 
 halted_by-counted : (m : ℕ) (halts : List Halt) → Member m (halted_by halts) → has_halted m halts ≡ true
 halted_by-counted m [] k = absurd k
-halted_by-counted m (h ∷ halts) (inl e) = Member-any (λ (x : Halt). x.answer.matchmaker == m) h (h ∷ halts) (inl refl) (subst (λ n. (n == m) ≡ true) e (number_itself m))
+halted_by-counted m (h ∷ halts) (inl e) =
+    Member-any (λ (x : Halt). x.answer.matchmaker == m) h (h ∷ halts) (inl refl) (subst (λ n. (n == m) ≡ true) e (number_itself m))
 halted_by-counted m (h ∷ halts) (inr k) = let r = any-Member (λ (x : Halt). x.answer.matchmaker == m) halts (halted_by-counted m halts k) in
     Member-any (λ (x : Halt). x.answer.matchmaker == m) r.0 (h ∷ halts) (inr r.1) r.2
 
-halted_more : (halts : List Halt) (h : Halt) (m : ℕ) → Member m (halted_by (halts ++ h ∷ [])) → Member m (halted_by halts) ⊎ (m ≡ h.answer.matchmaker)
+halted_more : (halts : List Halt) (h : Halt) (m : ℕ) → Member m (halted_by (halts ++ h ∷ []))
+    → Member m (halted_by halts) ⊎ (m ≡ h.answer.matchmaker)
 halted_more [] h m (inl e) = inr e
 halted_more [] h m (inr k) = absurd k
 halted_more (x ∷ halts) h m (inl e) = inl (inl e)
 halted_more (x ∷ halts) h m (inr k) = elim (halted_more halts h m k) [ inl p ↦ inl (inr p) | inr q ↦ inr q ]
 
-halted_once : (halts : List Halt) (h : Halt) → (Member h.answer.matchmaker (halted_by halts) → ⊥) → AreOnce (halted_by halts) → AreOnce (halted_by (halts ++ h ∷ []))
+halted_once : (halts : List Halt) (h : Halt) → (Member h.answer.matchmaker (halted_by halts) → ⊥) → AreOnce (halted_by halts)
+    → AreOnce (halted_by (halts ++ h ∷ []))
 halted_once [] h new once = (λ m. m, tt)
 halted_once (x ∷ halts) h new once = (
   λ m. elim (halted_more halts h x.answer.matchmaker m) [ inl p ↦ once.0 p | inr q ↦ new (inl (sym q)) ],
@@ -100,7 +109,8 @@ abbrev is_next : Msg → Bool
 is_next (msg.NextA b t) = true
 is_next other = false
 
-next_only : (me : RoleId) (own : Round) (next set : List ℕ) (d : Letter) → Member d (map (next_a_to me own next) set) → is_next d.msg ≡ false → ⊥
+next_only : (me : RoleId) (own : Round) (next set : List ℕ) (d : Letter) → Member d (map (next_a_to me own next) set)
+    → is_next d.msg ≡ false → ⊥
 next_only me own next set d m f =
     let r = Member-map (next_a_to me own next) d set m in
     true≢false (subst (λ (x : Letter). is_next x.msg ≡ false) r.2 f)
@@ -113,9 +123,10 @@ abbrev set_in : Msg → List ℕ
 set_in (msg.NextA b t) = t
 set_in other = []
 
-next_parts : (from to me : RoleId) (n : ℕ) (b own : Round) (u next : List ℕ) → letter from to (msg.NextA b u) ≡ letter me (role kind.Matchmaker n) (msg.NextA own next)
-    → (b ≡ own) × (u ≡ next) × (to ≡ role kind.Matchmaker n)
-next_parts from to me n b own u next e = (ap (λ (d : Letter). ballot_in d.msg) e, ap (λ (d : Letter). set_in d.msg) e, ap (λ (d : Letter). d.to) e)
+next_parts : (from to me : RoleId) (n : ℕ) (b own : Round) (u next : List ℕ) → letter from to (msg.NextA b u)
+    ≡ letter me (role kind.Matchmaker n) (msg.NextA own next) → (b ≡ own) × (u ≡ next) × (to ≡ role kind.Matchmaker n)
+next_parts from to me n b own u next e =
+    (ap (λ (d : Letter). ballot_in d.msg) e, ap (λ (d : Letter). set_in d.msg) e, ap (λ (d : Letter). d.to) e)
 
 next_asked : (me : RoleId) (own : Round) (next set : List ℕ) (from to : RoleId) (b : Round) (u : List ℕ)
     → Member (letter from to (msg.NextA b u)) (map (next_a_to me own next) set) → (b ≡ own) × (u ≡ next) × Member to.index set
@@ -144,7 +155,8 @@ booting-mode Stopping t = cc
 booting-mode Deciding t = cc
 booting-mode Booting t = refl
 
-module _ (c : Cluster) (history : List KeptRecord) (sent : List Letter) (states : RoleId → State) (facts : Facts c history sent states) (x : ℕ) where
+module _ (c : Cluster) (history : List KeptRecord) (sent : List Letter) (states : RoleId → State) (facts : Facts c history sent states)
+    (x : ℕ) where
   abbrev me : RoleId
   me = role kind.Replacer x
 
@@ -168,11 +180,12 @@ module _ (c : Cluster) (history : List KeptRecord) (sent : List Letter) (states 
   calm : (w : Why) (v : ReplacerVolatile) (ds : List Letter) → Knows v → QuietSends ds
       → ((longer : List Letter) → Widens history sent longer → (d : Letter) → Member d ds → Says c history longer d.from d.msg)
       → Fine (replied w v ds)
-  calm w v ds h quiet says =
-      lands c history sent states facts me ReplacerIn (replied w v ds) quiet (keeps_sending c history sent states facts me ReplacerIn w v ds h says)
+  calm w v ds h quiet says = lands c history sent states facts me ReplacerIn (replied w v ds) quiet
+      (keeps_sending c history sent states facts me ReplacerIn w v ds h says)
 
   -- it has a mode's knowledge
-  knows_in : (v : ReplacerVolatile) (mode : Replacing) → v.mode ≡ mode → IsKnown c history v.set → InWork c history sent me own v mode → Knows v
+  knows_in : (v : ReplacerVolatile) (mode : Replacing) → v.mode ≡ mode → IsKnown c history v.set
+      → InWork c history sent me own v mode → Knows v
   knows_in v mode is known work = (known, subst (λ y. InWork c history sent me own v y) (sym is) work)
 
   work_in : (v : ReplacerVolatile) (mode : Replacing) → v.mode ≡ mode → Knows v → InWork c history sent me own v mode
@@ -189,8 +202,8 @@ module _ (c : Cluster) (history : List KeptRecord) (sent : List Letter) (states 
       (quiet_each (stop_a_to me own) v.set (λ n. (λ i g s cw u e. cc, λ i g e. cc, λ b t e. cc)))
       (λ longer more. each (λ (d : Letter). Says c history longer d.from d.msg) (stop_a_to me own) v.set (λ n. real))
 
-  boot_says : (longer : List Letter) → Widens history sent longer → (v : ReplacerVolatile) → IsKnown c history v.set → IsBooting c history sent me v
-      → IsBoot c history v.next v.watermark v.entries
+  boot_says : (longer : List Letter) → Widens history sent longer → (v : ReplacerVolatile) → IsKnown c history v.set
+      → IsBooting c history sent me v → IsBoot c history v.next v.watermark v.entries
   boot_says longer more v known h = record {
     place = known.0;
     set = v.set;
@@ -204,14 +217,15 @@ module _ (c : Cluster) (history : List KeptRecord) (sent : List Letter) (states 
   asks_boot w v is known h =
       calm w v (map (boot_a_to me v.next v.watermark v.entries) v.next) (knows_in v Booting is known h)
       (quiet_each (boot_a_to me v.next v.watermark v.entries) v.next (λ n. (λ i g s cw u e. cc, λ i g e. cc, λ b t e. cc)))
-      (λ longer more. each (λ (d : Letter). Says c history longer d.from d.msg) (boot_a_to me v.next v.watermark v.entries) v.next (λ n. boot_says longer more v known h))
+      (λ longer more. each (λ (d : Letter). Says c history longer d.from d.msg) (boot_a_to me v.next v.watermark v.entries) v.next
+      (λ n. boot_says longer more v known h))
 
   told_all : (P : Letter → Type 0) (s : List ℕ) → ((to : RoleId) → P (sets_to me s to)) → (d : Letter) → Member d (sets_to_all c me s) → P d
   told_all P s h =
       Member-both P
       (map (λ l. sets_to me s (role kind.Leader l)) (below c.leaders) ++ map (λ r. sets_to me s (role kind.Reader r)) (below c.readers))
-      (map (λ y. sets_to me s (role kind.Replacer y)) (others c me))
-      (Member-both P (map (λ l. sets_to me s (role kind.Leader l)) (below c.leaders)) (map (λ r. sets_to me s (role kind.Reader r)) (below c.readers))
+      (map (λ y. sets_to me s (role kind.Replacer y)) (others c me)) (Member-both P
+      (map (λ l. sets_to me s (role kind.Leader l)) (below c.leaders)) (map (λ r. sets_to me s (role kind.Reader r)) (below c.readers))
       (each P (λ l. sets_to me s (role kind.Leader l)) (below c.leaders) (λ n. h (role kind.Leader n)))
       (each P (λ r. sets_to me s (role kind.Reader r)) (below c.readers) (λ n. h (role kind.Reader n))))
       (each P (λ y. sets_to me s (role kind.Replacer y)) (others c me) (λ n. h (role kind.Replacer n)))
@@ -224,7 +238,8 @@ module _ (c : Cluster) (history : List KeptRecord) (sent : List Letter) (states 
 
   -- asking to accept the next set
 
-  module _ (w : Why) (v : ReplacerVolatile) (is : v.mode ≡ Deciding) (known : IsKnown c history v.set) (h : IsDeciding c history sent me own v) where
+  module _ (w : Why) (v : ReplacerVolatile) (is : v.mode ≡ Deciding) (known : IsKnown c history v.set)
+      (h : IsDeciding c history sent me own v) where
     abbrev ds : List Letter
     ds = map (next_a_to me own v.next) v.set
 
@@ -235,7 +250,8 @@ module _ (c : Cluster) (history : List KeptRecord) (sent : List Letter) (states 
     ]
 
     -- what is sent asks members of the known set to accept this set in this ballot
-    asks_it : (from to : RoleId) (b : Round) (u : List ℕ) → Member (letter from to (msg.NextA b u)) ds → (b ≡ own) × (u ≡ v.next) × Member to.index v.set
+    asks_it : (from to : RoleId) (b : Round) (u : List ℕ) → Member (letter from to (msg.NextA b u)) ds
+        → (b ≡ own) × (u ≡ v.next) × Member to.index v.set
     asks_it from to b u m = next_asked me own v.next v.set from to b u m
 
     no_propose : (i : Round) (s : ℕ) (u : Value) → IsProposed ds i s u → ⊥
@@ -253,7 +269,8 @@ module _ (c : Cluster) (history : List KeptRecord) (sent : List Letter) (states 
       ];
     }
 
-    asked_wide : (from to : RoleId) (u : List ℕ) → Member (letter from to (msg.NextA own u)) (sent ++ ds) → (u ≡ v.next) × Member to.index v.set
+    asked_wide : (from to : RoleId) (u : List ℕ) → Member (letter from to (msg.NextA own u)) (sent ++ ds)
+        → (u ≡ v.next) × Member to.index v.set
     asked_wide from to u m = elim (Member-cases _ sent ds m) [
       | inl k ↦ h.asked from to u k
       | inr k ↦ (let r = asks_it from to own u k in (r.1, r.2))
@@ -266,7 +283,8 @@ module _ (c : Cluster) (history : List KeptRecord) (sent : List Letter) (states 
       above = h.above;
       proper = h.proper;
       closed = h.closed;
-      join = grown_join c history sent history (sent ++ ds) (grows_wide history sent (sent ++ ds) widens) v.set v.watermark v.entries h.join;
+      join =
+          grown_join c history sent history (sent ++ ds) (grows_wide history sent (sent ++ ds) widens) v.set v.watermark v.entries h.join;
       votes = λ n m. Member-first _ sent ds (h.votes n m);
       once = h.once;
     }
@@ -308,14 +326,15 @@ module _ (c : Cluster) (history : List KeptRecord) (sent : List Letter) (states 
       → (b : Round) → b.id ≡ x → is_before own b ≡ true → Fine (begin_in me v s (Some b))
   begun_fine v h s proper above b owned up =
       lands c history sent states facts me ReplacerIn (begin_in me v s (Some b))
-      (quiet_each (stop_a_to me b) v.set (λ n. (λ i g t cw u e. cc, λ i g e. cc, λ d t e. cc)))
-      (keeps_record c history sent states facts me ReplacerIn why.Started (kept.Ballot b) (record v { mode = Stopping; next = s; halts = []; counted = [] }) (map (stop_a_to me b) v.set)
+      (quiet_each (stop_a_to me b) v.set (λ n. (λ i g t cw u e. cc, λ i g e. cc, λ d t e. cc))) (keeps_record c history sent states facts me
+      ReplacerIn why.Started (kept.Ballot b) (record v { mode = Stopping; next = s; halts = []; counted = [] }) (map (stop_a_to me b) v.set)
       (keep_ballot c history sent states facts me b names_me up) (
         (h.0.0, more_nth c history (entry_by me (kept.Ballot b) ∷ history) (λ k m. inr m) h.0.0 v.set h.0.1),
-        subst (λ (d : ReplacerDurable). IsStopping c (entry_by me (kept.Ballot b) ∷ history) sent me d.own (record v { mode = Stopping; next = s; halts = []; counted = [] }))
+        subst (λ (d : ReplacerDurable). IsStopping c (entry_by me (kept.Ballot b) ∷ history) sent me d.own
+            (record v { mode = Stopping; next = s; halts = []; counted = [] }))
             (sym (durable_own replacer_rules me (kept.Ballot b) history)) begun,
-      )
-      (λ longer more. each (λ (d : Letter). Says c (entry_by me (kept.Ballot b) ∷ history) longer d.from d.msg) (stop_a_to me b) v.set (λ n. real)))
+      ) (λ longer more.
+      each (λ (d : Letter). Says c (entry_by me (kept.Ballot b) ∷ history) longer d.from d.msg) (stop_a_to me b) v.set (λ n. real)))
     where
       names_me : me ≡ role kind.Replacer b.id
       names_me = ap (λ n. role kind.Replacer n) (sym owned)
@@ -323,7 +342,8 @@ module _ (c : Cluster) (history : List KeptRecord) (sent : List Letter) (states 
       real : is_before no_round b ≡ true
       real = before-from_at_most no_round own b (least own) up
 
-      begun : IsStopping c (entry_by me (kept.Ballot b) ∷ history) sent me b (record v { mode = Stopping; next = s; halts = []; counted = [] })
+      begun : IsStopping c (entry_by me (kept.Ballot b) ∷ history) sent me b
+          (record v { mode = Stopping; next = s; halts = []; counted = [] })
       begun = record {
         real = real;
         unasked = λ t y. ballot_new c history sent states facts me b names_me up t y;
@@ -358,7 +378,8 @@ module _ (c : Cluster) (history : List KeptRecord) (sent : List Letter) (states 
   -- a matchmaker has stopped
 
   module _ (v : ReplacerVolatile) (is : v.mode ≡ Stopping) (known : IsKnown c history v.set) (h : IsStopping c history sent me own v) where
-    halts_say : (k : Halt) → Member k v.halts → IsHalt c history (role kind.Matchmaker k.answer.matchmaker) own k.answer.watermark k.answer.entries k.accepted k.next
+    halts_say : (k : Halt) → Member k v.halts
+        → IsHalt c history (role kind.Matchmaker k.answer.matchmaker) own k.answer.watermark k.answer.entries k.accepted k.next
     halts_say k m = facts.says _ (h.told k m)
 
     -- the set to decide lies above the known one, and is proper: it was ordered, or accepted by a member of the known set
@@ -369,8 +390,8 @@ module _ (c : Cluster) (history : List KeptRecord) (sent : List Letter) (states 
             → (is_above z.next v.set ≡ true) × (names_set c z.next ≡ true)
         accepted z m has =
             let next = facts.sets.nexted (role kind.Matchmaker z.answer.matchmaker) z.accepted z.next has in
-            let same = (nth_meet c history sent facts.sets next.known.0 known.0 next.set v.set next.known.1 known.1 z.answer.matchmaker next.member
-            (h.known z.answer.matchmaker (halted_in v.halts z m))).1 in
+            let same = (nth_meet c history sent facts.sets next.known.0 known.0 next.set v.set next.known.1 known.1 z.answer.matchmaker
+            next.member (h.known z.answer.matchmaker (halted_in v.halts z m))).1 in
             (subst (λ y. is_above z.next y ≡ true) same next.above, next.proper)
 
         chosen : (z : Halt) → Member z v.halts → (b : Bool) → is_before no_round z.accepted ≡ b
@@ -387,7 +408,13 @@ module _ (c : Cluster) (history : List KeptRecord) (sent : List Letter) (states 
 
     module _ (most : c.f < length v.halts) where
       abbrev decided : ReplacerVolatile
-      decided = record v { mode = Deciding; next = to_decide v.next v.halts; counted = []; watermark = greatest_watermark (answers_of v.halts); entries = joined_entries v.halts }
+      decided = record v {
+        mode = Deciding;
+        next = to_decide v.next v.halts;
+        counted = [];
+        watermark = greatest_watermark (answers_of v.halts);
+        entries = joined_entries v.halts;
+      }
 
       deciding : IsDeciding c history sent me own decided
       deciding = record {
@@ -443,7 +470,8 @@ module _ (c : Cluster) (history : List KeptRecord) (sent : List Letter) (states 
             told = λ z m. elim (Member-cases z v.halts (halt ∷ []) m) [
               | inl n ↦ k.told z n
               | inr n ↦ elim n [
-                | inl e ↦ subst (λ (q : Halt). Member (letter (role kind.Matchmaker q.answer.matchmaker) me (msg.StopB own q.answer.watermark q.answer.entries q.accepted q.next)) sent) (sym e) y
+                | inl e ↦ subst (λ (q : Halt). Member (letter (role kind.Matchmaker q.answer.matchmaker) me
+                    (msg.StopB own q.answer.watermark q.answer.entries q.accepted q.next)) sent) (sym e) y
                 | inr n ↦ absurd n
               ]
             ];
@@ -454,7 +482,8 @@ module _ (c : Cluster) (history : List KeptRecord) (sent : List Letter) (states 
   -- a matchmaker has accepted
 
   module _ (v : ReplacerVolatile) (is : v.mode ≡ Deciding) (known : IsKnown c history v.set) (h : IsDeciding c history sent me own v) where
-    accepts : (n : ℕ) → Member (letter (role kind.Matchmaker n) me (msg.NextB own)) sent → HasNext history (role kind.Matchmaker n) own v.next × Member n v.set
+    accepts : (n : ℕ) → Member (letter (role kind.Matchmaker n) me (msg.NextB own)) sent
+        → HasNext history (role kind.Matchmaker n) own v.next × Member n v.set
     accepts n y =
         let says : (t : List ℕ) × HasNext history (role kind.Matchmaker n) own t = facts.says _ y in
         let asked = facts.accepted (role kind.Matchmaker n) own says.0 says.1 in
@@ -489,11 +518,19 @@ module _ (c : Cluster) (history : List KeptRecord) (sent : List Letter) (states 
       next_counted_fine =
           by_test Fine (nat_lt (length (with_mark a v.counted)) (enough c)) _ _
           (λ t. still why.Counted (record v { counted = with_mark a v.counted })
-          (knows_in (record v { counted = with_mark a v.counted }) Deciding is known
-          (record { real = h.real; asked = h.asked; above = h.above; proper = h.proper; closed = h.closed; join = h.join; votes = votes; once = once })))
-          (λ f. let k = ltb-false (length (with_mark a v.counted)) (enough c) f in
+          (knows_in (record v { counted = with_mark a v.counted }) Deciding is known (record {
+            real = h.real;
+            asked = h.asked;
+            above = h.above;
+            proper = h.proper;
+            closed = h.closed;
+            join = h.join;
+            votes = votes;
+            once = once;
+          }))) (λ f. let k = ltb-false (length (with_mark a v.counted)) (enough c) f in
           let k2 : c.f < length (with_mark a v.counted) = omega arith in
-          asks_boot why.Decided (record v { mode = Booting; counted = [] }) refl known (record { decided = is_decided k2; join = h.join; begun = λ n m. absurd m }))
+          asks_boot why.Decided (record v { mode = Booting; counted = [] }) refl known
+          (record { decided = is_decided k2; join = h.join; begun = λ n m. absurd m }))
 
   next_b_fine : (v : ReplacerVolatile) → Knows v → (from : RoleId) (b : Round)
       → Member (letter (role kind.Matchmaker from.index) me (msg.NextB b)) sent → Fine (next_b_row c me dur v from b)
@@ -523,10 +560,12 @@ module _ (c : Cluster) (history : List KeptRecord) (sent : List Letter) (states 
       (λ t. still why.Counted (record v { counted = with_mark from.index v.counted })
       (knows_in (record v { counted = with_mark from.index v.counted }) Booting is h.0
       (record { decided = k.decided; join = k.join; begun = begun k ((bytes_eq-Decides s v.next).0 p.1) })))
-      (λ n. let next : IsKnown c history v.next = (h.0.0 + 1, subst (λ i. IsNth c history i v.next) (let e : suc h.0.0 ≡ h.0.0 + 1 = omega arith in e) (v.set, h.0.1, k.decided)) in
+      (λ n. let next : IsKnown c history v.next =
+      (h.0.0 + 1, subst (λ i. IsNth c history i v.next) (let e : suc h.0.0 ≡ h.0.0 + 1 = omega arith in e) (v.set, h.0.1, k.decided)) in
       tells_set why.Replaced (record v { mode = Idle; set = v.next }) (next, tt) v.next next)))
     where
-      begun : IsBooting c history sent me v → s ≡ v.next → (n : ℕ) → Member n (with_mark from.index v.counted) → Member (letter (role kind.Matchmaker n) me (msg.BootB v.next)) sent
+      begun : IsBooting c history sent me v → s ≡ v.next → (n : ℕ) → Member n (with_mark from.index v.counted)
+          → Member (letter (role kind.Matchmaker n) me (msg.BootB v.next)) sent
       begun k e n m = elim (mark-cases n from.index v.counted m) [
         | inl q ↦ subst (λ i. Member (letter (role kind.Matchmaker i) me (msg.BootB v.next)) sent) (sym q)
             (subst (λ t. Member (letter (role kind.Matchmaker from.index) me (msg.BootB t)) sent) e y)
@@ -535,10 +574,21 @@ module _ (c : Cluster) (history : List KeptRecord) (sent : List Letter) (states 
 
   -- a greater ballot, another set
 
-  seen_work : (v : ReplacerVolatile) (i : Round) (mode : Replacing) → InWork c history sent me own v mode → InWork c history sent me own (with_seen i v) mode
+  seen_work : (v : ReplacerVolatile) (i : Round) (mode : Replacing) → InWork c history sent me own v mode
+      → InWork c history sent me own (with_seen i v) mode
   seen_work v i Idle h = tt
-  seen_work v i Stopping h = record { real = h.real; unasked = h.unasked; above = h.above; proper = h.proper; told = h.told; once = h.once; known = h.known }
-  seen_work v i Deciding h = record { real = h.real; asked = h.asked; above = h.above; proper = h.proper; closed = h.closed; join = h.join; votes = h.votes; once = h.once }
+  seen_work v i Stopping h =
+      record { real = h.real; unasked = h.unasked; above = h.above; proper = h.proper; told = h.told; once = h.once; known = h.known }
+  seen_work v i Deciding h = record {
+    real = h.real;
+    asked = h.asked;
+    above = h.above;
+    proper = h.proper;
+    closed = h.closed;
+    join = h.join;
+    votes = h.votes;
+    once = h.once;
+  }
   seen_work v i Booting h = record { decided = h.decided; join = h.join; begun = h.begun }
 
   stop_nack_fine : (v : ReplacerVolatile) → Knows v → (b other : Round) → Fine (stop_nack_row dur v b other)
@@ -570,7 +620,8 @@ module _ (c : Cluster) (history : List KeptRecord) (sent : List Letter) (states 
   order_fine v h (Change g) = still why.Stranger v h
   order_fine v h Collect = still why.Stranger v h
 
-  by_kind : (from : RoleId) (m : Msg) (k : Kind) → from.kind ≡ k → Member (letter from me m) sent → Member (letter (role k from.index) me m) sent
+  by_kind : (from : RoleId) (m : Msg) (k : Kind) → from.kind ≡ k → Member (letter from me m) sent
+      → Member (letter (role k from.index) me m) sent
   by_kind from m k e y = subst (λ j. Member (letter (role j from.index) me m) sent) e y
 
   takes_fine : (v : ReplacerVolatile) → Knows v → Kinds history sent states → (from : RoleId) (m : Msg) → Member (letter from me m) sent
@@ -592,8 +643,10 @@ module _ (c : Cluster) (history : List KeptRecord) (sent : List Letter) (states 
   row_fine v h kinds (Order order) given = order_fine v h order
 
 -- the rows of a replacer keep the facts
-pub replacer_lands : (c : Cluster) (kept : List KeptRecord) (sent : List Letter) (states : RoleId → State) (x : ℕ) (v : ReplacerVolatile) (i : Input)
+pub replacer_lands : (c : Cluster) (kept : List KeptRecord) (sent : List Letter) (states : RoleId → State) (x : ℕ)
+    (v : ReplacerVolatile) (i : Input)
     → Kinds kept sent states → Facts c kept sent states → states (role kind.Replacer x) ≡ ReplacerIn v → Given sent (role kind.Replacer x) i
-    → Lands (Facts c) kept sent states (role kind.Replacer x) ReplacerIn (replacer_row c (role kind.Replacer x) (durable_of replacer_rules (role kind.Replacer x) kept) v i)
-replacer_lands c kept sent states x v i kinds facts at given =
-    row_fine c kept sent states facts x v (subst (λ s. InState c kept sent (role kind.Replacer x) s) at (facts.running (role kind.Replacer x))) kinds i given
+    → Lands (Facts c) kept sent states (role kind.Replacer x) ReplacerIn
+    (replacer_row c (role kind.Replacer x) (durable_of replacer_rules (role kind.Replacer x) kept) v i)
+replacer_lands c kept sent states x v i kinds facts at given = row_fine c kept sent states facts x v
+    (subst (λ s. InState c kept sent (role kind.Replacer x) s) at (facts.running (role kind.Replacer x))) kinds i given

@@ -18,7 +18,8 @@ use Rattle.cx_model.specs.declared.states.Pending.{Pending}
 use Rattle.cx_model.specs.declared.states.Replacing.{Replacing}
 use Rattle.cx_model.specs.declared.states.Replacing.TheVariants as replacing
 use Rattle.cx_model.specs.Batcher.{BatcherVolatile}
-use Rattle.cx_model.specs.Facts.{IsProposed, IsRetiring, LeaderWasTold, ProxyWasTold, BatcherWasTold, ReplicaWasTold, ReaderWasTold, BatchWasTold}
+use Rattle.cx_model.specs.Facts.{IsProposed, IsRetiring, LeaderWasTold, ProxyWasTold, BatcherWasTold, ReplicaWasTold, ReaderWasTold}
+use Rattle.cx_model.specs.Facts.{BatchWasTold}
 use Rattle.cx_model.specs.Leader.{LeaderVolatile, leader_rules, round_of}
 use Rattle.cx_model.specs.Lists.{by_role, other_role}
 use Rattle.cx_model.specs.Matchmaker.{MatchmakerDurable, matchmaker_rules}
@@ -28,11 +29,13 @@ use Rattle.cx_model.specs.Proxy.{ProxyVolatile}
 use Rattle.cx_model.specs.Reader.{Batch, ReaderVolatile}
 use Rattle.cx_model.specs.Replacer.{ReplacerVolatile, replacer_rules}
 use Rattle.cx_model.specs.Replica.{ReplicaVolatile}
-use Rattle.cx_inv_run.specs.States.{State, Down, Plain, BatcherIn, LeaderIn, ProxyIn, ReplicaIn, ReaderIn, ReplacerIn, set_state, durable_of}
+use Rattle.cx_inv_run.specs.States.{State, Down, Plain, BatcherIn, LeaderIn, ProxyIn, ReplicaIn, ReaderIn, ReplacerIn, set_state}
+use Rattle.cx_inv_run.specs.States.{durable_of}
 use Rattle.cx_inv_run.proofs.Members.{Member-cases, Member-first}
 use Rattle.cx_inv_run.proofs.Histories.{state_own, state_other}
 use Rattle.cx_inv_run.proofs.Rounds.{before-itself}
-use Rattle.cx_inv_match.specs.Facts.{Says, InState, InMode, InWork, IsMatching, IsLeading, IsLastRound, IsMatchmaker, IsPending, IsNextAsked, Facts}
+use Rattle.cx_inv_match.specs.Facts.{Says, InState, InMode, InWork, IsMatching, IsLeading, IsLastRound, IsMatchmaker, IsPending}
+use Rattle.cx_inv_match.specs.Facts.{IsNextAsked, Facts}
 use Rattle.cx_inv_match.specs.Words.{IsLeft, IsNextSet}
 use Rattle.cx_inv_match.proofs.Grow.{Grows, grown_says, grown_safe, grown_stage, grown_ready, grown_join, grown_collected}
 use Rattle.cx_inv_match.proofs.Keep.{same_log}
@@ -41,7 +44,8 @@ use Rattle.cx_inv_vote.specs.Laws.{IsPlainMsg}
 
 -- what was proposed or ended after more was sent, was so before or by what was sent
 
-pub proposed_cases : (sent ds : List Letter) (i : Round) (s : ℕ) (v : Value) → IsProposed (sent ++ ds) i s v → IsProposed sent i s v ⊎ IsProposed ds i s v
+pub proposed_cases : (sent ds : List Letter) (i : Round) (s : ℕ) (v : Value) → IsProposed (sent ++ ds) i s v
+    → IsProposed sent i s v ⊎ IsProposed ds i s v
 proposed_cases sent ds i s v h = elim (Member-cases _ sent ds h.4) [
   | inl m ↦ inl (h.0, h.1, h.2, h.3, m)
   | inr m ↦ inr (h.0, h.1, h.2, h.3, m)
@@ -59,7 +63,8 @@ still_proposed sent ds i s v h = (h.0, h.1, h.2, h.3, Member-first _ sent ds h.4
 pub still_retiring : (sent ds : List Letter) (i : Round) → IsRetiring sent i → IsRetiring (sent ++ ds) i
 still_retiring sent ds i h = (h.0, h.1, h.2, Member-first _ sent ds h.3)
 
-pub asked_cases : (sent ds : List Letter) (b : Round) (u : List ℕ) → IsNextAsked (sent ++ ds) b u → IsNextAsked sent b u ⊎ IsNextAsked ds b u
+pub asked_cases : (sent ds : List Letter) (b : Round) (u : List ℕ) → IsNextAsked (sent ++ ds) b u
+    → IsNextAsked sent b u ⊎ IsNextAsked ds b u
 asked_cases sent ds b u h = elim (Member-cases _ sent ds h.2) [
   | inl m ↦ inl (h.0, h.1, m)
   | inr m ↦ inr (h.0, h.1, m)
@@ -86,7 +91,8 @@ grows_wide history sent wider h = record {
 
 -- what a role received stays received
 
-pub leader_told : (sent ds : List Letter) (me : RoleId) (i : Round) (v : LeaderVolatile) → LeaderWasTold sent me i v → LeaderWasTold (sent ++ ds) me i v
+pub leader_told : (sent ds : List Letter) (me : RoleId) (i : Round) (v : LeaderVolatile) → LeaderWasTold sent me i v
+    → LeaderWasTold (sent ++ ds) me i v
 leader_told sent ds me i v h = record {
   answers = λ a m. Member-first _ sent ds (h.answers a m);
   promises = λ p m. Member-first _ sent ds (h.promises p m);
@@ -111,7 +117,8 @@ batcher_told sent ds me v h = record {
 pub replica_told : (sent ds : List Letter) (me : RoleId) (v : ReplicaVolatile) → ReplicaWasTold sent me v → ReplicaWasTold (sent ++ ds) me v
 replica_told sent ds me v h = record {
   early = λ p m. let r = h.early p m in (r.0, Member-first _ sent ds r.1);
-  deferred = λ r m. elim (h.deferred r m) [ inl d ↦ inl (d.0, Member-first _ sent ds d.1) | inr d ↦ inr (d.0, d.1, Member-first _ sent ds d.2) ];
+  deferred =
+      λ r m. elim (h.deferred r m) [ inl d ↦ inl (d.0, Member-first _ sent ds d.1) | inr d ↦ inr (d.0, d.1, Member-first _ sent ds d.2) ];
 }
 
 pub batch_told : (sent ds : List Letter) (me : RoleId) (b : Batch) → BatchWasTold sent me b → BatchWasTold (sent ++ ds) me b
@@ -127,10 +134,12 @@ reader_told sent ds me v h = record {
   batch = λ b e. batch_told sent ds me b (h.batch b e);
 }
 
-pub still_pending : (history : List KeptRecord) (sent ds : List Letter) (p : Pending) → IsPending history sent p → IsPending history (sent ++ ds) p
+pub still_pending : (history : List KeptRecord) (sent ds : List Letter) (p : Pending) → IsPending history sent p
+    → IsPending history (sent ++ ds) p
 still_pending history sent ds p h = record { config = h.config; marks = h.marks; done = h.done; window = h.window }
 
--- a round in which these datagrams propose nothing, and for which they ask nobody to forget others; a ballot in which they ask nobody to accept a set
+-- a round in which these datagrams propose nothing, and for which they ask nobody to forget others; a ballot in which they ask nobody to
+-- accept a set
 abbrev pub IsQuiet : List Letter → Round → Type 0
 IsQuiet ds i = ((s : ℕ) (v : Value) → IsProposed ds i s v → ⊥) × (IsRetiring ds i → ⊥)
 
@@ -138,7 +147,8 @@ abbrev pub IsUnasked : List Letter → Round → Type 0
 IsUnasked ds b = (u : List ℕ) → IsNextAsked ds b u → ⊥
 
 module _ (c : Cluster) (history : List KeptRecord) (sent ds : List Letter) (grows : Grows history sent history (sent ++ ds)) where
-  pub quiet_matching : (own : Entry) (v : LeaderVolatile) → IsQuiet ds own.round → IsMatching c history sent own v → IsMatching c history (sent ++ ds) own v
+  pub quiet_matching : (own : Entry) (v : LeaderVolatile) → IsQuiet ds own.round → IsMatching c history sent own v
+      → IsMatching c history (sent ++ ds) own v
   quiet_matching own v q h = record {
     unproposed = λ s u x. elim (proposed_cases sent ds own.round s u x) [ inl y ↦ h.unproposed s u y | inr y ↦ q.0 s u y ];
     unended = λ x. elim (retiring_cases sent ds own.round x) [ inl y ↦ h.unended y | inr y ↦ q.1 y ];
@@ -221,8 +231,9 @@ module _ (c : Cluster) (history : List KeptRecord) (sent ds : List Letter) (grow
   carry_state me (ReaderIn v) quiet un h = (reader_told sent ds me v h.0, h.1, h.2)
   carry_state me (ReplacerIn v) quiet un h = (h.0, quiet_work me (durable_of replacer_rules me history).own v v.mode un h.1)
 
--- What a role sends says what is so, proposes and ends only rounds that name it and that it didn't leave, one value for each round and slot, and
--- asks to accept sets only in ballots that name it, one set for each; and its new state is what it should be: then the facts hold.
+-- What a role sends says what is so, proposes and ends only rounds that name it and that it didn't leave, one value for each round and
+-- slot, and asks to accept sets only in ballots that name it, one set for each; and its new state is what it should be: then the facts
+-- hold.
 module _ (c : Cluster) (history : List KeptRecord) (sent : List Letter) (states : RoleId → State) (me : RoleId)
     (facts : Facts c history sent (set_state me Down states)) (ds : List Letter) (s : State)
     (widens : Widens history sent (sent ++ ds))
@@ -241,27 +252,32 @@ module _ (c : Cluster) (history : List KeptRecord) (sent : List Letter) (states 
   grows = grows_wide history sent wider widens
 
   -- the round of another leader is neither proposed in nor ended
-  other_quiet : (a : RoleId) → same_role a me ≡ false → (o : Option Entry) → IsLastRound history a o → (own : Entry) → o ≡ Some own → IsQuiet ds own.round
+  other_quiet : (a : RoleId) → same_role a me ≡ false → (o : Option Entry) → IsLastRound history a o → (own : Entry) → o ≡ Some own
+      → IsQuiet ds own.round
   other_quiet a d None last own e = cc
   other_quiet a d (Some first) last own e =
       let p : first ≡ own = cc in
-      let q : a ≡ role kind.Leader own.round.id = subst (λ (y : Entry). a ≡ role kind.Leader y.round.id) p (facts.owner a first.round first.grid last.0) in
+      let q : a ≡ role kind.Leader own.round.id =
+      subst (λ (y : Entry). a ≡ role kind.Leader y.round.id) p (facts.owner a first.round first.grid last.0) in
       (λ t v x. other_role a me d (q ∙ mine own.round t v x), λ x. other_role a me d (q ∙ ends own.round x))
 
   -- and in the ballot of another replacer nobody is asked
   other_unasked : (a : RoleId) → same_role a me ≡ false → IsUnasked ds (durable_of replacer_rules a history).own
   other_unasked a d u x = go (facts.last_ballot a).1
     where
-      asked : IsNextSet c history x.1 (durable_of replacer_rules a history).own u × HasKept history (role kind.Replacer (durable_of replacer_rules a history).own.id) (kept.Ballot (durable_of replacer_rules a history).own) × (role kind.Replacer (durable_of replacer_rules a history).own.id ≡ me)
+      asked : IsNextSet c history x.1 (durable_of replacer_rules a history).own u × HasKept history
+          (role kind.Replacer (durable_of replacer_rules a history).own.id) (kept.Ballot (durable_of replacer_rules a history).own)
+          × (role kind.Replacer (durable_of replacer_rules a history).own.id ≡ me)
       asked = asks x.0 x.1 (durable_of replacer_rules a history).own u x.2
 
-      go : ((durable_of replacer_rules a history).own ≡ no_round) ⊎ HasKept history a (kept.Ballot (durable_of replacer_rules a history).own) → ⊥
+      go : ((durable_of replacer_rules a history).own ≡ no_round)
+          ⊎ HasKept history a (kept.Ballot (durable_of replacer_rules a history).own) → ⊥
       go (inl e) = before-itself no_round (subst (λ y. is_before no_round y ≡ true) e asked.0.real)
       go (inr k) = other_role a me d (facts.balloter a (durable_of replacer_rules a history).own k ∙ asked.2)
 
   other_running : (a : RoleId) → same_role a me ≡ false → (st : State) → InState c history sent a st → InState c history wider a st
-  other_running a d st h =
-      carry_state c history sent ds grows a st (other_quiet a d (durable_of leader_rules a history).own (facts.last a)) (other_unasked a d) h
+  other_running a d st h = carry_state c history sent ds grows a st (other_quiet a d (durable_of leader_rules a history).own (facts.last a))
+      (other_unasked a d) h
 
   sent_log : (m : RoleId) (d : MatchmakerDurable) → IsMatchmaker c history sent m d → IsMatchmaker c history wider m d
   sent_log m d h = same_log c history sent history wider grows m d (λ i g x. x) (λ i g x. x) (λ t w es x. x) (λ b x. x) (λ b t x. x) h
@@ -272,16 +288,19 @@ module _ (c : Cluster) (history : List KeptRecord) (sent : List Letter) (states 
     one_grid = facts.one_grid;
     last = facts.last;
     asked = facts.asked;
-    garbaged = λ m i g x. let y = facts.garbaged m i g x in (y.0, grown_collected c history sent history wider grows i y.1, still_retiring sent ds i y.2);
+    garbaged = λ m i g x.
+        let y = facts.garbaged m i g x in (y.0, grown_collected c history sent history wider grows i y.1, still_retiring sent ds i y.2);
     logs = λ m. sent_log m (durable_of matchmaker_rules m history) (facts.logs m);
     acceptors = facts.acceptors;
-    sets = grown_sets c history sent history wider grows facts.sets (λ m b u x. inl x) (λ m t w es x. inl x) (λ m i g x. inl x) (λ m x. inl x);
+    sets =
+        grown_sets c history sent history wider grows facts.sets (λ m b u x. inl x) (λ m t w es x. inl x) (λ m i g x. inl x) (λ m x. inl x);
     accepted = λ m b u x. let y = facts.accepted m b u x in (y.0, Member-first _ sent ds y.1);
     one_asked = λ b u w x y. elim (asked_cases sent ds b u x) [
       | inl k ↦ (elim (asked_cases sent ds b w y) [ inl l ↦ facts.one_asked b u w k l | inr l ↦ sym (one_next b w u l x) ])
       | inr k ↦ one_next b u w k y
     ];
-    asks = λ from to b u m. elim (Member-cases _ sent ds m) [ inl k ↦ facts.asks from to b u k | inr k ↦ (let r = asks from to b u k in (r.0, r.1)) ];
+    asks = λ from to b u m.
+        elim (Member-cases _ sent ds m) [ inl k ↦ facts.asks from to b u k | inr k ↦ (let r = asks from to b u k in (r.0, r.1)) ];
     balloter = facts.balloter;
     last_ballot = facts.last_ballot;
     voted = λ a i t v h. still_proposed sent ds i t v (facts.voted a i t v h);
@@ -290,7 +309,8 @@ module _ (c : Cluster) (history : List KeptRecord) (sent : List Letter) (states 
       | inr k ↦ one_value i t v w k y
     ];
     logged = facts.logged;
-    says = λ d m. elim (Member-cases d sent ds m) [ inl k ↦ grown_says c history sent history wider grows d.from d.msg (facts.says d k) | inr k ↦ says d k ];
+    says = λ d m. elim (Member-cases d sent ds
+        m) [ inl k ↦ grown_says c history sent history wider grows d.from d.msg (facts.says d k) | inr k ↦ says d k ];
     running =
         by_role (λ a. InState c history wider a (set_state me s states a)) me
         (subst (λ st. InState c history wider me st) (sym (state_own me s states)) running)

@@ -40,7 +40,8 @@ zeros [] p n e = cc
 zeros (m ∷ ns) zero n e = sym (same_Some 0 n e)
 zeros (m ∷ ns) (suc p) n e = zeros ns p n e
 
-pub fresh_holds : (c : Cluster) (history : List KeptRecord) (sent : List Letter) (me : RoleId) (k : Kind) → InState c history sent me (fresh_state c k)
+pub fresh_holds : (c : Cluster) (history : List KeptRecord) (sent : List Letter) (me : RoleId) (k : Kind)
+    → InState c history sent me (fresh_state c k)
 fresh_holds c history sent me kind.Client = tt
 fresh_holds c history sent me kind.Batcher = record { commands = λ k m. absurd m; round = inl refl }
 fresh_holds c history sent me kind.Leader = (
@@ -85,7 +86,8 @@ wake c history sent states me facts = record {
   one_value = facts.one_value;
   logged = facts.logged;
   says = facts.says;
-  running = set_running (λ a s. InState c history sent a s) me (fresh_state c me.kind) states (fresh_holds c history sent me me.kind) (λ a e. facts.running a);
+  running = set_running (λ a s. InState c history sent a s) me (fresh_state c me.kind) states (fresh_holds c history sent me me.kind)
+      (λ a e. facts.running a);
 }
 
 -- nothing has happened
@@ -154,7 +156,8 @@ start_ballot : (me : RoleId) → IsLastBallot [] me (durable_of replacer_rules m
 unfolding durable_of
 start_ballot me = (λ b x. absurd x, inl refl)
 
-pub start_facts : (c : Cluster) (states : RoleId → State) → ((a : RoleId) → (states a ≡ Down) ⊎ (states a ≡ fresh_state c a.kind)) → Facts c [] [] states
+pub start_facts : (c : Cluster) (states : RoleId → State) → ((a : RoleId) → (states a ≡ Down) ⊎ (states a ≡ fresh_state c a.kind))
+    → Facts c [] [] states
 start_facts c states fresh = record {
   owner = λ me i g m. absurd m;
   one_grid = λ i g h x y. absurd x.1;
@@ -181,13 +184,16 @@ start_facts c states fresh = record {
 
 -- a request
 
-request_says : (c : Cluster) (history : List KeptRecord) (longer : List Letter) (n : ℕ) (e : Event) (d : Letter) → Member d (request n e) → Says c history longer d.from d.msg
-request_says c history longer n (event.Write command batcher) =
-    Member-one (λ (d : Letter). Says c history longer d.from d.msg) (letter (role kind.Client command.client) (role kind.Batcher batcher) (msg.Submit command)) tt
+request_says : (c : Cluster) (history : List KeptRecord) (longer : List Letter) (n : ℕ) (e : Event) (d : Letter) → Member d (request n e)
+    → Says c history longer d.from d.msg
+request_says c history longer n (event.Write command batcher) = Member-one (λ (d : Letter). Says c history longer d.from d.msg)
+    (letter (role kind.Client command.client) (role kind.Batcher batcher) (msg.Submit command)) tt
 request_says c history longer n (event.Read client seq floor reader replica key) =
-    Member-one (λ (d : Letter). Says c history longer d.from d.msg) (letter (role kind.Client client) (role kind.Reader reader) (msg.ReadReq seq replica key)) tt
+    Member-one (λ (d : Letter). Says c history longer d.from d.msg)
+    (letter (role kind.Client client) (role kind.Reader reader) (msg.ReadReq seq replica key)) tt
 request_says c history longer n (event.Session client seq floor replica key) =
-    Member-one (λ (d : Letter). Says c history longer d.from d.msg) (letter (role kind.Client client) (role kind.Replica replica) (msg.SessRead seq n key)) tt
+    Member-one (λ (d : Letter). Says c history longer d.from d.msg)
+    (letter (role kind.Client client) (role kind.Replica replica) (msg.SessRead seq n key)) tt
 request_says c history longer n (event.Deliver number cut) = λ d m. absurd m
 request_says c history longer n (event.Tick r) = λ d m. absurd m
 request_says c history longer n (event.Order leader order cut) = λ d m. absurd m
@@ -197,9 +203,8 @@ request_says c history longer n (event.Snap replica cut) = λ d m. absurd m
 request_says c history longer n (event.Restart r) = λ d m. absurd m
 
 request_quiet : (n : ℕ) (e : Event) → QuietSends (request n e)
-request_quiet n (event.Write command batcher) =
-    Member-one (λ (d : Letter). IsPlainMsg d.msg) (letter (role kind.Client command.client) (role kind.Batcher batcher) (msg.Submit command))
-    (λ i g s cw v e. cc, λ i g e. cc, λ b t e. cc)
+request_quiet n (event.Write command batcher) = Member-one (λ (d : Letter). IsPlainMsg d.msg) (letter (role kind.Client command.client)
+    (role kind.Batcher batcher) (msg.Submit command)) (λ i g s cw v e. cc, λ i g e. cc, λ b t e. cc)
 request_quiet n (event.Read client seq floor reader replica key) =
     Member-one (λ (d : Letter). IsPlainMsg d.msg) (letter (role kind.Client client) (role kind.Reader reader) (msg.ReadReq seq replica key))
     (λ i g s cw v e. cc, λ i g e. cc, λ b t e. cc)

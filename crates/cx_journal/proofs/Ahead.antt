@@ -1,5 +1,6 @@
 -- Two disks that were prepared, with the records that were read of the live one, are a pair.
-use Rattle.std.proofs.Common.{◌≡◌, ◌<◌, ℕ, zero, suc, ◌+◌, ◌==◌, Bool, true, false, List, [], ◌∷◌, Option, Some, None, Ok, Err, Result, refl, sym, ◌∙◌, ap, subst, arith}
+use Rattle.std.proofs.Common.{◌≡◌, ◌<◌, ℕ, zero, suc, ◌+◌, ◌==◌, Bool, true, false, List, [], ◌∷◌, Option, Some, None, Ok, Err, Result}
+use Rattle.std.proofs.Common.{refl, sym, ◌∙◌, ap, subst, arith}
 use Rattle.std.specs.Prelude.{◌%◌, nat_lt, if◌then◌else◌}
 use Rattle.std.proofs.lemmas.Bool.Decides.{nat_tests}
 use Rattle.cx_journal.specs.Generation.{generation, second_is_live, IsBehind}
@@ -69,10 +70,13 @@ chosen_second (Some g) (Some h) is =
     (λ gt e. if_so (nat_lt h 3) _ (Err h) (Ok true) e
     (λ ht k. if_so (g == h) (Err h) _ (Ok true) k
     (λ t q. absurd cc)
-    (λ f q. let turn : (h == (g + 1) % 3) ≡ true = cc in
-    (record { sound = λ n p. subst (λ m. m < 3) (one_only h n p) (below h ht); behind = (below g gt, ap (λ (n : ℕ). Some n) (same h ((g + 1) % 3) turn)) }, (h, refl))))
-    (λ f k. absurd cc))
-    (λ f e. absurd cc)
+    (λ f q. let turn : (h == (g + 1) % 3) ≡ true = cc in (
+      record {
+        sound = λ n p. subst (λ m. m < 3) (one_only h n p) (below h ht);
+        behind = (below g gt, ap (λ (n : ℕ). Some n) (same h ((g + 1) % 3) turn));
+      },
+      (h, refl),
+    ))) (λ f k. absurd cc)) (λ f e. absurd cc)
 
 -- a plain file that is not blank doesn't begin as a generation does
 pub plain_begins : (file : List ℕ) → generation file ≡ None → (IsBlank file → ⊥) → begins_with file 4 → ⊥
@@ -96,7 +100,8 @@ module _ (payloads : List (List ℕ)) (live other : List ℕ) (stands : StandsAf
         stands = stands;
       }
 
-  pub pair_first : second_is_live (generation live) (generation other) ≡ Ok false → (generation live ≡ None → begins_with live 4 → ⊥) → IsTwin false payloads live other
+  pub pair_first : second_is_live (generation live) (generation other) ≡ Ok false → (generation live ≡ None → begins_with live 4 → ⊥)
+      → IsTwin false payloads live other
   pair_first choice begins =
       let known = chosen_first (generation live) (generation other) choice in
       record { sound = known.sound; behind = known.behind; plain_is_first = λ _. refl; plain_begins = begins; stands = stands }

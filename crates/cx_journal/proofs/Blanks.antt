@@ -17,7 +17,8 @@ cut_blank at (a ∷ b ∷ []) [] blank cut = short_blank [] (omega arith)
 cut_blank at d (x ∷ []) blank cut = short_blank (x ∷ []) (omega arith)
 cut_blank at [] (x ∷ y ∷ c) blank cut = let no_way = cut.front in absurd cc
 cut_blank at (a ∷ []) (x ∷ y ∷ c) blank cut = let no_way = cut.front in absurd cc
-cut_blank at (a ∷ b ∷ []) (x ∷ y ∷ []) blank cut = let one : a ≡ x = ap (λ l. get_or l 0 0) cut.front in record { few = omega arith; shut = λ two begins. blank.shut refl (one ∙ begins) }
+cut_blank at (a ∷ b ∷ []) (x ∷ y ∷ []) blank cut =
+    let one : a ≡ x = ap (λ l. get_or l 0 0) cut.front in record { few = omega arith; shut = λ two begins. blank.shut refl (one ∙ begins) }
 cut_blank at (a ∷ b ∷ []) (x ∷ y ∷ z ∷ c) blank cut = let no_way = cut.front in absurd cc
 cut_blank at (a ∷ b ∷ e ∷ d) c blank cut = absurd (omega (arith, blank.few))
 

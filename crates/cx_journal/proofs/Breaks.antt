@@ -13,7 +13,8 @@ read_stops whole records at read more (stop.Break place) is stops = is ∙ ap (w
 read_stops whole records at read more stop.NoMemory is stops = tt
 
 -- what stops after records that were read stops the whole
-pub breaks_so : (records : List Record) (whole more : Image) (s : ImageFault) → whole ≡ with_all records more → Breaks more s → Breaks whole s
+pub breaks_so : (records : List Record) (whole more : Image) (s : ImageFault) → whole ≡ with_all records more → Breaks more s
+    → Breaks whole s
 breaks_so records whole more (stop.Break place) is stops = is ∙ ap (with_all records) stops ∙ with_all-Err records place
 breaks_so records whole more stop.NoMemory is stops = tt
 

@@ -23,9 +23,11 @@ first_lives None None sound behind = refl
 first_lives (Some g) None sound behind = let small : g < 3 = sound g refl in let is : nat_lt g 3 ≡ true = lt-ltb g 3 small in rw is refl
 first_lives live (Some h) sound behind = rw (behind.1) (earlier_loses h behind.0)
 
-pub second_lives : (live other : Option ℕ) → ((g : ℕ) → live ≡ Some g → g < 3) → (live ≡ None → ⊥) → IsBehind live other → second_is_live other live ≡ Ok true
+pub second_lives : (live other : Option ℕ) → ((g : ℕ) → live ≡ Some g → g < 3) → (live ≡ None → ⊥) → IsBehind live other
+    → second_is_live other live ≡ Ok true
 second_lives None None sound some behind = absurd (some refl)
-second_lives (Some g) None sound some behind = let small : g < 3 = sound g refl in let is : nat_lt g 3 ≡ true = lt-ltb g 3 small in rw is refl
+second_lives (Some g) None sound some behind =
+    let small : g < 3 = sound g refl in let is : nat_lt g 3 ≡ true = lt-ltb g 3 small in rw is refl
 second_lives live (Some h) sound some behind = rw (behind.1) (later_wins h behind.0)
 
 -- the next generation, and what is behind it then
@@ -40,12 +42,14 @@ pub left_behind : (live : Option ℕ) → ((g : ℕ) → live ≡ Some g → g <
 left_behind None sound = tt
 left_behind (Some g) sound = (sound g refl, refl)
 
-live_stands : (gen : Option ℕ) (payloads : List (List ℕ)) (file : List ℕ) → StandsAfter (front_of gen) payloads file → LiveStands gen payloads file
+live_stands : (gen : Option ℕ) (payloads : List (List ℕ)) (file : List ℕ) → StandsAfter (front_of gen) payloads file
+    → LiveStands gen payloads file
 live_stands None payloads file stands = inl stands
 live_stands (Some g) payloads file stands = stands
 
 -- a pair that is kept opens to its records
-pub opens : (second : Bool) (payloads : List (List ℕ)) (live other : List ℕ) → IsTwin second payloads live other → OpensTo payloads second live other
+pub opens : (second : Bool) (payloads : List (List ℕ)) (live other : List ℕ) → IsTwin second payloads live other
+    → OpensTo payloads second live other
 opens false payloads live other twin = record {
   second = false;
   choice = first_lives (generation live) (generation other) twin.sound twin.behind;
@@ -53,6 +57,7 @@ opens false payloads live other twin = record {
 }
 opens true payloads live other twin = record {
   second = true;
-  choice = second_lives (generation live) (generation other) twin.sound (λ none. let no_way : true ≡ false = twin.plain_is_first none in absurd cc) twin.behind;
+  choice = second_lives (generation live) (generation other) twin.sound
+      (λ none. let no_way : true ≡ false = twin.plain_is_first none in absurd cc) twin.behind;
   stands = live_stands (generation live) payloads live twin.stands;
 }

@@ -11,15 +11,18 @@ use Rattle.cx_journal.specs.Twin.{seen_pair_records, pair_records, pair_image, T
 use Rattle.cx_journal.proofs.Images.{twin_image}
 
 -- two files that tell these records
-pub told_pair : (o p : Option (List ℕ)) (a b : List ℕ) (records : List Record) → o ≡ Some a → p ≡ Some b → pair_image None a b ≡ Ok records → pair_records o p ≡ records
-told_pair o p a b records first second is = ap (λ x. pair_records x p) first ∙ ap (λ x. pair_records (Some a) x) second ∙ ap records_or_none is
+pub told_pair : (o p : Option (List ℕ)) (a b : List ℕ) (records : List Record) → o ≡ Some a → p ≡ Some b → pair_image None a b ≡ Ok records
+    → pair_records o p ≡ records
+told_pair o p a b records first second is =
+    ap (λ x. pair_records x p) first ∙ ap (λ x. pair_records (Some a) x) second ∙ ap records_or_none is
 
 module _ {D : Type 0} (seen : D → Option (List ℕ)) (may_leave : D → List ℕ → Type 0) where
-  pub told_two : (s : Bool) (gen : Option ℕ) (records : List Record) (first second : D) → all_kept_by None records ≡ true → TwoRest seen may_leave s gen records first second → seen_pair_records seen first second ≡ records
-  told_two true gen records first second fit two =
-      told_pair (seen first) (seen second) two.beside two.file records two.other.0 two.rests.0 (twin_image true records two.file two.beside two.twin None fit)
-  told_two false gen records first second fit two =
-      told_pair (seen first) (seen second) two.file two.beside records two.rests.0 two.other.0 (twin_image false records two.file two.beside two.twin None fit)
+  pub told_two : (s : Bool) (gen : Option ℕ) (records : List Record) (first second : D) → all_kept_by None records ≡ true
+      → TwoRest seen may_leave s gen records first second → seen_pair_records seen first second ≡ records
+  told_two true gen records first second fit two = told_pair (seen first) (seen second) two.beside two.file records two.other.0 two.rests.0
+      (twin_image true records two.file two.beside two.twin None fit)
+  told_two false gen records first second fit two = told_pair (seen first) (seen second) two.file two.beside records two.rests.0 two.other.0
+      (twin_image false records two.file two.beside two.twin None fit)
 
 -- records whose fields are in their ranges are kept by any kind
 pub fit_kept : (rs : List Record) → all_fit rs ≡ true → all_kept_by None rs ≡ true

@@ -48,15 +48,17 @@ StoreLeftSince moment left_since old new files = ⊥
 
 -- A change that is refused: it is counted as a failure, and nothing else changes. A crash leaves what it might have left before, which is
 -- the records, unless an append has failed.
-pub record IsRefused {D : Type 0} (seen : D → Option (List ℕ)) (may_leave : D → List ℕ → Type 0) (moment : D → ℕ) (left_since : D → ℕ → List ℕ → Type 0)
-    (old : JournalState D) (answer : Result (Unit {0}) KeepFault) (new : JournalState D) : Type 0 where
+pub record IsRefused {D : Type 0} (seen : D → Option (List ℕ)) (may_leave : D → List ℕ → Type 0) (moment : D → ℕ) (left_since : D → ℕ
+    → List ℕ → Type 0) (old : JournalState D) (answer : Result (Unit {0}) KeepFault) (new : JournalState D) : Type 0 where
   pub failed : answer ≡ Err Failed
   pub counted : new ≡ record old { faults = one_more old.faults }
   pub quiet : LeavesOnly moment left_since old.disk new.disk (may_leave old.disk)
-  pub any_moment : old.whole ≡ true → is_some (seen old.disk) ≡ true → LeavesOnly moment left_since old.disk new.disk (IsImageOf (told_records (seen old.disk)))
+  pub any_moment : old.whole ≡ true → is_some (seen old.disk) ≡ true
+      → LeavesOnly moment left_since old.disk new.disk (IsImageOf (told_records (seen old.disk)))
 
 -- a change of a journal on one disk, which can't be put anew
-abbrev pub IsJournalChange : {D : Type 0} → DiskGhosts D → JournalState D → KeeperChange → Result (Unit {0}) KeepFault → JournalState D → Type 0
+abbrev pub IsJournalChange : {D : Type 0} → DiskGhosts D → JournalState D → KeeperChange → Result (Unit {0}) KeepFault
+    → JournalState D → Type 0
 IsJournalChange by old (Append r) answer new = IsJournalAppend by.seen by.may_leave by.moment by.left_since by.faults old r answer new
 IsJournalChange by old (Renewal records) answer new = IsRefused by.seen by.may_leave by.moment by.left_since old answer new
 

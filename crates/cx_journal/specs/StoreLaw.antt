@@ -34,10 +34,12 @@ both_records (Some a) None = refl
 both_records (Some a) (Some b) = refl
 
 -- what a keeper does is what one does that tells, keeps and counts the same
-changed_so : {K L : Type 0} (as_other : K → L) (tells : K → Bool) (kept : K → List Record) (faults : K → ℕ) (other_tells : L → Bool) (other_kept : L → List Record) (other_faults : L → ℕ)
-    → ((k : K) → other_tells (as_other k) ≡ tells k) → ((k : K) → other_kept (as_other k) ≡ kept k) → ((k : K) → other_faults (as_other k) ≡ faults k)
-    → (old : K) (change : KeeperChange) (answer : Result (Unit {0}) KeepFault) (new : K) → IsKeeperChange tells kept faults old change answer new
-    → IsKeeperChange other_tells other_kept other_faults (as_other old) change answer (as_other new)
+changed_so : {K L : Type 0} (as_other : K → L) (tells : K → Bool) (kept : K → List Record) (faults : K → ℕ) (other_tells : L → Bool)
+    (other_kept : L → List Record) (other_faults : L → ℕ)
+    → ((k : K) → other_tells (as_other k) ≡ tells k) → ((k : K) → other_kept (as_other k) ≡ kept k)
+    → ((k : K) → other_faults (as_other k) ≡ faults k)
+    → (old : K) (change : KeeperChange) (answer : Result (Unit {0}) KeepFault) (new : K) → IsKeeperChange tells kept faults old change
+    answer new → IsKeeperChange other_tells other_kept other_faults (as_other old) change answer (as_other new)
 changed_so as_other tells kept faults other_tells other_kept other_faults tells_is kept_is faults_is old change answer new is =
     record {
       ok = λ ok is_seen. rw (kept_is new, kept_is old) (is.ok ok (sym (tells_is old) ∙ is_seen));
@@ -56,7 +58,8 @@ module _ {D : Type 0} (by : DiskGhosts D) where
   abbrev store_kept : RecordStore D → List Record
   store_kept s = files_records (store_told by.seen s)
 
-  refused_is : (old : JournalState D) (change : KeeperChange) (answer : Result (Unit {0}) KeepFault) (new : JournalState D) → IsRefused by.seen by.may_leave by.moment by.left_since old answer new
+  refused_is : (old : JournalState D) (change : KeeperChange) (answer : Result (Unit {0}) KeepFault) (new : JournalState D)
+      → IsRefused by.seen by.may_leave by.moment by.left_since old answer new
       → IsKeeperChange store_tells store_kept store_faults (One old) change answer (One new)
   refused_is old change answer new is =
       let disk = ap (λ (j : JournalState D). j.disk) is.counted in
@@ -73,14 +76,15 @@ module _ {D : Type 0} (by : DiskGhosts D) where
       }
 
   -- a change of a store is one of a keeper
-  pub store_change_is : (old : RecordStore D) (change : KeeperChange) (answer : Result (Unit {0}) KeepFault) (new : RecordStore D) → IsStoreChange by old change answer new
-      → IsKeeperChange store_tells store_kept store_faults old change answer new
-  store_change_is (One old) (Append r) answer (One new) is =
-      changed_so One (λ j. is_some (by.seen j.disk)) (λ j. told_records (by.seen j.disk)) (λ j. j.faults) store_tells store_kept store_faults
+  pub store_change_is : (old : RecordStore D) (change : KeeperChange) (answer : Result (Unit {0}) KeepFault) (new : RecordStore D)
+      → IsStoreChange by old change answer new → IsKeeperChange store_tells store_kept store_faults old change answer new
+  store_change_is (One old) (Append r) answer (One new) is = changed_so One (λ j. is_some (by.seen j.disk))
+      (λ j. told_records (by.seen j.disk)) (λ j. j.faults) store_tells store_kept store_faults
       (λ j. one_tells (by.seen j.disk)) (λ j. one_records (by.seen j.disk)) (λ j. refl) old (Append r) answer new is.appends
   store_change_is (One old) (Renewal records) answer (One new) is = refused_is old (Renewal records) answer new is
-  store_change_is (Two old) change answer (Two new) is =
-      changed_so Two (λ t. both_tell by.seen t.first t.second) (λ t. seen_pair_records by.seen t.first t.second) (λ t. t.faults) store_tells store_kept store_faults
-      (λ t. both_tells (by.seen t.first) (by.seen t.second)) (λ t. both_records (by.seen t.first) (by.seen t.second)) (λ t. refl) old change answer new is.changes
+  store_change_is (Two old) change answer (Two new) is = changed_so Two (λ t. both_tell by.seen t.first t.second)
+      (λ t. seen_pair_records by.seen t.first t.second) (λ t. t.faults) store_tells store_kept store_faults
+      (λ t. both_tells (by.seen t.first) (by.seen t.second)) (λ t. both_records (by.seen t.first) (by.seen t.second)) (λ t. refl) old change
+      answer new is.changes
   store_change_is (One old) change answer (Two new) is = absurd is
   store_change_is (Two old) change answer (One new) is = absurd is

@@ -1,5 +1,6 @@
 -- The records of two disks, one of which is live.
-use Rattle.std.specs.Prelude.{◌≡◌, ◌<◌, ◌≤◌, ◌⊎◌, ℕ, ◌++◌, not, Bool, true, is_some, if◌then◌else◌, List, [], length, Option, Some, None, Result, Ok, Err}
+use Rattle.std.specs.Prelude.{◌≡◌, ◌<◌, ◌≤◌, ◌⊎◌, ℕ, ◌++◌, not, Bool, true, is_some, if◌then◌else◌, List, [], length, Option, Some, None}
+use Rattle.std.specs.Prelude.{Result, Ok, Err}
 use Rattle.cx_base.specs.declared.role.Kind.{Kind}
 use Rattle.cx_letter.specs.declared.kept.Record.{Record}
 use Rattle.cx_journal.specs.Blank.{IsSame}
@@ -54,7 +55,8 @@ pub record IsFoundLive (k : Option Kind) (file : List ℕ) (found : Found) : Typ
   pub gate : found.gate ≡ length (front_of (generation file) ++ frames (payloads found.records.items))
 
 -- The records of a first disk that is live were read: of its file, or of a closed gate in the place of one without records.
-pub record IsReadFirst {D : Type 0} (seen : D → Option (List ℕ)) (may_leave : D → List ℕ → Type 0) (k : Option Kind) (was : List ℕ) (found : Found) (disk : D) : Type 0 where
+pub record IsReadFirst {D : Type 0} (seen : D → Option (List ℕ)) (may_leave : D → List ℕ → Type 0) (k : Option Kind) (was : List ℕ)
+    (found : Found) (disk : D) : Type 0 where
   pub file : List ℕ
   pub rests : IsLive seen may_leave disk file
   pub same : IsSame file was
@@ -62,8 +64,8 @@ pub record IsReadFirst {D : Type 0} (seen : D → Option (List ℕ)) (may_leave 
   pub begins : generation file ≡ None → begins_with file 4 → ⊥
   pub read : IsFoundLive k file found
 
--- Two disks, whether the live one is the second, its generation, the places of the gates, that of the closed one, whether no change has failed since
--- they were read, and how often the twin has failed.
+-- Two disks, whether the live one is the second, its generation, the places of the gates, that of the closed one, whether no change has
+-- failed since they were read, and how often the twin has failed.
 pub record TwinState (D : Type 0) : Type 0 where
   pub first : D
   pub second : D
@@ -83,10 +85,12 @@ seen_pair_records seen first second = pair_records (seen first) (seen second)
 
 -- whatever a crash leaves of the disk that was not live, the two have the old records or the new ones
 abbrev pub IsEitherPair : Bool → List Record → List Record → List ℕ → List ℕ → Type 0
-IsEitherPair second old new live c = IsPairImageOf old (first_file second live c) (second_file second live c) ⊎ IsPairImageOf new (first_file second live c) (second_file second live c)
+IsEitherPair second old new live c = IsPairImageOf old (first_file second live c) (second_file second live c)
+    ⊎ IsPairImageOf new (first_file second live c) (second_file second live c)
 
 -- the disk that was not live has these records, beside the one that was
-pub record IsRenewed {D : Type 0} (seen : D → Option (List ℕ)) (may_leave : D → List ℕ → Type 0) (second : Bool) (records : List Record) (was_live : List ℕ) (r : Renewed) (disk : D) : Type 0 where
+pub record IsRenewed {D : Type 0} (seen : D → Option (List ℕ)) (may_leave : D → List ℕ → Type 0) (second : Bool) (records : List Record)
+    (was_live : List ℕ) (r : Renewed) (disk : D) : Type 0 where
   pub file : List ℕ
   pub rests : IsLive seen may_leave disk file
   pub twin : IsTwin (not second) (payloads records) file was_live
@@ -94,7 +98,8 @@ pub record IsRenewed {D : Type 0} (seen : D → Option (List ℕ)) (may_leave : 
   pub place : r.gate ≡ length (front_of (generation file) ++ frames (payloads records))
 
 -- the live one of two disks was read, and both keep what they tell
-pub record PairRests {D : Type 0} (seen : D → Option (List ℕ)) (may_leave : D → List ℕ → Type 0) (k : Option Kind) (live : Live) (found : Found) (first second : D) : Type 0 where
+pub record PairRests {D : Type 0} (seen : D → Option (List ℕ)) (may_leave : D → List ℕ → Type 0) (k : Option Kind) (live : Live)
+    (found : Found) (first second : D) : Type 0 where
   pub file : List ℕ
   pub beside : List ℕ
   pub rests : IsLive seen may_leave (if live.second then second else first) file
@@ -115,7 +120,8 @@ abbrev pub IsFaultOfPair : Option Kind → List ℕ → List ℕ → OpenFault �
 IsFaultOfPair k a b f = IsPairFault k a b (second_is_live (generation a) (generation b)) f
 
 -- two disks at rest: the one that is live has these records, and the generation is its own
-pub record TwoRest {D : Type 0} (seen : D → Option (List ℕ)) (may_leave : D → List ℕ → Type 0) (second_lives : Bool) (gen : Option ℕ) (records : List Record) (first second : D) : Type 0 where
+pub record TwoRest {D : Type 0} (seen : D → Option (List ℕ)) (may_leave : D → List ℕ → Type 0) (second_lives : Bool) (gen : Option ℕ)
+    (records : List Record) (first second : D) : Type 0 where
   pub file : List ℕ
   pub beside : List ℕ
   pub rests : IsLive seen may_leave (if second_lives then second else first) file
@@ -124,17 +130,21 @@ pub record TwoRest {D : Type 0} (seen : D → Option (List ℕ)) (may_leave : D 
   pub gen_is : gen ≡ generation file
 
 -- A crash of two disks since a call began, any file of each that it may have left since then, has the old records or the new ones.
-pub record LeavesTwo {D : Type 0} (moment : D → ℕ) (left_since : D → ℕ → List ℕ → Type 0) (first second new_first new_second : D) (old new : List Record) : Type 0 where
+pub record LeavesTwo {D : Type 0} (moment : D → ℕ) (left_since : D → ℕ → List ℕ → Type 0) (first second new_first new_second : D)
+    (old new : List Record) : Type 0 where
   pub first_later : moment first ≤ moment new_first
   pub second_later : moment second ≤ moment new_second
-  pub each : (a b : List ℕ) → left_since new_first (moment first) a → left_since new_second (moment second) b → IsPairImageOf old a b ⊎ IsPairImageOf new a b
+  pub each : (a b : List ℕ) → left_since new_first (moment first) a → left_since new_second (moment second) b
+      → IsPairImageOf old a b ⊎ IsPairImageOf new a b
 
 -- whatever a crash leaves of the live disk, the two have the old records or the new ones
 abbrev pub IsEitherLive : Bool → List Record → List Record → List ℕ → List ℕ → Type 0
-IsEitherLive second old new beside c = IsPairImageOf old (first_file second c beside) (second_file second c beside) ⊎ IsPairImageOf new (first_file second c beside) (second_file second c beside)
+IsEitherLive second old new beside c = IsPairImageOf old (first_file second c beside) (second_file second c beside)
+    ⊎ IsPairImageOf new (first_file second c beside) (second_file second c beside)
 
 -- the live disk has these records, beside the other one, and is of the generation that it was
-pub record IsAppended {D : Type 0} (seen : D → Option (List ℕ)) (may_leave : D → List ℕ → Type 0) (second : Bool) (records : List Record) (beside : List ℕ) (gen : Option ℕ) (disk : D) : Type 0 where
+pub record IsAppended {D : Type 0} (seen : D → Option (List ℕ)) (may_leave : D → List ℕ → Type 0) (second : Bool) (records : List Record)
+    (beside : List ℕ) (gen : Option ℕ) (disk : D) : Type 0 where
   pub file : List ℕ
   pub rests : IsLive seen may_leave disk file
   pub twin : IsTwin second (payloads records) file beside
@@ -142,7 +152,8 @@ pub record IsAppended {D : Type 0} (seen : D → Option (List ℕ)) (may_leave :
 
 -- A crash of two disks since a call began, any file of each that it may have left since then, has the records of two files that it might
 -- have left before the call, or breaks where they do.
-pub record LeavesSame {D : Type 0} (may_leave : D → List ℕ → Type 0) (moment : D → ℕ) (left_since : D → ℕ → List ℕ → Type 0) (first second new_first new_second : D) : Type 0 where
+pub record LeavesSame {D : Type 0} (may_leave : D → List ℕ → Type 0) (moment : D → ℕ) (left_since : D → ℕ → List ℕ → Type 0)
+    (first second new_first new_second : D) : Type 0 where
   pub first_later : moment first ≤ moment new_first
   pub second_later : moment second ≤ moment new_second
   pub each : (a b : List ℕ) → left_since new_first (moment first) a → left_since new_second (moment second) b
@@ -154,11 +165,15 @@ HasImage seen k first second records = (a b : List ℕ) → seen first ≡ Some 
 
 -- Where both disks' bytes are known, they have records. Unless a change has failed, these are at rest, the generation is the live
 -- disk's, and each gate is at its place.
-pub record IsTwinReady {D : Type 0} (seen : D → Option (List ℕ)) (may_leave : D → List ℕ → Type 0) (size : D → ℕ) (t : TwinState D) : Type 0 where
+pub record IsTwinReady {D : Type 0} (seen : D → Option (List ℕ)) (may_leave : D → List ℕ → Type 0) (size : D → ℕ)
+    (t : TwinState D) : Type 0 where
   pub below : t.whole ≡ true → t.gate < (if t.second_lives then size t.second else size t.first)
   pub sound : IsGeneration t.generation
-  pub rests : t.whole ≡ true → BothTell seen t.first t.second → TwoRest seen may_leave t.second_lives t.generation (seen_pair_records seen t.first t.second) t.first t.second
-  pub place : t.whole ≡ true → BothTell seen t.first t.second → t.gate ≡ length (front_of t.generation ++ frames (payloads (seen_pair_records seen t.first t.second)))
-  pub gates_are : t.whole ≡ true → BothTell seen t.first t.second → t.gates ≡ gates_from (length (front_of t.generation)) (payloads (seen_pair_records seen t.first t.second))
+  pub rests : t.whole ≡ true → BothTell seen t.first t.second
+      → TwoRest seen may_leave t.second_lives t.generation (seen_pair_records seen t.first t.second) t.first t.second
+  pub place : t.whole ≡ true → BothTell seen t.first t.second
+      → t.gate ≡ length (front_of t.generation ++ frames (payloads (seen_pair_records seen t.first t.second)))
+  pub gates_are : t.whole ≡ true → BothTell seen t.first t.second
+      → t.gates ≡ gates_from (length (front_of t.generation)) (payloads (seen_pair_records seen t.first t.second))
   pub fit : BothTell seen t.first t.second → all_kept_by None (seen_pair_records seen t.first t.second) ≡ true
   pub reads : HasImage seen None t.first t.second (seen_pair_records seen t.first t.second)

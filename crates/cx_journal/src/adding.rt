@@ -17,7 +17,8 @@ use std::alloc::Global;
 pub(crate) fn write_synced<D: Disk>(disk: &mut D, at: u64, bytes: &[u8]) -> Result<(), Failed>
     requires { at ≤ D.size disk.old }
     ensures done { (file : List ℕ) → D.seen disk.old ≡ Some file → OnOk result
-        ((D.seen disk.new ≡ Some (written at bytes.now file)) × Only (written at bytes.now file) (D.may_leave disk.new)) }
+        ((D.seen disk.new ≡ Some (written at bytes.now file))
+        × Only (written at bytes.now file) (D.may_leave disk.new)) }
     ensures any_moment { (file : List ℕ) → Only file (D.may_leave disk.old) →
         LeavesOnly D.moment D.left_since disk.old disk.new (Torn at (length bytes.now) file) }
     ensures tells { is_some (D.seen disk.new) ≡ is_some (D.seen disk.old) }
@@ -54,17 +55,21 @@ pub(crate) fn append_at<D: Disk>(
 
     // At `Ok` the record is on the disk.
     ensures kept { (payloads : List (List ℕ)) → IsAtRest D.seen D.may_leave disk.old gate payloads
-        → IfOk result (λ next. IsAtRest D.seen D.may_leave disk.new next (payloads ++ spelling what.now ∷ [])) }
+        → IfOk result
+        (λ next. IsAtRest D.seen D.may_leave disk.new next (payloads ++ spelling what.now ∷ [])) }
 
     // A crash at any moment of the call leaves the records from before it, with the new one or without.
-    ensures any_moment { (payloads : List (List ℕ)) → IsAtRest D.seen D.may_leave disk.old gate payloads
-        → LeavesOnly D.moment D.left_since disk.old disk.new (IsBeforeOrAfter payloads (spelling what.now)) }
+    ensures any_moment { (payloads : List (List ℕ))
+        → IsAtRest D.seen D.may_leave disk.old gate payloads
+        → LeavesOnly D.moment D.left_since disk.old disk.new
+        (IsBeforeOrAfter payloads (spelling what.now)) }
     ensures next { IfOk result (λ next. next ≡ gate + (5 + length (spelling what.now))) }
     ensures gate { IfOk result (λ next. next < D.size disk.new) }
     ensures tells { is_some (D.seen disk.new) ≡ is_some (D.seen disk.old) }
     ensures later { D.faults disk.old ≤ D.faults disk.new }
     ensures still { (IsErrOf result KeepFault.Failed → ⊥) → D.faults disk.new ≡ D.faults disk.old }
-    ensures failed { IsErrOf result KeepFault.Failed → Rises (D.faults disk.old) (D.faults disk.new) }
+    ensures failed { IsErrOf result KeepFault.Failed
+        → Rises (D.faults disk.old) (D.faults disk.new) }
     ensures no_memory { IsErrOf result KeepFault.NoMemory → disk.new ≡ disk.old }
 {
     let bytes = match body_of(alloc, what) {
@@ -92,16 +97,20 @@ pub(crate) fn append_in<D: Disk>(
 ) -> Result<u64, KeepFault>
     requires gate { gate < D.size disk.old }
     ensures kept { (payloads : List (List ℕ)) → IsAtRest D.seen D.may_leave disk.old gate payloads
-        → IfOk result (λ next. IsAtRest D.seen D.may_leave disk.new next (payloads ++ spelling what.now ∷ [])) }
-    ensures any_moment { (payloads : List (List ℕ)) → IsAtRest D.seen D.may_leave disk.old gate payloads
-        → LeavesOnly D.moment D.left_since disk.old disk.new (IsBeforeOrAfter payloads (spelling what.now)) }
+        → IfOk result
+        (λ next. IsAtRest D.seen D.may_leave disk.new next (payloads ++ spelling what.now ∷ [])) }
+    ensures any_moment { (payloads : List (List ℕ))
+        → IsAtRest D.seen D.may_leave disk.old gate payloads
+        → LeavesOnly D.moment D.left_since disk.old disk.new
+        (IsBeforeOrAfter payloads (spelling what.now)) }
     ensures gates { IfOk result (λ next. gates.new.items ≡ gates.old.items ++ next ∷ []) }
     ensures same_gates { IfErr result (λ _. gates.new.items ≡ gates.old.items) }
     ensures gate { IfOk result (λ next. next < D.size disk.new) }
     ensures tells { is_some (D.seen disk.new) ≡ is_some (D.seen disk.old) }
     ensures later { D.faults disk.old ≤ D.faults disk.new }
     ensures still { (IsErrOf result KeepFault.Failed → ⊥) → D.faults disk.new ≡ D.faults disk.old }
-    ensures failed { IsErrOf result KeepFault.Failed → Rises (D.faults disk.old) (D.faults disk.new) }
+    ensures failed { IsErrOf result KeepFault.Failed
+        → Rises (D.faults disk.old) (D.faults disk.new) }
     ensures no_memory { IsErrOf result KeepFault.NoMemory → disk.new ≡ disk.old }
 {
     match gates.reserve(1) {

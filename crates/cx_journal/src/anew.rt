@@ -65,8 +65,10 @@ pub(crate) fn renew_other<D: Disk>(
     ensures gate { IfOk result (λ r. r.gate ≡ 2 + length (frames (payloads records.now))) }
     ensures tells { is_some (D.seen other.new) ≡ is_some (D.seen other.old) }
     ensures later { D.faults other.old ≤ D.faults other.new }
-    ensures still { (IsErrOf result KeepFault.Failed → ⊥) → D.faults other.new ≡ D.faults other.old }
-    ensures failed { IsErrOf result KeepFault.Failed → Rises (D.faults other.old) (D.faults other.new) }
+    ensures still { (IsErrOf result KeepFault.Failed → ⊥)
+        → D.faults other.new ≡ D.faults other.old }
+    ensures failed { IsErrOf result KeepFault.Failed
+        → Rises (D.faults other.old) (D.faults other.new) }
     ensures no_memory { IsErrOf result KeepFault.NoMemory → other.new ≡ other.old }
 {
     let generation = next_generation(live_generation);

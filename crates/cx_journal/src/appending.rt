@@ -18,7 +18,8 @@ pub(crate) fn append_to<D: Disk>(disk: &mut D, gate: u64, bytes: &[u8]) -> Resul
         → IsLive D.seen D.may_leave disk.old live → IsTwin second payloads live other
         → gate ≡ length (front_of (generation live) ++ frames payloads)
         → OnOk result ((file : List ℕ) × IsLive D.seen D.may_leave disk.new file
-        × IsTwin second (payloads ++ payload ∷ []) file other × (generation file ≡ generation live)) }
+        × IsTwin second (payloads ++ payload ∷ []) file other
+        × (generation file ≡ generation live)) }
 
     // At each moment the pair has the list, or the list and the record.
     ensures any_moment { (second : Bool) (payloads : List (List ℕ)) (payload live other : List ℕ)

@@ -101,7 +101,8 @@ fn read_blank<D: Disk>(alloc: Global, disk: &mut D) -> Result<Found, OpenFault>
     ensures broken { (image : Image) (bytes : List ℕ) → IfErr result (IsFaultIn image bytes) }
     ensures unwritten { result ≡ Err fault.NoMemory
         → IsUnwritten D.seen D.may_leave D.size disk.old disk.new }
-    ensures fit { (kind : Option Kind) → IfOk result (λ f. all_kept_by kind f.records.items ≡ true) }
+    ensures fit { (kind : Option Kind)
+        → IfOk result (λ f. all_kept_by kind f.records.items ≡ true) }
     ensures gates { IfOk result (λ f. length f.gates.items ≡ length f.records.items + 1) }
     ensures gate { IfOk result (λ f. f.gate < D.size disk.new) }
     ensures tells { is_some (D.seen disk.new) ≡ is_some (D.seen disk.old) }

@@ -42,7 +42,8 @@ fn append_live<D: Disk>(
     ensures tells { is_some (D.seen disk.new) ≡ is_some (D.seen disk.old) }
     ensures later { D.faults disk.old ≤ D.faults disk.new }
     ensures still { (IsErrOf result KeepFault.Failed → ⊥) → D.faults disk.new ≡ D.faults disk.old }
-    ensures failed { IsErrOf result KeepFault.Failed → Rises (D.faults disk.old) (D.faults disk.new) }
+    ensures failed { IsErrOf result KeepFault.Failed
+        → Rises (D.faults disk.old) (D.faults disk.new) }
     ensures no_memory { IsErrOf result KeepFault.NoMemory → disk.new ≡ disk.old }
 {
     let bytes = match body_of(alloc, what) {
@@ -146,7 +147,8 @@ pub(crate) fn append_noted<D: Disk>(
         (λ next. next < (if second_lives then D.size second.new else D.size first.new)) }
     ensures place { (old : List Record) (gen : Option ℕ)
         → gate ≡ length (front_of gen ++ frames (payloads old))
-        → IfOk result (λ next. next ≡ length (front_of gen ++ frames (payloads (old ++ what.now ∷ [])))) }
+        → IfOk result
+        (λ next. next ≡ length (front_of gen ++ frames (payloads (old ++ what.now ∷ [])))) }
     ensures no_memory { IsErrOf result KeepFault.NoMemory
         → (first.new ≡ first.old) × (second.new ≡ second.old) }
     ensures first_tells { is_some (D.seen first.new) ≡ is_some (D.seen first.old) }

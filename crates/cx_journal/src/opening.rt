@@ -90,7 +90,8 @@ fn choose(first: Option<u8>, second: Option<u8>) -> Result<bool, u8>
 /// Whether a disk has at most two bytes that are no open gate with something after it.
 pub(crate) fn is_blank<D: Disk>(disk: &mut D) -> Result<bool, Failed>
     ensures yes { (file : List ℕ) → D.seen disk.old ≡ Some file → result ≡ Ok true → IsBlank file }
-    ensures no { (file : List ℕ) → D.seen disk.old ≡ Some file → result ≡ Ok false → IsBlank file → ⊥ }
+    ensures no { (file : List ℕ) → D.seen disk.old ≡ Some file → result ≡ Ok false
+        → IsBlank file → ⊥ }
     ensures long { result ≡ Ok false → 2 ≤ D.size disk.old }
     ensures seen { D.seen disk.new ≡ D.seen disk.old }
     ensures size { D.size disk.new ≡ D.size disk.old }
@@ -124,9 +125,10 @@ fn generations<D: Disk>(first: &mut D, second: &mut D) -> Result<(Option<u8>, Op
     ensures second_size { D.size second.new ≡ D.size second.old }
     ensures first_crash { (c : List ℕ) → D.may_leave first.new c → D.may_leave first.old c }
     ensures second_crash { (c : List ℕ) → D.may_leave second.new c → D.may_leave second.old c }
-    ensures long { IfOk result (λ p. (is_some p.0 ≡ true → 3 ≤ D.size first.old) × (is_some p.1 ≡ true
-        → 3 ≤ D.size second.old)) }
-    ensures first_quiet { LeavesOnly D.moment D.left_since first.old first.new (D.may_leave first.old) }
+    ensures long { IfOk result (λ p. (is_some p.0 ≡ true → 3 ≤ D.size first.old)
+        × (is_some p.1 ≡ true → 3 ≤ D.size second.old)) }
+    ensures first_quiet { LeavesOnly D.moment D.left_since first.old first.new
+        (D.may_leave first.old) }
     ensures second_quiet { LeavesOnly D.moment D.left_since second.old second.new
         (D.may_leave second.old) }
     ensures first_later { D.faults first.old ≤ D.faults first.new }
@@ -158,7 +160,8 @@ pub(crate) fn find_live<D: Disk>(first: &mut D, second: &mut D) -> Result<Live, 
     ensures second_size { D.size second.new ≡ D.size second.old }
     ensures first_crash { (c : List ℕ) → D.may_leave first.new c → D.may_leave first.old c }
     ensures second_crash { (c : List ℕ) → D.may_leave second.new c → D.may_leave second.old c }
-    ensures first_quiet { LeavesOnly D.moment D.left_since first.old first.new (D.may_leave first.old) }
+    ensures first_quiet { LeavesOnly D.moment D.left_since first.old first.new
+        (D.may_leave first.old) }
     ensures second_quiet { LeavesOnly D.moment D.left_since second.old second.new
         (D.may_leave second.old) }
     ensures sound { IfOk result (λ l. IsGeneration l.generation) }

@@ -117,7 +117,8 @@ pub(crate) fn read_both<D: Disk>(
         → HasImage D.seen kind first.old second.old records → IfErr result (λ e. IsOutside e) }
 
     // What a read gives keeps its records, or its break, also where the call fails.
-    ensures records { seen_pair_records D.seen first.new second.new ≡ seen_pair_records D.seen first.old second.old }
+    ensures records { seen_pair_records D.seen first.new second.new
+        ≡ seen_pair_records D.seen first.old second.old }
     ensures same { (a b c d : List ℕ) → D.seen first.old ≡ Some a → D.seen second.old ≡ Some b
         → D.seen first.new ≡ Some c → D.seen second.new ≡ Some d → SamePair c d a b }
 

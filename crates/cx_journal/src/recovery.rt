@@ -25,7 +25,8 @@ pub(crate) fn zeros(alloc: Global, len: usize) -> Result<Vec<u8>, NoMemory>
 /// Reads the whole disk into a vector of its length.
 pub(crate) fn fill<D: Disk>(disk: &mut D, bytes: &mut Vec<u8>) -> Result<(), Failed>
     requires { length bytes.old.items ≡ D.size disk.old }
-    ensures bytes { (file : List ℕ) → D.seen disk.old ≡ Some file → OnOk result (bytes.new.items ≡ file) }
+    ensures bytes { (file : List ℕ) → D.seen disk.old ≡ Some file
+        → OnOk result (bytes.new.items ≡ file) }
     ensures length { length bytes.new.items ≡ length bytes.old.items }
     ensures seen { D.seen disk.new ≡ D.seen disk.old }
     ensures size { D.size disk.new ≡ D.size disk.old }
@@ -47,23 +48,29 @@ pub(crate) fn read_disk<D: Disk>(
     ensures found { (file : List ℕ) → D.seen disk.old ≡ Some file
         → IfOk result (λ f. image kind file ≡ Ok f.records.items) }
     ensures at_rest { (file : List ℕ) → D.seen disk.old ≡ Some file
-        → IfOk result (λ f. IsAtRest D.seen D.may_leave disk.new f.gate (payloads f.records.items)) }
+        → IfOk result
+        (λ f. IsAtRest D.seen D.may_leave disk.new f.gate (payloads f.records.items)) }
     ensures fit { IfOk result (λ f. all_kept_by kind f.records.items ≡ true) }
     ensures gates { IfOk result (λ f. f.gates.items ≡ gates_from 0 (payloads f.records.items)) }
-    ensures broken { (file : List ℕ) → D.seen disk.old ≡ Some file → IfErr result (IsFaultOf kind file) }
+    ensures broken { (file : List ℕ) → D.seen disk.old ≡ Some file
+        → IfErr result (IsFaultOf kind file) }
 
     // What a read gives keeps its image, also where the call fails.
-    ensures same { (file now : List ℕ) → D.seen disk.old ≡ Some file → D.seen disk.new ≡ Some now → SameImage now file }
+    ensures same { (file now : List ℕ) → D.seen disk.old ≡ Some file → D.seen disk.new ≡ Some now
+        → SameImage now file }
 
     // A crash in the call leaves what one before it might have left, or bytes with the same image.
     ensures any_moment { (file : List ℕ) → D.seen disk.old ≡ Some file
-        → LeavesOnly D.moment D.left_since disk.old disk.new (λ c. D.may_leave disk.old c ⊎ SameImage c file) }
+        → LeavesOnly D.moment D.left_since disk.old disk.new
+        (λ c. D.may_leave disk.old c ⊎ SameImage c file) }
     ensures gate { IfOk result (λ f. f.gate < D.size disk.new) }
     ensures tells { is_some (D.seen disk.new) ≡ is_some (D.seen disk.old) }
     ensures later { D.faults disk.old ≤ D.faults disk.new }
     ensures still { (IsErrOf result OpenFault.Failed → ⊥) → D.faults disk.new ≡ D.faults disk.old }
-    ensures failed { IsErrOf result OpenFault.Failed → Rises (D.faults disk.old) (D.faults disk.new) }
-    ensures unwritten { IsErrOf result OpenFault.NoMemory → IsUnwritten D.seen D.may_leave D.size disk.old disk.new }
+    ensures failed { IsErrOf result OpenFault.Failed
+        → Rises (D.faults disk.old) (D.faults disk.new) }
+    ensures unwritten { IsErrOf result OpenFault.NoMemory
+        → IsUnwritten D.seen D.may_leave D.size disk.old disk.new }
 {
     match disk.sync() {
         Ok(()) => {}

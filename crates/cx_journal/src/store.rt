@@ -69,7 +69,8 @@ impl<D: Disk> Keeper for RecordStore<D> {
 }
 
 impl<D: Disk> Renew for RecordStore<D> {
-    ghost renew_gives = { λ old records answer new. IsStoreChange D.Disk old (Renewal records) answer new };
+    ghost renew_gives = { λ old records answer new.
+        IsStoreChange D.Disk old (Renewal records) answer new };
 
     ghost renew_is = { λ old records answer new given. store_change_is
         (record {

@@ -138,7 +138,8 @@ impl<D: Disk> Twin<D> {
             (λ p. (D.faults p.0.first ≡ D.faults first) × (D.faults p.0.second ≡ D.faults second))
             (λ e. (e.0 ≡ fault.Failed → ⊥)
             → (D.faults e.1 ≡ D.faults first) × (D.faults e.2 ≡ D.faults second)) }
-        ensures failed { IfErr result (λ e. e.0 ≡ fault.Failed → OneRises D.faults first second e.1 e.2) }
+        ensures failed { IfErr result
+            (λ e. e.0 ≡ fault.Failed → OneRises D.faults first second e.1 e.2) }
 
         // Out of memory, nothing was written.
         ensures first_unwritten { IfErr result
@@ -177,13 +178,13 @@ impl<D: Disk> Twin<D> {
         ensures kept { BothTell D.seen self.old.first self.old.second
             → OnOk result (seen_pair_records D.seen self.new.first self.new.second ≡ records.now) }
         ensures lasts { BothTell D.seen self.old.first self.old.second
-            → OnOk result ((a b : List ℕ) → D.may_leave self.new.first a → D.may_leave self.new.second b
-            → IsPairImageOf records.now a b) }
+            → OnOk result ((a b : List ℕ) → D.may_leave self.new.first a
+            → D.may_leave self.new.second b → IsPairImageOf records.now a b) }
 
         // A crash at any moment of the call leaves the old list or the new one.
         ensures any_moment { BothTell D.seen self.old.first self.old.second
-            → LeavesTwo D.moment D.left_since self.old.first self.old.second self.new.first self.new.second
-            (seen_pair_records D.seen self.old.first self.old.second) records.now }
+            → LeavesTwo D.moment D.left_since self.old.first self.old.second self.new.first
+            self.new.second (seen_pair_records D.seen self.old.first self.old.second) records.now }
         ensures old_or_new { BothTell D.seen self.old.first self.old.second
             → IsErrOf result KeepFault.Failed
             → (seen_pair_records D.seen self.new.first self.new.second
@@ -238,13 +239,15 @@ impl<D: Disk> Twin<D> {
             → OnOk result (seen_pair_records D.seen self.new.first self.new.second
             ≡ seen_pair_records D.seen self.old.first self.old.second ++ what.now ∷ []) }
         ensures lasts { BothTell D.seen self.old.first self.old.second
-            → OnOk result ((a b : List ℕ) → D.may_leave self.new.first a → D.may_leave self.new.second b
-            → IsPairImageOf (seen_pair_records D.seen self.old.first self.old.second ++ what.now ∷ []) a b) }
+            → OnOk result
+            ((a b : List ℕ) → D.may_leave self.new.first a → D.may_leave self.new.second b
+            → IsPairImageOf (seen_pair_records D.seen self.old.first self.old.second ++ what.now
+            ∷ []) a b) }
 
         // A crash at any moment of the call leaves the list from before it, or that list with the record.
         ensures any_moment { BothTell D.seen self.old.first self.old.second
-            → LeavesTwo D.moment D.left_since self.old.first self.old.second self.new.first self.new.second
-            (seen_pair_records D.seen self.old.first self.old.second)
+            → LeavesTwo D.moment D.left_since self.old.first self.old.second self.new.first
+            self.new.second (seen_pair_records D.seen self.old.first self.old.second)
             (seen_pair_records D.seen self.old.first self.old.second ++ what.now ∷ []) }
         ensures lost_or_kept { BothTell D.seen self.old.first self.old.second
             → IsErrOf result KeepFault.Failed
@@ -293,7 +296,8 @@ impl<D: Disk> Twin<D> {
     /// bytes of both are known.
     pub fn recover_records(&mut self) -> Result<Vec<Record>, OpenFault>
         ensures list { BothTell D.seen self.old.first self.old.second
-            → IfOk result (λ records. records.items ≡ seen_pair_records D.seen self.old.first self.old.second) }
+            → IfOk result
+            (λ records. records.items ≡ seen_pair_records D.seen self.old.first self.old.second) }
         ensures ranges { IfOk result (λ records. all_kept_by None records.items ≡ true) }
         ensures same { seen_pair_records D.seen self.new.first self.new.second
             ≡ seen_pair_records D.seen self.old.first self.old.second }
@@ -302,9 +306,10 @@ impl<D: Disk> Twin<D> {
 
         // A crash in the call leaves what one before it might have left, or two files with the same records or break.
         ensures any_moment { BothTell D.seen self.old.first self.old.second
-            → LeavesSame D.may_leave D.moment D.left_since self.old.first self.old.second self.new.first
-            self.new.second }
-        ensures never { BothTell D.seen self.old.first self.old.second → IfErr result (λ e. IsOutside e) }
+            → LeavesSame D.may_leave D.moment D.left_since self.old.first self.old.second
+            self.new.first self.new.second }
+        ensures never { BothTell D.seen self.old.first self.old.second
+            → IfErr result (λ e. IsOutside e) }
         ensures first_tells { is_some (D.seen self.new.first) ≡ is_some (D.seen self.old.first) }
         ensures second_tells { is_some (D.seen self.new.second) ≡ is_some (D.seen self.old.second) }
         ensures first_later { D.faults self.old.first ≤ D.faults self.new.first }
@@ -352,8 +357,8 @@ impl<D: Disk> Twin<D> {
             ≡ seen_pair_records D.seen self.old.first self.old.second }
         ensures whole { OnOk result (self.new.whole ≡ true) }
         ensures any_moment { BothTell D.seen self.old.first self.old.second
-            → LeavesSame D.may_leave D.moment D.left_since self.old.first self.old.second self.new.first
-            self.new.second }
+            → LeavesSame D.may_leave D.moment D.left_since self.old.first self.old.second
+            self.new.first self.new.second }
         ensures first_tells { is_some (D.seen self.new.first) ≡ is_some (D.seen self.old.first) }
         ensures second_tells { is_some (D.seen self.new.second) ≡ is_some (D.seen self.old.second) }
         ensures first_later { D.faults self.old.first ≤ D.faults self.new.first }
@@ -361,7 +366,8 @@ impl<D: Disk> Twin<D> {
         ensures still { (IsErrOf result KeepFault.Failed → ⊥)
             → (D.faults self.new.first ≡ D.faults self.old.first)
             × (D.faults self.new.second ≡ D.faults self.old.second) }
-        ensures failed { IsErrOf result KeepFault.Failed → BothTell D.seen self.old.first self.old.second
+        ensures failed { IsErrOf result KeepFault.Failed
+            → BothTell D.seen self.old.first self.old.second
             → OneRises D.faults self.old.first self.old.second self.new.first self.new.second }
         ensures counted { self.new.faults ≡ count_append result self.old.faults }
     {
@@ -391,7 +397,8 @@ impl<D: Disk> Twin<D> {
         // It is as many bytes from the start as the generation and the records before it take.
         ensures place { self.now.whole ≡ true → BothTell D.seen self.now.first self.now.second
             → result ≡ length (front_of self.now.generation
-            ++ frames (payloads (take index (seen_pair_records D.seen self.now.first self.now.second)))) }
+            ++ frames (payloads (take index
+            (seen_pair_records D.seen self.now.first self.now.second)))) }
     {
         gate_of(&self.gates, index)
     }

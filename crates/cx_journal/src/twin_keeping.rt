@@ -15,8 +15,8 @@ impl<D: Disk> Keeper for Twin<D> {
 
     ghost faults = { λ t. t.faults };
 
-    ghost append_gives = { λ old r answer new. IsTwinChange D.seen D.may_leave D.moment D.left_since D.faults
-        old (Append r) answer new };
+    ghost append_gives = { λ old r answer new.
+        IsTwinChange D.seen D.may_leave D.moment D.left_since D.faults old (Append r) answer new };
 
     ghost append_is = { λ old r answer new given. given.changes };
 
@@ -38,8 +38,8 @@ impl<D: Disk> Keeper for Twin<D> {
 }
 
 impl<D: Disk> Renew for Twin<D> {
-    ghost renew_gives = { λ old records answer new. IsTwinChange D.seen D.may_leave D.moment D.left_since D.faults
-        old (Renewal records) answer new };
+    ghost renew_gives = { λ old records answer new. IsTwinChange D.seen D.may_leave D.moment
+        D.left_since D.faults old (Renewal records) answer new };
 
     ghost renew_is = { λ old records answer new given. given.changes };
 

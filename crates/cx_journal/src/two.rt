@@ -39,7 +39,8 @@ pub(crate) fn renew_two<D: Disk>(
     // A crash at any moment of any device call leaves the old records or the new ones.
     ensures any_moment { (old : List Record)
         → TwoRest D.seen D.may_leave second_lives live_generation old first.old second.old
-        → LeavesTwo D.moment D.left_since first.old second.old first.new second.new old records.now }
+        → LeavesTwo D.moment D.left_since first.old second.old first.new second.new old
+        records.now }
     ensures generation { IfOk result (λ r. r.generation < 3) }
     ensures size { IfOk result
         (λ r. r.gate < (if second_lives then D.size first.new else D.size second.new)) }

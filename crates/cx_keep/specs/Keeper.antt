@@ -23,7 +23,8 @@ list_after list (Renewal records) = records
 
 -- Ok: the list after the change, where what is kept is known. Failed, exactly where the count of faults rose: the list, or the
 -- list after the change. Out of memory: the list.
-pub record IsKeeperChange {K : Type 0} (tells : K → Bool) (kept : K → List Record) (faults : K → ℕ) (old : K) (change : KeeperChange) (answer : Result (Unit {0}) KeepFault) (new : K) : Type 0 where
+pub record IsKeeperChange {K : Type 0} (tells : K → Bool) (kept : K → List Record) (faults : K → ℕ) (old : K) (change : KeeperChange)
+    (answer : Result (Unit {0}) KeepFault) (new : K) : Type 0 where
   pub ok : answer ≡ Ok tt → tells old ≡ true → kept new ≡ list_after (kept old) change
   pub failed : answer ≡ Err Failed → (kept new ≡ kept old) ⊎ (kept new ≡ list_after (kept old) change)
   pub cause : answer ≡ Err Failed → Rises (faults old) (faults new)

@@ -92,7 +92,8 @@ pub trait Keeper {
     /// Reads the records again, which changes none of them. `Failed` comes exactly where the count of faults rose, and
     /// `NotJournal` never where what it keeps is known.
     fn recover(&mut self) -> Result<Vec<Record>, OpenFault>
-        ensures list { IfOk result (λ records. tells self.old ≡ true → records.items ≡ kept self.old) }
+        ensures list { IfOk result
+            (λ records. tells self.old ≡ true → records.items ≡ kept self.old) }
         ensures ranges { IfOk result (λ records. IsTrue (all_fit records.items)) }
         ensures same { kept self.new ≡ kept self.old }
         ensures tells_same { tells self.new ≡ tells self.old }
@@ -118,7 +119,8 @@ pub trait Renew: Keeper {
         ensures gives { renew_gives self.old records.now result self.new }
         ensures tells_same { Self.Keeper.tells self.new ≡ Self.Keeper.tells self.old };
 
-    ghost renew_is: { (old : Self) (records : List Record) (answer : Result (Unit {0}) KeepFault) (new : Self)
-        → renew_gives old records answer new
-        → IsKeeperChange Self.Keeper.tells Self.Keeper.kept Self.Keeper.faults old (Renewal records) answer new };
+    ghost renew_is: { (old : Self) (records : List Record) (answer : Result (Unit {0}) KeepFault)
+        (new : Self) → renew_gives old records answer new
+        → IsKeeperChange Self.Keeper.tells Self.Keeper.kept Self.Keeper.faults old (Renewal records)
+        answer new };
 }

@@ -1,5 +1,6 @@
 -- Pieces stay what they are when bytes are added, and spell what was put.
-use Rattle.std.proofs.Common.{◌≡◌, ◌≤◌, ◌+◌, ◌-◌, ◌∙◌, ℕ, zero, suc, true, List, [], ◌∷◌, ◌++◌, Some, Ok, length, take, drop, ap, sym, refl, arith}
+use Rattle.std.proofs.Common.{◌≡◌, ◌≤◌, ◌+◌, ◌-◌, ◌∙◌, ℕ, zero, suc, true, List, [], ◌∷◌, ◌++◌, Some, Ok, length, take, drop, ap, sym, refl}
+use Rattle.std.proofs.Common.{arith}
 use Rattle.std.specs.List.{slice_get}
 use Rattle.std.proofs.lemmas.List.{drop-append-le, take-append-le, length-append, length-drop, map-append}
 use Rattle.std.proofs.Math.Seq.{drop-append_seam, take-length}
@@ -11,8 +12,8 @@ use Rattle.cx_keeper.specs.Pieces.{ArePieces, IsPiece, IsPut, bytes_at, record_a
 use Rattle.cx_keeper.specs.declared.records.Piece.{Piece}
 
 -- the bytes of a record after others, as a piece
-pub put : (r : Record) → fits r ≡ true → (old new : List ℕ) (from size : ℕ) → new ≡ old ++ spelling r → from ≡ length old → size ≡ length new - from
-    → IsPut r old (record { from = from; size = size }) new
+pub put : (r : Record) → fits r ≡ true → (old new : List ℕ) (from size : ℕ) → new ≡ old ++ spelling r → from ≡ length old
+    → size ≡ length new - from → IsPut r old (record { from = from; size = size }) new
 put r fit old new from size bytes begins long =
     let p : Piece = record { from = from; size = size } in
     let all : length new ≡ length old + length (spelling r) = ap length bytes ∙ length-append old (spelling r) in
@@ -31,7 +32,8 @@ module _ (bytes more : List ℕ) where
   same_bytes : (p : Piece) → p.from + p.size ≤ length bytes → bytes_at (bytes ++ more) p ≡ bytes_at bytes p
   same_bytes p lies =
       let size : length (drop p.from bytes) ≡ length bytes - p.from = length-drop p.from bytes in
-      ap (take p.size) (drop-append-le p.from bytes more (omega (arith, lies))) ∙ take-append-le p.size (drop p.from bytes) more (omega (arith, lies, size))
+      ap (take p.size) (drop-append-le p.from bytes more (omega (arith, lies)))
+      ∙ take-append-le p.size (drop p.from bytes) more (omega (arith, lies, size))
 
   still_piece : (p : Piece) → IsPiece bytes p → IsPiece (bytes ++ more) p
   still_piece p h =
@@ -54,13 +56,16 @@ ArePieces-push bytes [] p h k = (k, tt)
 ArePieces-push bytes (q ∷ ps) p h k = (h.0, ArePieces-push bytes ps p h.1 k)
 
 -- one more piece, which was put
-pub pieces_more : (r : Record) (old new : List ℕ) (ps : List Piece) (p : Piece) → ArePieces old ps → IsPut r old p new → ArePieces new (ps ++ p ∷ [])
+pub pieces_more : (r : Record) (old new : List ℕ) (ps : List Piece) (p : Piece) → ArePieces old ps → IsPut r old p new
+    → ArePieces new (ps ++ p ∷ [])
 pieces_more r old new ps p h k = ArePieces-push new ps p (rw k.bytes (still_pieces old (spelling r) ps h)) k.piece
 
-pub records_more : (r : Record) (old new : List ℕ) (ps : List Piece) (p : Piece) → ArePieces old ps → IsPut r old p new → records_at new (ps ++ p ∷ []) ≡ records_at old ps ++ r ∷ []
+pub records_more : (r : Record) (old new : List ℕ) (ps : List Piece) (p : Piece) → ArePieces old ps → IsPut r old p new
+    → records_at new (ps ++ p ∷ []) ≡ records_at old ps ++ r ∷ []
 records_more r old new ps p h k =
     let before : records_at new ps ≡ records_at old ps = rw k.bytes (same_records old (spelling r) ps h) in
-    map-append (λ (q : Piece). record_at new q) ps (p ∷ []) ∙ ap (λ l. l ++ record_at new p ∷ []) before ∙ ap (λ x. records_at old ps ++ x ∷ []) k.what
+    map-append (λ (q : Piece). record_at new q) ps (p ∷ []) ∙ ap (λ l. l ++ record_at new p ∷ []) before
+    ∙ ap (λ x. records_at old ps ++ x ∷ []) k.what
 
 -- each piece of several
 pub piece_at : (bytes : List ℕ) (ps : List Piece) (i : ℕ) (p : Piece) → ArePieces bytes ps → slice_get ps i ≡ Some p → IsPiece bytes p

@@ -1,5 +1,6 @@
 -- The record that was kept last.
-use Rattle.std.proofs.Common.{◌≡◌, ◌≤◌, ◌+◌, ℕ, zero, suc, true, List, [], ◌∷◌, Option, Result, Ok, Err, length, drop, option_to_list, refl, arith}
+use Rattle.std.proofs.Common.{◌≡◌, ◌≤◌, ◌+◌, ℕ, zero, suc, true, List, [], ◌∷◌, Option, Result, Ok, Err, length, drop, option_to_list, refl}
+use Rattle.std.proofs.Common.{arith}
 use Rattle.std.specs.Prelude.{IfOk}
 use Rattle.std.specs.List.{slice_get}
 use Rattle.std.proofs.lemmas.Bool.{and_parts}
@@ -15,7 +16,8 @@ one_left (x ∷ []) zero l = refl
 one_left (x ∷ y ∷ xs) zero l = absurd (omega (arith, l))
 one_left (x ∷ xs) (suc n) l = one_left xs n (omega (arith, l))
 
-pub kept_last : {A E : Type 0} (xs : List A) (n : ℕ) (found : Result (Option A) E) → length xs ≤ n + 1 → IfOk found (λ r. r ≡ slice_get xs n) → IfOk found (λ r. option_to_list r ≡ drop n xs)
+pub kept_last : {A E : Type 0} (xs : List A) (n : ℕ) (found : Result (Option A) E) → length xs ≤ n + 1
+    → IfOk found (λ r. r ≡ slice_get xs n) → IfOk found (λ r. option_to_list r ≡ drop n xs)
 kept_last xs n (Ok r) l h = rw h (one_left xs n l)
 kept_last xs n (Err e) l h = tt
 
@@ -25,6 +27,7 @@ fit_from xs zero h = h
 fit_from [] (suc n) h = h
 fit_from (x ∷ xs) (suc n) h = fit_from xs n (and_parts (fits x) (all_fit xs) h).1
 
-pub last_fits : {E : Type 0} (xs : List Record) (n : ℕ) (found : Result (Option Record) E) → all_fit xs ≡ true → IfOk found (λ r. option_to_list r ≡ drop n xs) → IfOk found (λ r. all_fit (option_to_list r) ≡ true)
+pub last_fits : {E : Type 0} (xs : List Record) (n : ℕ) (found : Result (Option Record) E) → all_fit xs ≡ true
+    → IfOk found (λ r. option_to_list r ≡ drop n xs) → IfOk found (λ r. all_fit (option_to_list r) ≡ true)
 last_fits xs n (Ok r) all h = rw h (fit_from xs n all)
 last_fits xs n (Err e) all h = tt

@@ -50,26 +50,62 @@ cut_of k = k.cut
 abbrev pub faults_of : MemKeeperState → ℕ
 faults_of k = k.faults
 
-cut_at_is : (cut : Cut) (old : MemKeeperState) (change : KeeperChange) (new : MemKeeperState) → is_left_by_cut cut old (list_after old.kept change) new → IsKeeperChange tells_of kept_of faults_of old change (Err Failed) new
+cut_at_is : (cut : Cut) (old : MemKeeperState) (change : KeeperChange) (new : MemKeeperState)
+    → is_left_by_cut cut old (list_after old.kept change) new → IsKeeperChange tells_of kept_of faults_of old change (Err Failed) new
 cut_at_is Whole old change new h = absurd h
 cut_at_is Torn old change new h =
     let e = ap faults_of h in
-    record { ok = λ e. cc; failed = λ _. inl (ap kept_of h); cause = λ _. rw e (one_more_rises old.faults); no_memory = λ e. cc; tells_same = refl; still = λ no. absurd (no refl); later = rw e (one_more_later old.faults) }
+    record {
+      ok = λ e. cc;
+      failed = λ _. inl (ap kept_of h);
+      cause = λ _. rw e (one_more_rises old.faults);
+      no_memory = λ e. cc;
+      tells_same = refl;
+      still = λ no. absurd (no refl);
+      later = rw e (one_more_later old.faults);
+    }
 cut_at_is Kept old change new h =
     let e = ap faults_of h in
-    record { ok = λ e. cc; failed = λ _. inr (ap kept_of h); cause = λ _. rw e (one_more_rises old.faults); no_memory = λ e. cc; tells_same = refl; still = λ no. absurd (no refl); later = rw e (one_more_later old.faults) }
+    record {
+      ok = λ e. cc;
+      failed = λ _. inr (ap kept_of h);
+      cause = λ _. rw e (one_more_rises old.faults);
+      no_memory = λ e. cc;
+      tells_same = refl;
+      still = λ no. absurd (no refl);
+      later = rw e (one_more_later old.faults);
+    }
 
-mem_is : (old : MemKeeperState) (change : KeeperChange) (answer : Result (Unit {0}) KeepFault) (new : MemKeeperState) → mem_gives old change answer new → IsKeeperChange tells_of kept_of faults_of old change answer new
+mem_is : (old : MemKeeperState) (change : KeeperChange) (answer : Result (Unit {0}) KeepFault) (new : MemKeeperState)
+    → mem_gives old change answer new → IsKeeperChange tells_of kept_of faults_of old change answer new
 mem_is old change (Ok u) new h =
     let e = ap faults_of h.1 in
-    record { ok = λ _ _. ap kept_of h.1; failed = λ e. cc; cause = λ e. cc; no_memory = λ e. cc; tells_same = refl; still = λ _. e; later = omega arith }
+    record {
+      ok = λ _ _. ap kept_of h.1;
+      failed = λ e. cc;
+      cause = λ e. cc;
+      no_memory = λ e. cc;
+      tells_same = refl;
+      still = λ _. e;
+      later = omega arith;
+    }
 mem_is old change (Err Failed) new h = cut_at_is old.cut old change new h
 mem_is old change (Err NoMemory) new h =
     let e = ap faults_of h in
-    record { ok = λ e. cc; failed = λ e. cc; cause = λ e. cc; no_memory = λ _. ap kept_of h; tells_same = refl; still = λ _. e; later = omega arith }
+    record {
+      ok = λ e. cc;
+      failed = λ e. cc;
+      cause = λ e. cc;
+      no_memory = λ _. ap kept_of h;
+      tells_same = refl;
+      still = λ _. e;
+      later = omega arith;
+    }
 
-pub mem_append_is : (old : MemKeeperState) (r : Record) (answer : Result (Unit {0}) KeepFault) (new : MemKeeperState) → mem_append_gives old r answer new → IsAppend tells_of kept_of faults_of old r answer new
+pub mem_append_is : (old : MemKeeperState) (r : Record) (answer : Result (Unit {0}) KeepFault) (new : MemKeeperState)
+    → mem_append_gives old r answer new → IsAppend tells_of kept_of faults_of old r answer new
 mem_append_is old r answer new h = mem_is old (Append r) answer new h
 
-pub mem_renew_is : (old : MemKeeperState) (records : List Record) (answer : Result (Unit {0}) KeepFault) (new : MemKeeperState) → mem_renew_gives old records answer new → IsKeeperChange tells_of kept_of faults_of old (Renewal records) answer new
+pub mem_renew_is : (old : MemKeeperState) (records : List Record) (answer : Result (Unit {0}) KeepFault) (new : MemKeeperState)
+    → mem_renew_gives old records answer new → IsKeeperChange tells_of kept_of faults_of old (Renewal records) answer new
 mem_renew_is old records answer new h = mem_is old (Renewal records) answer new h

@@ -27,7 +27,8 @@ impl Model for MemKeeper {
 
     ghost Value = { MemKeeperState };
 
-    ghost view = { λ keeper. record { kept = keeper.kept; cut = keeper.cut; faults = keeper.faults } };
+    ghost view = { λ keeper.
+        record { kept = keeper.kept; cut = keeper.cut; faults = keeper.faults } };
 
     ghost invariant = { λ keeper. IsTrue (all_fit keeper.kept) };
 }

@@ -9,4 +9,5 @@ pub behind_both : (before : List Command) (map : List Pair) (cs ds : List Comman
 behind_both before map [] ds = rw (append-nil before) refl
 behind_both before map (c ∷ cs) ds =
     let next = if acts before c then map_after map c.op else map in
-    behind_both (before ++ c ∷ []) next cs ds ∙ ap (λ (list : List Command). map_behind list (map_behind (before ++ c ∷ []) next cs) ds) (append_assoc before (c ∷ []) cs)
+    behind_both (before ++ c ∷ []) next cs ds
+    ∙ ap (λ (list : List Command). map_behind list (map_behind (before ++ c ∷ []) next cs) ds) (append_assoc before (c ∷ []) cs)

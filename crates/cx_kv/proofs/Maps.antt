@@ -55,7 +55,8 @@ pub behind_place : (key : List ℕ) (map : List Pair) (place : ℕ) → IsRising
     → IsBeforeAll key (drop place map)
 behind_place key [] zero h behind other = tt
 behind_place key [] (suc place) h behind other = tt
-behind_place key (p ∷ map) zero h behind other = IsBeforeAll-rising key p map h (behind zero p (omega arith) (omega arith)) (other (omega arith) p)
+behind_place key (p ∷ map) zero h behind other =
+    IsBeforeAll-rising key p map h (behind zero p (omega arith) (omega arith)) (other (omega arith) p)
 behind_place key (p ∷ map) (suc place) h behind other =
     behind_place key map place h.1 (λ k d low high. behind (suc k) d (omega arith) (omega arith)) (λ l. other (omega arith))
 
@@ -68,7 +69,8 @@ AllBefore-tail key p map place h = λ k d low high. h (suc k) d (omega arith) (o
 first_other : (key : List ℕ) (p : Pair) (map : List Pair) (place : ℕ)
     → AllWithin (λ p. is_less p.key key ≡ true) (p ∷ map) 0 (suc place)
     → (bytes_eq p.key key ≡ false) × (is_less key p.key ≡ false)
-first_other key p map place h = let less : is_less p.key key ≡ true = h zero p (omega arith) (omega arith) in ((is_less-ne p.key key less).0, is_less-back p.key key less)
+first_other key p map place h = let less : is_less p.key key ≡ true = h zero p (omega arith) (omega arith) in
+    ((is_less-ne p.key key less).0, is_less-back p.key key less)
 
 pub text_at-held : (key : List ℕ) (map : List Pair) (place : ℕ) (d : Pair)
     → AllWithin (λ p. is_less p.key key ≡ true) map 0 place → place < length map
@@ -141,13 +143,14 @@ with_text-free key text (p ∷ map) (suc place) before l behind =
 IsBeforeAll-with_text : (first key text : List ℕ) (map : List Pair) → is_less first key ≡ true → IsBeforeAll first map
     → IsBeforeAll first (with_text key text map)
 IsBeforeAll-with_text first key text [] less h = (less, tt)
-IsBeforeAll-with_text first key text (p ∷ map) less h = elim (cases_Bool (bytes_eq p.key key)) as (λ _. IsBeforeAll first (with_text key text (p ∷ map))) [
-  | inl e ↦ rw e (less, h.1)
-  | inr e ↦ elim (cases_Bool (is_less key p.key)) as (λ _. IsBeforeAll first (with_text key text (p ∷ map))) [
-    | inl f ↦ rw (e, f) (less, h)
-    | inr f ↦ rw (e, f) (h.0, IsBeforeAll-with_text first key text map less h.1)
-  ]
-]
+IsBeforeAll-with_text first key text (p ∷ map) less h =
+    elim (cases_Bool (bytes_eq p.key key)) as (λ _. IsBeforeAll first (with_text key text (p ∷ map))) [
+      | inl e ↦ rw e (less, h.1)
+      | inr e ↦ elim (cases_Bool (is_less key p.key)) as (λ _. IsBeforeAll first (with_text key text (p ∷ map))) [
+        | inl f ↦ rw (e, f) (less, h)
+        | inr f ↦ rw (e, f) (h.0, IsBeforeAll-with_text first key text map less h.1)
+      ]
+    ]
 
 pub rising_with_text : (key text : List ℕ) (map : List Pair) → IsRising map → IsRising (with_text key text map)
 rising_with_text key text [] h = (tt, tt)
@@ -155,17 +158,19 @@ rising_with_text key text (p ∷ map) h = elim (cases_Bool (bytes_eq p.key key))
   | inl e ↦ rw e (subst (λ (k : List ℕ). IsBeforeAll k map) (same_bytes p.key key e) h.0, h.1)
   | inr e ↦ elim (cases_Bool (is_less key p.key)) as (λ _. IsRising (with_text key text (p ∷ map))) [
     | inl f ↦ rw (e, f) ((f, IsBeforeAll-weaker key p.key map f h.0), h)
-    | inr f ↦ rw (e, f) (IsBeforeAll-with_text p.key key text map (is_less-other key p.key f (bytes_ne p.key key e)) h.0, rising_with_text key text map h.1)
+    | inr f ↦ rw (e, f)
+        (IsBeforeAll-with_text p.key key text map (is_less-other key p.key f (bytes_ne p.key key e)) h.0, rising_with_text key text map h.1)
   ]
 ]
 
 IsBeforeAll-without_key : (first key : List ℕ) (map : List Pair) → IsBeforeAll first map
     → IsBeforeAll first (without_key key map)
 IsBeforeAll-without_key first key [] h = tt
-IsBeforeAll-without_key first key (p ∷ map) h = elim (cases_Bool (bytes_eq p.key key)) as (λ _. IsBeforeAll first (without_key key (p ∷ map))) [
-  | inl e ↦ rw e h.1
-  | inr e ↦ rw e (h.0, IsBeforeAll-without_key first key map h.1)
-]
+IsBeforeAll-without_key first key (p ∷ map) h =
+    elim (cases_Bool (bytes_eq p.key key)) as (λ _. IsBeforeAll first (without_key key (p ∷ map))) [
+      | inl e ↦ rw e h.1
+      | inr e ↦ rw e (h.0, IsBeforeAll-without_key first key map h.1)
+    ]
 
 pub rising_without_key : (key : List ℕ) (map : List Pair) → IsRising map → IsRising (without_key key map)
 rising_without_key key [] h = tt

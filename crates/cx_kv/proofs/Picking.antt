@@ -100,8 +100,8 @@ pub picked_set : (list : List Pair) (order : List ℕ) (place d : ℕ) (v : Pair
 picked_set list [] place d v all other l = absurd (omega arith)
 picked_set list (i ∷ order) zero d v all other l =
     rw (get_or-set_same list i v none all.0) (ap (λ (rest : List Pair). v ∷ rest) (set_elsewhere list i v order other))
-picked_set list (j ∷ order) (suc place) d v all other l =
-    rw (get_or-set_other list (get_or order place d) j v none other.0) (ap (λ (rest : List Pair). pair_at list j ∷ rest) (picked_set list order place d v all.1 other.1 (omega arith)))
+picked_set list (j ∷ order) (suc place) d v all other l = rw (get_or-set_other list (get_or order place d) j v none other.0)
+    (ap (λ (rest : List Pair). pair_at list j ∷ rest) (picked_set list order place d v all.1 other.1 (omega arith)))
 
 -- one pair more
 picked_more : (list : List Pair) (v : Pair) (order : List ℕ) → AreBelow (length list) order
@@ -116,9 +116,11 @@ picked_insert list v order place all =
     let f = pair_at (list ++ v ∷ []) in
     let same = picked_more list v order all in
     map-append f (take place order) (length list ∷ drop place order)
-    ∙ ap (λ (front : List Pair). front ++ f (length list) ∷ map f (drop place order)) (sym (take-map f place order) ∙ ap (λ (l : List Pair). take place l) same)
+    ∙ ap (λ (front : List Pair). front ++ f (length list) ∷ map f (drop place order))
+    (sym (take-map f place order) ∙ ap (λ (l : List Pair). take place l) same)
     ∙ ap (λ (p : Pair). take place (picked list order) ++ p ∷ map f (drop place order)) (get_or_push list v none (length list) refl)
-    ∙ ap (λ (rest : List Pair). take place (picked list order) ++ v ∷ rest) (sym (drop-map f place order) ∙ ap (λ (l : List Pair). drop place l) same)
+    ∙ ap (λ (rest : List Pair). take place (picked list order) ++ v ∷ rest)
+    (sym (drop-map f place order) ∙ ap (λ (l : List Pair). drop place l) same)
 
 below_more : (end : ℕ) (order : List ℕ) → AreBelow end order → AreBelow (end + 1) order
 below_more end [] all = tt
@@ -228,7 +230,8 @@ below_inserted list new order places place end v all is there long =
 -- a pair is removed, and the last one moves to its place
 elsewhere_at : (list : List Pair) (order : List ℕ) (place gap : ℕ) → IsRising (picked list order) → place < length order
     → gap ≡ get_or order place gap → IsElsewhere gap (remove order place)
-elsewhere_at list order place gap rising l is = subst (λ (i : ℕ). IsElsewhere i (remove order place)) (sym is) (apart list order place gap rising l)
+elsewhere_at list order place gap rising l is =
+    subst (λ (i : ℕ). IsElsewhere i (remove order place)) (sym is) (apart list order place gap rising l)
 
 pub gap_inside : (end : ℕ) (order : List ℕ) (place gap : ℕ) → gap ≡ get_or order place gap → AreBelow end order
     → place < length order → gap < end
@@ -249,8 +252,8 @@ picked_removed list new order rest after place gap last n ordered l here without
     let back : n - 1 ≡ last = omega (arith, end) in
     rw (renamed_to, without)
     (picked_renamed list new gap last (omega (arith, within, end)) (λ less. moved none (omega (arith, less, end)) ∙ ap (pair_at list) back)
-    (λ k other less. stays k none other (omega (arith, less, end))) (remove order place) (below_rest list order place last n ordered.below long end)
-    (elsewhere_at list order place gap ordered.rising l here)
+    (λ k other less. stays k none other (omega (arith, less, end))) (remove order place)
+    (below_rest list order place last n ordered.below long end) (elsewhere_at list order place gap ordered.rising l here)
     ∙ picked_remove list order place)
 
 pub below_removed : (list new : List Pair) (order rest after : List ℕ) (place gap last n : ℕ) → IsKeyOrder list order

@@ -1,5 +1,6 @@
 -- Pairs behind all others.
-use Rattle.std.proofs.Common.{◌≡◌, ℕ, suc, ◌+◌, ◌<◌, add-one, drop-cons, true, ◌&&◌, List, [], ◌∷◌, ◌++◌, length, drop, get_or, refl, ap, sym, ◌∙◌, append_assoc}
+use Rattle.std.proofs.Common.{◌≡◌, ℕ, suc, ◌+◌, ◌<◌, add-one, drop-cons, true, ◌&&◌, List, [], ◌∷◌, ◌++◌, length, drop, get_or, refl, ap}
+use Rattle.std.proofs.Common.{sym, ◌∙◌, append_assoc}
 use Rattle.std.specs.List.{list_all}
 use Rattle.std.proofs.lemmas.Bool.{and_from, and_parts}
 use Rattle.std.proofs.lemmas.List.Folds.{list_all-append}
@@ -23,7 +24,8 @@ put_last : (map rest : List Pair) (p : Pair) → rises has_lower_key (map ++ p �
 put_last [] rest p rising = refl
 put_last (q ∷ map) rest p rising =
     let parts = and_parts (list_all (has_lower_key q) (map ++ p ∷ rest)) (rises has_lower_key (map ++ p ∷ rest)) rising in
-    let all = and_parts (list_all (has_lower_key q) map) (has_lower_key q p && list_all (has_lower_key q) rest) (sym (list_all-append (has_lower_key q) map (p ∷ rest)) ∙ parts.0) in
+    let all = and_parts (list_all (has_lower_key q) map) (has_lower_key q p && list_all (has_lower_key q) rest)
+    (sym (list_all-append (has_lower_key q) map (p ∷ rest)) ∙ parts.0) in
     let less = (and_parts (has_lower_key q p) (list_all (has_lower_key q) rest) all.1).0 in
     rw ((is_less-ne q.key p.key less).0, is_less-back q.key p.key less) (ap (λ (l : List Pair). q ∷ l) (put_last map rest p parts.1))
 

@@ -36,7 +36,8 @@ impl PairMap {
     pub fn append(&mut self, key: &Key, more: &Text) -> Reply
         requires { 0 < self.old.spare }
         ensures reply { result ≡ reply_appended more.now (text_at key.now self.old.pairs) }
-        ensures pairs { self.new.pairs ≡ map_appended self.old.pairs key.now more.now (text_at key.now self.old.pairs) }
+        ensures pairs { self.new.pairs
+            ≡ map_appended self.old.pairs key.now more.now (text_at key.now self.old.pairs) }
         ensures spare { self.old.spare ≤ self.new.spare + 1 }
     {
         let Some(old) = self.get(key).copied() else {

@@ -32,7 +32,8 @@ pub fn apply_value(
     store: &mut Store,
     value: &Value,
 ) -> Result<(), NoMemory>
-    ensures store { OnOk result (store.new ≡ map_behind before.old store.old (commands_of value.now)) }
+    ensures store { OnOk result
+        (store.new ≡ map_behind before.old store.old (commands_of value.now)) }
     ensures before { OnOk result (before.new ≡ before.old ++ commands_of value.now) }
 {
     match value {

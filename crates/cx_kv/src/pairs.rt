@@ -41,7 +41,8 @@ impl Model for PairMap {
     ghost view = { λ p. record { pairs = picked p.list.items p.order.items; spare = p.spare } };
 
     ghost invariant = { λ p. IsKeyOrder p.list.items p.order.items
-        × HasRoomForPairs (vec_len p.list) (vec_capacity p.list) (vec_len p.order) (vec_capacity p.order) p.spare };
+        × HasRoomForPairs (vec_len p.list) (vec_capacity p.list) (vec_len p.order)
+        (vec_capacity p.order) p.spare };
 }
 
 impl PairMap {
@@ -145,7 +146,8 @@ fn text_in<'a>(list: &'a [Pair], order: &[u32], key: &Key) -> Option<&'a Text>
 fn set_at(list: &mut Vec<Pair>, order: &[u32], place: usize, pair: &Pair)
     requires ordered { IsKeyOrder list.old.items order.now }
     requires inside { place < length order.now }
-    ensures items { list.new.items ≡ slice_set list.old.items (slice_index_or order.now place 0) pair.now }
+    ensures items { list.new.items
+        ≡ slice_set list.old.items (slice_index_or order.now place 0) pair.now }
     ensures len { vec_len list.new ≡ vec_len list.old }
     ensures capacity { vec_capacity list.new ≡ vec_capacity list.old }
 {
@@ -218,8 +220,10 @@ fn remove_at(list: &mut Vec<Pair>, order: &mut Vec<u32>, place: usize) -> Text
     requires ordered { IsKeyOrder list.old.items order.old.items }
     requires inside { place < vec_len order.old }
     requires short { vec_len list.old ≤ 2 ^ 32 }
-    ensures text { (d : Pair) → (slice_index_or (picked list.old.items order.old.items) place d).text ≡ result }
-    ensures pairs { picked list.new.items order.new.items ≡ remove (picked list.old.items order.old.items) place }
+    ensures text { (d : Pair)
+        → (slice_index_or (picked list.old.items order.old.items) place d).text ≡ result }
+    ensures pairs { picked list.new.items order.new.items
+        ≡ remove (picked list.old.items order.old.items) place }
     ensures below { AreBelow (length list.new.items) order.new.items }
     ensures list_len { vec_len list.new ≤ vec_len list.old }
     ensures order_len { vec_len order.new ≤ vec_len order.old }

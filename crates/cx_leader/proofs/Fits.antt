@@ -8,7 +8,8 @@ use Rattle.cx_letter.specs.declared.input.Input.TheVariants as input
 use Rattle.cx_model.specs.declared.states.Mode.{Mode}
 use Rattle.cx_model.specs.declared.states.Mode.TheVariants as mode
 use Rattle.cx_model.specs.Collection.{is_collecting}
-use Rattle.cx_model.specs.Leader.{LeaderDurable, LeaderVolatile, matched_by, match_counted, promise_counted, propose_in, informed_in, set_learnt, leader_takes, leader_row, leader_rules}
+use Rattle.cx_model.specs.Leader.{LeaderDurable, LeaderVolatile, matched_by, match_counted, promise_counted, propose_in, informed_in}
+use Rattle.cx_model.specs.Leader.{set_learnt, leader_takes, leader_row, leader_rules}
 
 abbrev KeepsNone : Outcome LeaderVolatile → Type 0
 KeepsNone o = o.kept ≡ None
@@ -43,9 +44,11 @@ module _ (c : Cluster) (me : RoleId) where
   learnt_none v mode.Leading (Some own) = either_way KeepsNone (is_collecting v.collection.stage) _ _ refl refl
 
   takes_none : (d : LeaderDurable) (v : LeaderVolatile) (from : RoleId) (m : Msg) → KeepsNone (leader_takes c me d v from m)
-  takes_none d v from (msg.MatchB i w es) = grind (arith, counted_none d.own (record v { told = v.told ++ record { matchmaker = from.index; watermark = w; entries = es } ∷ [] }))
+  takes_none d v from (msg.MatchB i w es) =
+      grind (arith, counted_none d.own (record v { told = v.told ++ record { matchmaker = from.index; watermark = w; entries = es } ∷ [] }))
   takes_none d v from (msg.MatchNack i reason other) = grind arith
-  takes_none d v from (msg.Phase1B i cw votes) = grind (arith, promised_none d.own (record v { promises = v.promises ++ record { acceptor = from.index; cw = cw; votes = votes } ∷ [] }))
+  takes_none d v from (msg.Phase1B i cw votes) = grind
+      (arith, promised_none d.own (record v { promises = v.promises ++ record { acceptor = from.index; cw = cw; votes = votes } ∷ [] }))
   takes_none d v from (msg.Nack i promise) = grind arith
   takes_none d v from (msg.Batch commands) = grind (arith, propose_none v commands d.own)
   takes_none d v from (msg.ChosenIn i s) = grind arith

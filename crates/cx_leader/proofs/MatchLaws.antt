@@ -30,7 +30,8 @@ greatest_high (n ∷ ns) k all =
 
 -- what enough replicas hold is a number that one of them reported
 pub held_high : (count k : ℕ) (held : List ℕ) → All (λ n. n ≤ k) held → held_by count held ≤ k
-held_high count k held all = greatest_high (filter (λ n. nat_le count (count_reaching n held)) held) k (All-filter (λ n. nat_le count (count_reaching n held)) (λ x. x ≤ k) held all)
+held_high count k held all = greatest_high (filter (λ n. nat_le count (count_reaching n held)) held) k
+    (All-filter (λ n. nat_le count (count_reaching n held)) (λ x. x ≤ k) held all)
 
 -- ---- names of what was reported
 

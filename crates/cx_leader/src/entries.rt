@@ -43,7 +43,8 @@ fn is_live(entry: &Entry, watermark: Round) -> bool
 
 // The entries from the retirement watermark on, after those of a list.
 fn add_live(live: &mut Vec<Entry>, entries: &[Entry], watermark: Round) -> Result<(), NoMemory>
-    ensures { IfOk result (λ _. live.new.items ≡ live.old.items ++ entries_since watermark entries.now) }
+    ensures { IfOk result
+        (λ _. live.new.items ≡ live.old.items ++ entries_since watermark entries.now) }
 {
     for entry in entries {
         if is_live(entry, watermark) {

@@ -33,7 +33,8 @@ impl Leader {
     pub(crate) fn replica_holds(&mut self, from: RoleId, n: u64) -> Why
         requires replica { from.index < self.old.cluster.replicas }
         requires mark { n ≤ 2 ^ 40 }
-        ensures { let s = self.old in Replies leader_rules s (held_row s.cluster s.volatile from n) result self.new [] }
+        ensures { let s = self.old in Replies leader_rules s (held_row s.cluster s.volatile from n)
+            result self.new [] }
     {
         let place = usize::from(from.index);
         if n <= self.held[place] {

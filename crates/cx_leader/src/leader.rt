@@ -52,10 +52,11 @@ impl Model for Leader {
 
     ghost Value = { Running LeaderDurable LeaderVolatile };
 
-    ghost view = { λ l. leader_view l.cluster l.index l.live l.own l.mode l.seen l.set l.held.items l.told.items l.phase1
-        l.proposals l.collector };
+    ghost view = { λ l. leader_view l.cluster l.index l.live l.own l.mode l.seen l.set l.held.items
+        l.told.items l.phase1 l.proposals l.collector };
 
-    ghost invariant = { λ l. IsLeader l.cluster l.index l.own l.mode l.told.items l.phase1 l.held.items l.collector };
+    ghost invariant = { λ l.
+        IsLeader l.cluster l.index l.own l.mode l.told.items l.phase1 l.held.items l.collector };
 }
 
 impl Leader {
@@ -74,8 +75,8 @@ impl Leader {
         requires names { IsTrue (names self.old.cluster datagram.now) }
         requires empty { out.old.list ≡ [] }
         ensures { let s = self.old in
-            IsReply leader_rules s (leader_takes s.cluster s.me s.durable s.volatile datagram.now.from datagram.now.msg)
-            result self.new out.new.list }
+            IsReply leader_rules s (leader_takes s.cluster s.me s.durable s.volatile
+            datagram.now.from datagram.now.msg) result self.new out.new.list }
     {
         let from = datagram.from();
         match datagram.msg() {

@@ -101,7 +101,8 @@ impl Leader {
     /// A proxy reports that a slot is chosen in this round. A slot below the chosen watermark was forgotten (`Past`).
     pub(crate) fn chosen_in(&mut self, round: Round, slot: u64) -> Result<Why, NoMemory>
         ensures { let s = self.old in
-            IsReply leader_rules s (chosen_in_row s.durable s.volatile round slot) result self.new [] }
+            IsReply leader_rules s (chosen_in_row s.durable s.volatile round slot) result
+            self.new [] }
     {
         if !matches!(self.mode, Mode::Leading) || !is_same(round, round_of(&self.own)) {
             return Ok(Why::Old);

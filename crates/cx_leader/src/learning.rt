@@ -20,8 +20,8 @@ impl Leader {
         requires round { IsTrue (field.round.fits own.now.round) }
         requires empty { out.old.list ≡ [] }
         ensures { let s = self.old in
-            IsReply leader_rules s (set_learnt s.me (record s.volatile { set = set }) mode.Matching (Some own.now))
-            result self.new out.new.list }
+            IsReply leader_rules s (set_learnt s.me (record s.volatile { set = set }) mode.Matching
+            (Some own.now)) result self.new out.new.list }
     {
         out.room(set.ids().len())?;
         self.set = set;
@@ -35,8 +35,8 @@ impl Leader {
         requires round { IsTrue (field.round.fits own.now.round) }
         requires empty { out.old.list ≡ [] }
         ensures { let s = self.old in
-            IsReply leader_rules s (set_learnt s.me (record s.volatile { set = set }) mode.Leading (Some own.now))
-            result self.new out.new.list }
+            IsReply leader_rules s (set_learnt s.me (record s.volatile { set = set }) mode.Leading
+            (Some own.now)) result self.new out.new.list }
     {
         if !matches!(self.collector.stage(), Stage::Collecting) {
             self.set = set;
@@ -76,7 +76,8 @@ impl Leader {
     pub(crate) fn learn(&mut self, set: Set, out: &mut Outbox) -> Result<Why, NoMemory>
         requires empty { out.old.list ≡ [] }
         ensures { let s = self.old in
-            IsReply leader_rules s (sets_row s.me s.durable s.volatile set) result self.new out.new.list }
+            IsReply leader_rules s (sets_row s.me s.durable s.volatile set) result self.new
+            out.new.list }
     {
         if !set.is_above(&self.set) {
             return Ok(Why::Old);

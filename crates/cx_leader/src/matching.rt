@@ -83,7 +83,8 @@ impl Leader {
         requires live { live.now ≡ live_entries (self.old.volatile.told ++ answer ∷ []) }
         requires empty { out.old.list ≡ [] }
         ensures { let s = self.old in let v = leader_with_answer answer s.volatile in
-            IsReply leader_rules s (ask_row s.cluster s.me own.now v live.now) result self.new out.new.list }
+            IsReply leader_rules s (ask_row s.cluster s.me own.now v live.now) result self.new
+            out.new.list }
     {
         let phase1 = Phase1::new(self.alloc, live)?;
         self.told.reserve(1)?;
@@ -124,7 +125,8 @@ impl Leader {
         requires named { IsTrue (is_named self.old.cluster answer) }
         requires empty { out.old.list ≡ [] }
         ensures { let s = self.old in let v = leader_with_answer answer s.volatile in
-            IsReply leader_rules s (match_counted s.cluster s.me s.durable.own v) result self.new out.new.list }
+            IsReply leader_rules s (match_counted s.cluster s.me s.durable.own v) result self.new
+            out.new.list }
     {
         // The list lacks this answer: with f in it, f + 1 have answered.
         if self.told.len() < usize::from(self.cluster.f) {
@@ -141,7 +143,8 @@ impl Leader {
     // Whether a matchmaker is asked in this round: it is of the known set, and enough of these have not answered yet.
     fn awaits(&self, matchmaker: u16, round: Round) -> bool
         ensures { let s = self.now in
-            result ≡ (is_matching s.volatile.mode && is_own s.durable round && is_in matchmaker s.volatile.set) }
+            result ≡ (is_matching s.volatile.mode && is_own s.durable round
+            && is_in matchmaker s.volatile.set) }
     {
         matches!(self.mode, Mode::Matching)
             && is_same(round, round_of(&self.own))
@@ -158,10 +161,11 @@ impl Leader {
         out: &mut Outbox,
     ) -> Result<Why, NoMemory>
         requires empty { out.old.list ≡ [] }
-        requires named { IsTrue (list_all (λ (e : EntryOf). names_entry self.old.cluster e) entries.now) }
+        requires named { IsTrue (list_all (λ (e : EntryOf). names_entry self.old.cluster e)
+            entries.now) }
         ensures { let s = self.old in
-            IsReply leader_rules s (match_b_row s.cluster s.me s.durable s.volatile from round watermark entries.now)
-            result self.new out.new.list }
+            IsReply leader_rules s (match_b_row s.cluster s.me s.durable s.volatile from round
+            watermark entries.now) result self.new out.new.list }
     {
         if !self.awaits(from.index, round) {
             return Ok(Why::Old);

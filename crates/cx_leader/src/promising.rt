@@ -37,8 +37,10 @@ impl Leader {
         requires cw { IsTrue (field.mark.fits cw) }
         requires votes { IsTrue ((field.votes cw).fits votes.now) }
         requires empty { out.old.list ≡ [] }
-        ensures { let s = self.old in let p : Promised = record { acceptor = acceptor; cw = cw; votes = votes.now } in
-            IsReply leader_rules s (promised_row s.cluster s.me own.now s.volatile p) result self.new out.new.list }
+        ensures { let s = self.old in
+            let p : Promised = record { acceptor = acceptor; cw = cw; votes = votes.now } in
+            IsReply leader_rules s (promised_row s.cluster s.me own.now s.volatile p) result
+            self.new out.new.list }
     {
         let Some(phase1) = &self.phase1 else {
             return Ok(Why::Unasked);
@@ -76,8 +78,8 @@ impl Leader {
         requires votes { IsTrue ((field.votes cw).fits votes.now) }
         requires empty { out.old.list ≡ [] }
         ensures { let s = self.old in
-            IsReply leader_rules s (phase1b_row s.cluster s.me s.durable s.volatile from round cw votes.now)
-            result self.new out.new.list }
+            IsReply leader_rules s (phase1b_row s.cluster s.me s.durable s.volatile from round cw
+            votes.now) result self.new out.new.list }
     {
         if !self.asks(round) {
             return Ok(Why::Old);

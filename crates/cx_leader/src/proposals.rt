@@ -64,7 +64,8 @@ impl Slotted<Placed> for BySlot {
 fn placed(alloc: Global, first: u64, values: &[Value]) -> Result<Ring<Placed, BySlot>, NoMemory>
     requires first { first ≤ 2 ^ 40 }
     requires count { length values.now ≤ 32 }
-    ensures { IfOk result (λ list. list ≡ record { first = first; items = placed_from first values.now; room = true }) }
+    ensures { IfOk result (λ list.
+        list ≡ record { first = first; items = placed_from first values.now; room = true }) }
 {
     let mut list = Ring::new(alloc, first);
     list.make_room(alloc)?;
@@ -208,7 +209,8 @@ impl Proposals {
         requires spare { 32 ≤ out.old.spare }
         requires round { IsTrue (field.round.fits own.now.round) }
         ensures list { let p = self.now in OnOk result (out.new.list ≡ out.old.list
-            ++ propose_sends cluster.now leader own.now p.cw (without_known known.now.list p.proposed)) }
+            ++ propose_sends cluster.now leader own.now p.cw
+            (without_known known.now.list p.proposed)) }
         ensures spare { OnOk result (out.old.spare ≤ out.new.spare + 32) }
     {
         for slot in self.slots.cw()..self.slots.next() {
@@ -231,7 +233,8 @@ impl Proposals {
         requires spare { 32 ≤ out.old.spare }
         requires round { IsTrue (field.round.fits own.now.round) }
         ensures list { let p = self.now in
-            OnOk result (out.new.list ≡ out.old.list ++ propose_sends cluster.now leader own.now p.cw p.proposed) }
+            OnOk result (out.new.list
+            ≡ out.old.list ++ propose_sends cluster.now leader own.now p.cw p.proposed) }
         ensures spare { OnOk result (out.old.spare ≤ out.new.spare + 32) }
     {
         let none = KnownSlots::new(alloc, 0);

@@ -15,7 +15,8 @@ impl Leader {
     /// gives it up.
     pub(crate) fn nack(&mut self, round: Round, promise: Round) -> Why
         ensures { let s = self.old in
-            Replies leader_rules s (nack_row s.durable s.volatile round promise) result self.new [] }
+            Replies leader_rules s (nack_row s.durable s.volatile round promise) result
+            self.new [] }
     {
         self.seen = later_round(self.seen, promise);
         if matches!(self.mode, Mode::Idle) || !is_same(round, round_of(&self.own)) {
@@ -36,7 +37,8 @@ impl Leader {
         other: Round,
     ) -> Why
         ensures { let s = self.old in
-            Replies leader_rules s (match_nack_row s.durable s.volatile from round reason other) result self.new [] }
+            Replies leader_rules s (match_nack_row s.durable s.volatile from round reason other)
+            result self.new [] }
     {
         self.seen = later_round(self.seen, other);
         if matches!(self.mode, Mode::Idle)

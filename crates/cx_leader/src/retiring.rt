@@ -28,7 +28,8 @@ impl Leader {
     pub(crate) fn collect(&mut self, out: &mut Outbox) -> Result<Why, NoMemory>
         requires empty { out.old.list ≡ [] }
         ensures { let s = self.old in
-            IsReply leader_rules s (collect_row s.cluster s.me s.durable s.volatile) result self.new out.new.list }
+            IsReply leader_rules s (collect_row s.cluster s.me s.durable s.volatile) result self.new
+            out.new.list }
     {
         if !matches!(self.mode, Mode::Leading) {
             return Ok(Why::Idle);
@@ -92,7 +93,8 @@ impl Leader {
     pub(crate) fn forgotten(&mut self, from: RoleId, round: Round) -> Why
         requires matchmaker { from.index < 64 }
         ensures { let s = self.old in
-            Replies leader_rules s (garbage_b_row s.cluster s.durable s.volatile from round) result self.new [] }
+            Replies leader_rules s (garbage_b_row s.cluster s.durable s.volatile from round) result
+            self.new [] }
     {
         if !self.leads(round)
             || !matches!(self.collector.stage(), Stage::Collecting)

@@ -51,8 +51,8 @@ fn follows(own: Round, round: Round) -> bool
 
 /// Whether a leader with this last round may begin that one with this grid.
 pub fn may_begin(cluster: &Cluster, leader: u16, own: Round, round: Round, grid: &Grid) -> bool
-    ensures { result ≡ (names_round cluster.now round && names_grid cluster.now grid.now && (round.id == leader)
-        && follows own round) }
+    ensures { result ≡ (names_round cluster.now round && names_grid cluster.now grid.now
+        && (round.id == leader) && follows own round) }
 {
     names_round(cluster, round)
         && names_grid(cluster, grid)
@@ -75,8 +75,8 @@ impl Leader {
         requires round { IsTrue (field.round.fits round) }
         requires own { round.id ≡ self.old.me.index }
         ensures { let s = self.old in
-            IsStep K.append_gives K.tells leader_rules s (begin_in s.cluster s.me s.volatile grid.now (Some round))
-            result self.new keeper.old keeper.new out.new.list }
+            IsStep K.append_gives K.tells leader_rules s (begin_in s.cluster s.me s.volatile
+            grid.now (Some round)) result self.new keeper.old keeper.new out.new.list }
     {
         out.room(self.set.ids().len())?;
         // It does nothing when it runs: its contract says that the record has a spelling, the bytes it is stored as.
@@ -106,8 +106,8 @@ impl Leader {
         requires live { self.old.live ≡ true }
         requires empty { out.old.list ≡ [] }
         ensures step { let s = self.old in
-            IsStep K.append_gives K.tells leader_rules s (lead_row s.cluster s.me s.durable s.volatile grid.now)
-            result self.new keeper.old keeper.new out.new.list }
+            IsStep K.append_gives K.tells leader_rules s (lead_row s.cluster s.me s.durable
+            s.volatile grid.now) result self.new keeper.old keeper.new out.new.list }
         ensures fits { let s = self.old in
             MayKeep leader_rules s (lead_row s.cluster s.me s.durable s.volatile grid.now) }
     {
@@ -131,8 +131,8 @@ impl Leader {
         requires live { self.old.live ≡ true }
         requires empty { out.old.list ≡ [] }
         ensures step { let s = self.old in
-            IsStep K.append_gives K.tells leader_rules s (change_row s.cluster s.me s.durable s.volatile grid.now)
-            result self.new keeper.old keeper.new out.new.list }
+            IsStep K.append_gives K.tells leader_rules s (change_row s.cluster s.me s.durable
+            s.volatile grid.now) result self.new keeper.old keeper.new out.new.list }
         ensures fits { let s = self.old in
             MayKeep leader_rules s (change_row s.cluster s.me s.durable s.volatile grid.now) }
     {

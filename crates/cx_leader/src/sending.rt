@@ -18,7 +18,8 @@ use cx_role::Outbox;
 pub fn ask_to_record(leader: u16, round: Round, grid: &Grid, set: &[u16], out: &mut Outbox)
     requires spare { length set.now ≤ out.old.spare }
     requires round { IsTrue (field.round.fits round) }
-    ensures { out.new.list ≡ out.old.list ++ map (match_a_to (role Kind.Leader leader) round grid.now) set.now }
+    ensures { out.new.list
+        ≡ out.old.list ++ map (match_a_to (role Kind.Leader leader) round grid.now) set.now }
 {
     for matchmaker in set {
         out.push(match_a(leader, *matchmaker, round, *grid));
@@ -29,7 +30,8 @@ pub fn ask_to_record(leader: u16, round: Round, grid: &Grid, set: &[u16], out: &
 pub fn ask_to_forget(leader: u16, own: &Entry, set: &[u16], out: &mut Outbox)
     requires spare { length set.now ≤ out.old.spare }
     requires round { IsTrue (field.round.fits own.now.round) }
-    ensures { out.new.list ≡ out.old.list ++ map (garbage_a_to (role Kind.Leader leader) own.now) set.now }
+    ensures { out.new.list
+        ≡ out.old.list ++ map (garbage_a_to (role Kind.Leader leader) own.now) set.now }
 {
     for matchmaker in set {
         out.push(garbage_a(leader, *matchmaker, own.round, own.grid));
@@ -47,7 +49,8 @@ pub fn ask_to_promise(
     requires spare { cluster.now.acceptors ≤ out.old.spare }
     requires round { IsTrue (field.round.fits round) }
     ensures { out.new.list ≡ out.old.list
-        ++ map (phase1a_to (role Kind.Leader leader) round) (members_of cluster.now phase1.now.live) }
+        ++ map (phase1a_to (role Kind.Leader leader) round)
+        (members_of cluster.now phase1.now.live) }
 {
     for acceptor in 0..cluster.acceptors {
         if phase1.asks(acceptor) {
@@ -63,7 +66,8 @@ pub fn inform_members(leader: u16, own: &Entry, mark: u64, cluster: &Cluster, ou
     requires round { IsTrue (field.round.fits own.now.round) }
     requires mark { mark ≤ 2 ^ 40 }
     ensures { out.new.list ≡ out.old.list
-        ++ map (inform_to (role Kind.Leader leader) own.now.round mark) (members_in cluster.now own.now.grid) }
+        ++ map (inform_to (role Kind.Leader leader) own.now.round mark)
+        (members_in cluster.now own.now.grid) }
 {
     for acceptor in 0..cluster.acceptors {
         if is_member(&own.grid, acceptor) {
@@ -76,7 +80,8 @@ pub fn inform_members(leader: u16, own: &Entry, mark: u64, cluster: &Cluster, ou
 pub fn tell_batchers(leader: u16, round: Round, count: u16, out: &mut Outbox)
     requires spare { count ≤ out.old.spare }
     requires round { IsTrue (field.round.fits round) }
-    ensures list { out.new.list ≡ out.old.list ++ map (leads_to (role Kind.Leader leader) round) (below count) }
+    ensures list { out.new.list
+        ≡ out.old.list ++ map (leads_to (role Kind.Leader leader) round) (below count) }
     ensures spare { out.old.spare ≤ out.new.spare + count }
 {
     for batcher in 0..count {
@@ -98,7 +103,8 @@ pub fn proposal(
     requires slot { IsWindowSlot cw slot }
     requires value { IsTrue (field.value.fits value) }
     ensures { result
-        ≡ propose_to cluster.now (role Kind.Leader leader) own.now cw (record { slot = slot; value = value }) }
+        ≡ propose_to cluster.now (role Kind.Leader leader) own.now cw
+        (record { slot = slot; value = value }) }
 {
     let proxy = slot % u64::from(cluster.proxies);
     propose(leader, proxy as u16, own.round, own.grid, slot, cw, value)

@@ -51,7 +51,8 @@ impl Leader {
         requires acceptors { self.now.cluster.acceptors ≤ out.old.spare }
         requires matchmakers { length self.now.volatile.set ≤ out.old.spare }
         ensures { let s = self.now in
-            out.new.list ≡ out.old.list ++ stage_sends s.cluster s.me own.now s.volatile.set s.volatile.collection }
+            out.new.list ≡ out.old.list
+            ++ stage_sends s.cluster s.me own.now s.volatile.set s.volatile.collection }
     {
         match self.collector.stage() {
             Stage::Informing => {

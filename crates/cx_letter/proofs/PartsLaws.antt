@@ -3,16 +3,24 @@ use Rattle.std.proofs.Common.{◌≡◌, ℕ, Bool, true, false, ◌&&◌, ◌||
 use Rattle.std.proofs.lemmas.Bool.{eqb-true}
 use Rattle.cx_base.specs.Role.{role, code_of, kind_of}
 use Rattle.cx_base.specs.declared.role.Kind.{Kind}
-use Rattle.cx_base.specs.declared.role.Kind.TheVariants.{Client, Batcher, Leader, Proxy, Acceptor, Matchmaker, Replica, Unbatcher, Reader, Replacer}
+use Rattle.cx_base.specs.declared.role.Kind.TheVariants.{Client, Batcher, Leader, Proxy, Acceptor, Matchmaker, Replica, Unbatcher, Reader}
+use Rattle.cx_base.specs.declared.role.Kind.TheVariants.{Replacer}
 use Rattle.cx_base.specs.declared.role.RoleId.{RoleId}
 use Rattle.cx_wire.specs.Format.{u16}
 use Rattle.cx_wire.proofs.Laws.{both}
-use Rattle.cx_field.specs.Fields.{slot, mark, at, seq, round, round0, grid, name, command, commands, value, reply, in_window, entries, joined, set, accepted_set, votes, answers, found, reason, token, asking}
-use Rattle.cx_letter.specs.Messages.{body_shape, answer, match_b, match_nack, match_read_ack, nack, phase1b, phase2a, pre_read, pre_read_ack, propose, read_answer, read_key, read_req, results, round_slot, sess_read, slot_value, stop_b}
+use Rattle.cx_field.specs.Fields.{slot, mark, at, seq, round, round0, grid, name, command, commands, value, reply, in_window, entries}
+use Rattle.cx_field.specs.Fields.{joined, set, accepted_set, votes, answers, found, reason, token, asking}
+use Rattle.cx_letter.specs.Messages.{body_shape, answer, match_b, match_nack, match_read_ack, nack, phase1b, phase2a, pre_read}
+use Rattle.cx_letter.specs.Messages.{pre_read_ack, propose, read_answer, read_key, read_req, results, round_slot, sess_read, slot_value}
+use Rattle.cx_letter.specs.Messages.{stop_b}
 use Rattle.cx_letter.specs.Letter.{Letter, letter, senders, receivers, is_listed, fits}
 use Rattle.cx_letter.specs.LetterParts.{PartsFit}
 use Rattle.cx_letter.specs.declared.message.Msg.{Msg}
-use Rattle.cx_letter.specs.declared.message.Msg.TheVariants.{Submit, Batch, Leads, MatchA, MatchB, MatchNack, Phase1A, Phase1B, Nack, Propose, Phase2A, Phase2B, Chosen, ChosenIn, Results, Answer, Held, Fetch, Inform, Informed, GarbageA, GarbageB, ReadReq, MatchRead, MatchReadAck, PreRead, PreReadAck, Read, ReadAnswer, SessRead, StopA, StopB, StopNack, NextA, NextB, BootA, BootB, Sets}
+use Rattle.cx_letter.specs.declared.message.Msg.TheVariants.{Submit, Batch, Leads, MatchA, MatchB, MatchNack, Phase1A, Phase1B, Nack}
+use Rattle.cx_letter.specs.declared.message.Msg.TheVariants.{Propose, Phase2A, Phase2B, Chosen, ChosenIn, Results, Answer, Held, Fetch}
+use Rattle.cx_letter.specs.declared.message.Msg.TheVariants.{Inform, Informed, GarbageA, GarbageB, ReadReq, MatchRead, MatchReadAck}
+use Rattle.cx_letter.specs.declared.message.Msg.TheVariants.{PreRead, PreReadAck, Read, ReadAnswer, SessRead, StopA, StopB, StopNack, NextA}
+use Rattle.cx_letter.specs.declared.message.Msg.TheVariants.{NextB, BootA, BootB, Sets}
 
 same_kind : (k : Kind) → k ≡ kind_of (code_of k)
 same_kind Client = refl
@@ -58,7 +66,8 @@ fitting d h =
 
 -- each part of a datagram that fits is in its range, and its roles are of its kind
 pub parts : (from to : RoleId) (m : Msg) → IsTrue (fits (letter from to m)) → PartsFit from to m
-unfolding command commands value votes match_b match_nack phase1b nack propose phase2a round_slot slot_value results answer read_req match_read_ack pre_read pre_read_ack read_key read_answer stop_b sess_read
+unfolding command commands value votes match_b match_nack phase1b nack propose phase2a round_slot slot_value results answer read_req
+    match_read_ack pre_read pre_read_ack read_key read_answer stop_b sess_read
 parts from to (Submit c) h =
     let f = fitting (letter from to (Submit c)) h in
     (record { sent = listed_role from 1 f.from; received = listed_role to 2 f.to }, f.msg)

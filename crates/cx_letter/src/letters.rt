@@ -18,7 +18,8 @@ use cx_field::{Answers, Entries, NackReason, Votes, command_fits, grid_fits, rea
 #[tactic(auto, unfolding(cx_field::specs::Fields::command, cx_wire::specs::Format::u16))]
 pub fn submit(client: u16, batcher: u16, command: Command) -> Datagram
     requires floor { IsTrue (floor_fits command.seq command.floor) }
-    ensures { result ≡ letter (role Kind.Client client) (role Kind.Batcher batcher) (Msg.Submit command) }
+    ensures { result
+        ≡ letter (role Kind.Client client) (role Kind.Batcher batcher) (Msg.Submit command) }
 {
     command_fits(&command);
     let from = RoleId::new(Kind::Client, client);
@@ -30,7 +31,8 @@ pub fn submit(client: u16, batcher: u16, command: Command) -> Datagram
 #[tactic(auto, unfolding(cx_field::specs::Fields::commands, cx_wire::specs::Format::u16))]
 pub fn batch(batcher: u16, leader: u16, commands: Commands) -> Datagram
     requires commands { IsTrue (field.commands.fits commands) }
-    ensures { result ≡ letter (role Kind.Batcher batcher) (role Kind.Leader leader) (Msg.Batch commands) }
+    ensures { result
+        ≡ letter (role Kind.Batcher batcher) (role Kind.Leader leader) (Msg.Batch commands) }
 {
     let from = RoleId::new(Kind::Batcher, batcher);
     let to = RoleId::new(Kind::Leader, leader);
@@ -41,7 +43,8 @@ pub fn batch(batcher: u16, leader: u16, commands: Commands) -> Datagram
 #[tactic(auto, unfolding(cx_wire::specs::Format::u16))]
 pub fn leads(leader: u16, batcher: u16, round: Round) -> Datagram
     requires round { IsTrue (field.round.fits round) }
-    ensures { result ≡ letter (role Kind.Leader leader) (role Kind.Batcher batcher) (Msg.Leads round) }
+    ensures { result
+        ≡ letter (role Kind.Leader leader) (role Kind.Batcher batcher) (Msg.Leads round) }
 {
     let from = RoleId::new(Kind::Leader, leader);
     let to = RoleId::new(Kind::Batcher, batcher);
@@ -52,7 +55,8 @@ pub fn leads(leader: u16, batcher: u16, round: Round) -> Datagram
 #[tactic(auto, unfolding(cx_wire::specs::Format::u16))]
 pub fn match_a(leader: u16, matchmaker: u16, round: Round, grid: Grid) -> Datagram
     requires round { IsTrue (field.round.fits round) }
-    ensures { result ≡ letter (role Kind.Leader leader) (role Kind.Matchmaker matchmaker) (Msg.MatchA round grid) }
+    ensures { result ≡ letter (role Kind.Leader leader) (role Kind.Matchmaker matchmaker)
+        (Msg.MatchA round grid) }
 {
     grid_fits(&grid);
     let from = RoleId::new(Kind::Leader, leader);
@@ -120,7 +124,8 @@ pub fn match_nack(
 #[tactic(auto, unfolding(cx_wire::specs::Format::u16))]
 pub fn phase1a(leader: u16, acceptor: u16, round: Round) -> Datagram
     requires round { IsTrue (field.round.fits round) }
-    ensures { result ≡ letter (role Kind.Leader leader) (role Kind.Acceptor acceptor) (Msg.Phase1A round) }
+    ensures { result
+        ≡ letter (role Kind.Leader leader) (role Kind.Acceptor acceptor) (Msg.Phase1A round) }
 {
     let from = RoleId::new(Kind::Leader, leader);
     let to = RoleId::new(Kind::Acceptor, acceptor);
@@ -133,7 +138,8 @@ pub fn phase1b(acceptor: u16, leader: u16, round: Round, cw: u64, votes: Votes) 
     requires round { IsTrue (field.round.fits round) }
     requires cw { IsTrue (field.mark.fits cw) }
     requires votes { IsTrue ((field.votes cw).fits votes) }
-    ensures { result ≡ letter (role Kind.Acceptor acceptor) (role Kind.Leader leader) (Msg.Phase1B round cw votes) }
+    ensures { result ≡ letter (role Kind.Acceptor acceptor) (role Kind.Leader leader)
+        (Msg.Phase1B round cw votes) }
 {
     let from = RoleId::new(Kind::Acceptor, acceptor);
     let to = RoleId::new(Kind::Leader, leader);
@@ -145,7 +151,8 @@ pub fn phase1b(acceptor: u16, leader: u16, round: Round, cw: u64, votes: Votes) 
 pub fn nack(acceptor: u16, leader: u16, round: Round, promise: Round) -> Datagram
     requires round { IsTrue (field.round.fits round) }
     requires promise { IsTrue (field.round.fits promise) }
-    ensures { result ≡ letter (role Kind.Acceptor acceptor) (role Kind.Leader leader) (Msg.Nack round promise) }
+    ensures { result
+        ≡ letter (role Kind.Acceptor acceptor) (role Kind.Leader leader) (Msg.Nack round promise) }
 {
     let from = RoleId::new(Kind::Acceptor, acceptor);
     let to = RoleId::new(Kind::Leader, leader);
@@ -168,7 +175,8 @@ pub fn propose(
     requires cw { IsTrue (field.mark.fits cw) }
     requires window { IsTrue (in_window cw slot) }
     requires value { IsTrue (field.value.fits value) }
-    ensures { result ≡ letter (role Kind.Leader leader) (role Kind.Proxy proxy) (Msg.Propose round grid slot cw value) }
+    ensures { result ≡ letter (role Kind.Leader leader) (role Kind.Proxy proxy)
+        (Msg.Propose round grid slot cw value) }
 {
     grid_fits(&grid);
     let from = RoleId::new(Kind::Leader, leader);
@@ -201,7 +209,8 @@ pub fn phase2a(
     requires cw { IsTrue (field.mark.fits cw) }
     requires window { IsTrue (in_window cw slot) }
     requires value { IsTrue (field.value.fits value) }
-    ensures { result ≡ letter (role Kind.Proxy proxy) (role Kind.Acceptor acceptor) (Msg.Phase2A round slot cw value) }
+    ensures { result ≡ letter (role Kind.Proxy proxy) (role Kind.Acceptor acceptor)
+        (Msg.Phase2A round slot cw value) }
 {
     let from = RoleId::new(Kind::Proxy, proxy);
     let to = RoleId::new(Kind::Acceptor, acceptor);
@@ -222,7 +231,8 @@ pub fn phase2a(
 pub fn phase2b(acceptor: u16, proxy: u16, round: Round, slot: u64) -> Datagram
     requires round { IsTrue (field.round.fits round) }
     requires slot { IsTrue (field.slot.fits slot) }
-    ensures { result ≡ letter (role Kind.Acceptor acceptor) (role Kind.Proxy proxy) (Msg.Phase2B round slot) }
+    ensures { result
+        ≡ letter (role Kind.Acceptor acceptor) (role Kind.Proxy proxy) (Msg.Phase2B round slot) }
 {
     let from = RoleId::new(Kind::Acceptor, acceptor);
     let to = RoleId::new(Kind::Proxy, proxy);
@@ -234,7 +244,8 @@ pub fn phase2b(acceptor: u16, proxy: u16, round: Round, slot: u64) -> Datagram
 pub fn chosen(proxy: u16, replica: u16, slot: u64, value: Value) -> Datagram
     requires slot { IsTrue (field.slot.fits slot) }
     requires value { IsTrue (field.value.fits value) }
-    ensures { result ≡ letter (role Kind.Proxy proxy) (role Kind.Replica replica) (Msg.Chosen slot value) }
+    ensures { result
+        ≡ letter (role Kind.Proxy proxy) (role Kind.Replica replica) (Msg.Chosen slot value) }
 {
     let from = RoleId::new(Kind::Proxy, proxy);
     let to = RoleId::new(Kind::Replica, replica);
@@ -246,7 +257,8 @@ pub fn chosen(proxy: u16, replica: u16, slot: u64, value: Value) -> Datagram
 pub fn fetched(from: u16, replica: u16, slot: u64, value: Value) -> Datagram
     requires slot { IsTrue (field.slot.fits slot) }
     requires value { IsTrue (field.value.fits value) }
-    ensures { result ≡ letter (role Kind.Replica from) (role Kind.Replica replica) (Msg.Chosen slot value) }
+    ensures { result
+        ≡ letter (role Kind.Replica from) (role Kind.Replica replica) (Msg.Chosen slot value) }
 {
     let from = RoleId::new(Kind::Replica, from);
     let to = RoleId::new(Kind::Replica, replica);
@@ -258,7 +270,8 @@ pub fn fetched(from: u16, replica: u16, slot: u64, value: Value) -> Datagram
 pub fn chosen_in(proxy: u16, leader: u16, round: Round, slot: u64) -> Datagram
     requires round { IsTrue (field.round.fits round) }
     requires slot { IsTrue (field.slot.fits slot) }
-    ensures { result ≡ letter (role Kind.Proxy proxy) (role Kind.Leader leader) (Msg.ChosenIn round slot) }
+    ensures { result
+        ≡ letter (role Kind.Proxy proxy) (role Kind.Leader leader) (Msg.ChosenIn round slot) }
 {
     let from = RoleId::new(Kind::Proxy, proxy);
     let to = RoleId::new(Kind::Leader, leader);
@@ -270,7 +283,8 @@ pub fn chosen_in(proxy: u16, leader: u16, round: Round, slot: u64) -> Datagram
 pub fn results(replica: u16, unbatcher: u16, slot: u64, answers: Answers) -> Datagram
     requires slot { IsTrue (field.slot.fits slot) }
     requires answers { IsTrue (field.answers.fits answers) }
-    ensures { result ≡ letter (role Kind.Replica replica) (role Kind.Unbatcher unbatcher) (Msg.Results slot answers) }
+    ensures { result ≡ letter (role Kind.Replica replica) (role Kind.Unbatcher unbatcher)
+        (Msg.Results slot answers) }
 {
     let from = RoleId::new(Kind::Replica, replica);
     let to = RoleId::new(Kind::Unbatcher, unbatcher);
@@ -283,7 +297,8 @@ pub fn answer(unbatcher: u16, client: u16, seq: u64, at: u64, reply: Reply) -> D
     requires seq { IsTrue (field.seq.fits seq) }
     requires at { IsTrue (field.at.fits at) }
     requires reply { IsTrue (field.reply.fits reply) }
-    ensures { result ≡ letter (role Kind.Unbatcher unbatcher) (role Kind.Client client) (Msg.Answer seq at reply) }
+    ensures { result ≡ letter (role Kind.Unbatcher unbatcher) (role Kind.Client client)
+        (Msg.Answer seq at reply) }
 {
     let from = RoleId::new(Kind::Unbatcher, unbatcher);
     let to = RoleId::new(Kind::Client, client);
@@ -294,7 +309,8 @@ pub fn answer(unbatcher: u16, client: u16, seq: u64, at: u64, reply: Reply) -> D
 #[tactic(auto, unfolding(cx_wire::specs::Format::u16))]
 pub fn held(replica: u16, leader: u16, mark: u64) -> Datagram
     requires mark { IsTrue (field.mark.fits mark) }
-    ensures { result ≡ letter (role Kind.Replica replica) (role Kind.Leader leader) (Msg.Held mark) }
+    ensures { result
+        ≡ letter (role Kind.Replica replica) (role Kind.Leader leader) (Msg.Held mark) }
 {
     let from = RoleId::new(Kind::Replica, replica);
     let to = RoleId::new(Kind::Leader, leader);
@@ -305,7 +321,8 @@ pub fn held(replica: u16, leader: u16, mark: u64) -> Datagram
 #[tactic(auto, unfolding(cx_wire::specs::Format::u16))]
 pub fn fetch(replica: u16, other: u16, mark: u64) -> Datagram
     requires mark { IsTrue (field.mark.fits mark) }
-    ensures { result ≡ letter (role Kind.Replica replica) (role Kind.Replica other) (Msg.Fetch mark) }
+    ensures { result
+        ≡ letter (role Kind.Replica replica) (role Kind.Replica other) (Msg.Fetch mark) }
 {
     let from = RoleId::new(Kind::Replica, replica);
     let to = RoleId::new(Kind::Replica, other);
@@ -317,7 +334,8 @@ pub fn fetch(replica: u16, other: u16, mark: u64) -> Datagram
 pub fn inform(leader: u16, acceptor: u16, round: Round, mark: u64) -> Datagram
     requires round { IsTrue (field.round.fits round) }
     requires mark { IsTrue (field.mark.fits mark) }
-    ensures { result ≡ letter (role Kind.Leader leader) (role Kind.Acceptor acceptor) (Msg.Inform round mark) }
+    ensures { result
+        ≡ letter (role Kind.Leader leader) (role Kind.Acceptor acceptor) (Msg.Inform round mark) }
 {
     let from = RoleId::new(Kind::Leader, leader);
     let to = RoleId::new(Kind::Acceptor, acceptor);
@@ -329,7 +347,8 @@ pub fn inform(leader: u16, acceptor: u16, round: Round, mark: u64) -> Datagram
 pub fn informed(acceptor: u16, leader: u16, round: Round, mark: u64) -> Datagram
     requires round { IsTrue (field.round.fits round) }
     requires mark { IsTrue (field.mark.fits mark) }
-    ensures { result ≡ letter (role Kind.Acceptor acceptor) (role Kind.Leader leader) (Msg.Informed round mark) }
+    ensures { result
+        ≡ letter (role Kind.Acceptor acceptor) (role Kind.Leader leader) (Msg.Informed round mark) }
 {
     let from = RoleId::new(Kind::Acceptor, acceptor);
     let to = RoleId::new(Kind::Leader, leader);
@@ -340,7 +359,8 @@ pub fn informed(acceptor: u16, leader: u16, round: Round, mark: u64) -> Datagram
 #[tactic(auto, unfolding(cx_wire::specs::Format::u16))]
 pub fn garbage_a(leader: u16, matchmaker: u16, round: Round, grid: Grid) -> Datagram
     requires round { IsTrue (field.round.fits round) }
-    ensures { result ≡ letter (role Kind.Leader leader) (role Kind.Matchmaker matchmaker) (Msg.GarbageA round grid) }
+    ensures { result ≡ letter (role Kind.Leader leader) (role Kind.Matchmaker matchmaker)
+        (Msg.GarbageA round grid) }
 {
     grid_fits(&grid);
     let from = RoleId::new(Kind::Leader, leader);
@@ -352,7 +372,8 @@ pub fn garbage_a(leader: u16, matchmaker: u16, round: Round, grid: Grid) -> Data
 #[tactic(auto, unfolding(cx_wire::specs::Format::u16))]
 pub fn garbage_b(matchmaker: u16, leader: u16, round: Round) -> Datagram
     requires round { IsTrue (field.round.fits round) }
-    ensures { result ≡ letter (role Kind.Matchmaker matchmaker) (role Kind.Leader leader) (Msg.GarbageB round) }
+    ensures { result
+        ≡ letter (role Kind.Matchmaker matchmaker) (role Kind.Leader leader) (Msg.GarbageB round) }
 {
     let from = RoleId::new(Kind::Matchmaker, matchmaker);
     let to = RoleId::new(Kind::Leader, leader);

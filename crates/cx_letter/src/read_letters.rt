@@ -15,7 +15,8 @@ use cx_field::{Asking, Entries, Token, found_fits, name_fits};
 #[tactic(auto, unfolding(crate::specs::Messages::read_req, cx_wire::specs::Format::u16))]
 pub fn read_req(client: u16, reader: u16, seq: u64, replica: u16, key: Key) -> Datagram
     requires seq { IsTrue (field.seq.fits seq) }
-    ensures { result ≡ letter (role Kind.Client client) (role Kind.Reader reader) (Msg.ReadReq seq replica key) }
+    ensures { result
+        ≡ letter (role Kind.Client client) (role Kind.Reader reader) (Msg.ReadReq seq replica key) }
 {
     name_fits(&key);
     let from = RoleId::new(Kind::Client, client);
@@ -27,7 +28,8 @@ pub fn read_req(client: u16, reader: u16, seq: u64, replica: u16, key: Key) -> D
 #[tactic(auto, unfolding(cx_wire::specs::Format::u16))]
 pub fn match_read(reader: u16, matchmaker: u16, asking: Asking) -> Datagram
     requires asking { IsTrue (field.asking.fits asking) }
-    ensures { result ≡ letter (role Kind.Reader reader) (role Kind.Matchmaker matchmaker) (Msg.MatchRead asking) }
+    ensures { result ≡ letter (role Kind.Reader reader) (role Kind.Matchmaker matchmaker)
+        (Msg.MatchRead asking) }
 {
     let from = RoleId::new(Kind::Reader, reader);
     let to = RoleId::new(Kind::Matchmaker, matchmaker);
@@ -67,7 +69,8 @@ pub fn match_read_ack(
 pub fn pre_read(reader: u16, acceptor: u16, asking: Asking, watermark: Round) -> Datagram
     requires asking { IsTrue (field.asking.fits asking) }
     requires watermark { IsTrue (field.round0.fits watermark) }
-    ensures { result ≡ letter (role Kind.Reader reader) (role Kind.Acceptor acceptor) (Msg.PreRead asking watermark) }
+    ensures { result ≡ letter (role Kind.Reader reader) (role Kind.Acceptor acceptor)
+        (Msg.PreRead asking watermark) }
 {
     let from = RoleId::new(Kind::Reader, reader);
     let to = RoleId::new(Kind::Acceptor, acceptor);
@@ -107,7 +110,8 @@ pub fn pre_read_ack(
 pub fn replica_read(reader: u16, replica: u16, token: Token, mark: u64, key: Key) -> Datagram
     requires token { IsTrue (field.token.fits token) }
     requires mark { IsTrue (field.mark.fits mark) }
-    ensures { result ≡ letter (role Kind.Reader reader) (role Kind.Replica replica) (Msg.Read token mark key) }
+    ensures { result
+        ≡ letter (role Kind.Reader reader) (role Kind.Replica replica) (Msg.Read token mark key) }
 {
     name_fits(&key);
     let from = RoleId::new(Kind::Reader, reader);
@@ -120,7 +124,8 @@ pub fn replica_read(reader: u16, replica: u16, token: Token, mark: u64, key: Key
 pub fn read_answer(replica: u16, client: u16, seq: u64, mark: u64, found: Option<Text>) -> Datagram
     requires seq { IsTrue (field.seq.fits seq) }
     requires mark { IsTrue (field.mark.fits mark) }
-    ensures { result ≡ letter (role Kind.Replica replica) (role Kind.Client client) (Msg.ReadAnswer seq mark found) }
+    ensures { result ≡ letter (role Kind.Replica replica) (role Kind.Client client)
+        (Msg.ReadAnswer seq mark found) }
 {
     found_fits(&found);
     let from = RoleId::new(Kind::Replica, replica);
@@ -133,7 +138,8 @@ pub fn read_answer(replica: u16, client: u16, seq: u64, mark: u64, found: Option
 pub fn sess_read(client: u16, replica: u16, seq: u64, mark: u64, key: Key) -> Datagram
     requires seq { IsTrue (field.seq.fits seq) }
     requires mark { IsTrue (field.mark.fits mark) }
-    ensures { result ≡ letter (role Kind.Client client) (role Kind.Replica replica) (Msg.SessRead seq mark key) }
+    ensures { result
+        ≡ letter (role Kind.Client client) (role Kind.Replica replica) (Msg.SessRead seq mark key) }
 {
     name_fits(&key);
     let from = RoleId::new(Kind::Client, client);

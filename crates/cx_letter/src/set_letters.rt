@@ -16,7 +16,8 @@ use cx_field::{Entries, accepted_set_fits, set_fits};
 #[tactic(auto, unfolding(cx_wire::specs::Format::u16))]
 pub fn stop_a(replacer: u16, matchmaker: u16, round: Round) -> Datagram
     requires round { IsTrue (field.round.fits round) }
-    ensures { result ≡ letter (role Kind.Replacer replacer) (role Kind.Matchmaker matchmaker) (Msg.StopA round) }
+    ensures { result
+        ≡ letter (role Kind.Replacer replacer) (role Kind.Matchmaker matchmaker) (Msg.StopA round) }
 {
     let from = RoleId::new(Kind::Replacer, replacer);
     let to = RoleId::new(Kind::Matchmaker, matchmaker);
@@ -76,7 +77,8 @@ pub fn stop_nack(matchmaker: u16, replacer: u16, round: Round, other: Round) -> 
 #[tactic(auto, unfolding(cx_wire::specs::Format::u16))]
 pub fn next_a(replacer: u16, matchmaker: u16, round: Round, set: Set) -> Datagram
     requires round { IsTrue (field.round.fits round) }
-    ensures { result ≡ letter (role Kind.Replacer replacer) (role Kind.Matchmaker matchmaker) (Msg.NextA round set) }
+    ensures { result ≡ letter (role Kind.Replacer replacer) (role Kind.Matchmaker matchmaker)
+        (Msg.NextA round set) }
 {
     set_fits(&set);
     let from = RoleId::new(Kind::Replacer, replacer);
@@ -88,7 +90,8 @@ pub fn next_a(replacer: u16, matchmaker: u16, round: Round, set: Set) -> Datagra
 #[tactic(auto, unfolding(cx_wire::specs::Format::u16))]
 pub fn next_b(matchmaker: u16, replacer: u16, round: Round) -> Datagram
     requires round { IsTrue (field.round.fits round) }
-    ensures { result ≡ letter (role Kind.Matchmaker matchmaker) (role Kind.Replacer replacer) (Msg.NextB round) }
+    ensures { result
+        ≡ letter (role Kind.Matchmaker matchmaker) (role Kind.Replacer replacer) (Msg.NextB round) }
 {
     let from = RoleId::new(Kind::Matchmaker, matchmaker);
     let to = RoleId::new(Kind::Replacer, replacer);
@@ -126,7 +129,8 @@ pub fn boot_a(
 /// A matchmaker's word that it has begun as a member of this set.
 #[tactic(auto, unfolding(cx_wire::specs::Format::u16))]
 pub fn boot_b(matchmaker: u16, replacer: u16, set: Set) -> Datagram
-    ensures { result ≡ letter (role Kind.Matchmaker matchmaker) (role Kind.Replacer replacer) (Msg.BootB set) }
+    ensures { result
+        ≡ letter (role Kind.Matchmaker matchmaker) (role Kind.Replacer replacer) (Msg.BootB set) }
 {
     set_fits(&set);
     let from = RoleId::new(Kind::Matchmaker, matchmaker);
@@ -137,7 +141,8 @@ pub fn boot_b(matchmaker: u16, replacer: u16, set: Set) -> Datagram
 /// A replacer's word to a leader which set of matchmakers it knows.
 #[tactic(auto, unfolding(cx_wire::specs::Format::u16))]
 pub fn sets_to_leader(replacer: u16, leader: u16, set: Set) -> Datagram
-    ensures { result ≡ letter (role Kind.Replacer replacer) (role Kind.Leader leader) (Msg.Sets set) }
+    ensures { result
+        ≡ letter (role Kind.Replacer replacer) (role Kind.Leader leader) (Msg.Sets set) }
 {
     set_fits(&set);
     let from = RoleId::new(Kind::Replacer, replacer);
@@ -148,7 +153,8 @@ pub fn sets_to_leader(replacer: u16, leader: u16, set: Set) -> Datagram
 /// A replacer's word to a reader which set of matchmakers it knows.
 #[tactic(auto, unfolding(cx_wire::specs::Format::u16))]
 pub fn sets_to_reader(replacer: u16, reader: u16, set: Set) -> Datagram
-    ensures { result ≡ letter (role Kind.Replacer replacer) (role Kind.Reader reader) (Msg.Sets set) }
+    ensures { result
+        ≡ letter (role Kind.Replacer replacer) (role Kind.Reader reader) (Msg.Sets set) }
 {
     set_fits(&set);
     let from = RoleId::new(Kind::Replacer, replacer);
@@ -159,7 +165,8 @@ pub fn sets_to_reader(replacer: u16, reader: u16, set: Set) -> Datagram
 /// A replacer's word to another which set of matchmakers it knows.
 #[tactic(auto, unfolding(cx_wire::specs::Format::u16))]
 pub fn sets_to_replacer(replacer: u16, other: u16, set: Set) -> Datagram
-    ensures { result ≡ letter (role Kind.Replacer replacer) (role Kind.Replacer other) (Msg.Sets set) }
+    ensures { result
+        ≡ letter (role Kind.Replacer replacer) (role Kind.Replacer other) (Msg.Sets set) }
 {
     set_fits(&set);
     let from = RoleId::new(Kind::Replacer, replacer);

@@ -6,7 +6,8 @@ use Rattle.cx_role.proofs.Common.{is_in, Letter, Take, Entry, Msg, names, names_
 use Rattle.cx_role.proofs.Common.{names_round, names_set, Outcome, by_test, IsFit}
 use Rattle.cx_role.proofs.Common.msg
 use Rattle.cx_role.proofs.Named.{body_named}
-use Rattle.cx_model.specs.Matchmaker.{MatchmakerDurable, matchmaker_rules, matchmaker_row, matchmaker_takes, at_work, in_set, is_booted, is_stopped, set_of}
+use Rattle.cx_model.specs.Matchmaker.{MatchmakerDurable, matchmaker_rules, matchmaker_row, matchmaker_takes, at_work, in_set, is_booted}
+use Rattle.cx_model.specs.Matchmaker.{is_stopped, set_of}
 use Rattle.cx_model.specs.Matchmaker.{garbage_a_row, match_a_row, has_round, stop_a_row, next_a_row, boot_in, boot_a_row}
 use Rattle.cx_match.proofs.EntryLaws.{all_before, behind}
 

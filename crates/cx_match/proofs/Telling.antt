@@ -11,8 +11,8 @@ pub one_told : (me from : RoleId) (round w : Round) (es seen told : List Entry) 
     → d ≡ letter (role Matchmaker me.index) (role Leader from.index) (msg.MatchB round w told)
     → after ≡ letter me from (msg.MatchB round w (entries_before round es)) ∷ []
 one_told me from round w es seen told begun before after d who sender earlier same none room push is =
-    let mine : letter (role Matchmaker me.index) (role Leader from.index) (msg.MatchB round w told) ≡ letter me (role Leader from.index) (msg.MatchB round w told)
-    = ap (λ (x : RoleId). letter x (role Leader from.index) (msg.MatchB round w told)) (sym who) in
+    let mine : letter (role Matchmaker me.index) (role Leader from.index) (msg.MatchB round w told) ≡ letter me (role Leader from.index)
+    (msg.MatchB round w told) = ap (λ (x : RoleId). letter x (role Leader from.index) (msg.MatchB round w told)) (sym who) in
     let theirs : letter me (role Leader from.index) (msg.MatchB round w told) ≡ letter me from (msg.MatchB round w told)
     = ap (λ (x : RoleId). letter me x (msg.MatchB round w told)) (sym sender) in
     let entries : letter me from (msg.MatchB round w told) ≡ letter me from (msg.MatchB round w (entries_before round es))

@@ -46,7 +46,8 @@ impl Model for Matchmaker {
       volatile = tt;
     } };
 
-    ghost invariant = { λ m. IsSound m.me (matchmaker_durable m.watermark m.entries.items m.booted m.ballot m.accepted m.next) };
+    ghost invariant = { λ m. IsSound m.me
+        (matchmaker_durable m.watermark m.entries.items m.booted m.ballot m.accepted m.next) };
 }
 
 impl Role for Matchmaker {

@@ -19,7 +19,8 @@ pub fn keep_own<K: Keeper>(keeper: &mut K, live: &mut bool, what: Record) -> Res
     requires { IsTrue (record_fits what) }
     ensures kept { IfOk result (λ _. K.append_gives keeper.old what (Ok tt) keeper.new) }
     ensures lives { OnOk result (live.new ≡ live.old) }
-    ensures refused { IsErrOf result StepFault.NoMemory → Refuses K.append_gives keeper.old keeper.new }
+    ensures refused { IsErrOf result StepFault.NoMemory
+        → Refuses K.append_gives keeper.old keeper.new }
     ensures tells_same { K.tells keeper.new ≡ K.tells keeper.old }
     ensures lives_on { IsErrOf result StepFault.NoMemory → live.new ≡ live.old }
     ensures failed { IsErrOf result StepFault.Failed
@@ -79,8 +80,10 @@ impl Matchmaker {
     /// Remembers a record that it could have appended.
     pub(crate) fn remember(&mut self, what: &Record) -> Result<(), NoMemory>
         requires ranges { IsTrue (record_fits what.now) }
-        requires own { matchmaker_fits self.old.cluster self.old.me self.old.durable what.now ≡ true }
-        ensures ok { OnOk result (self.new ≡ record self.old { durable = matchmaker_after self.old.durable what.now }) }
+        requires own { matchmaker_fits self.old.cluster self.old.me self.old.durable what.now
+            ≡ true }
+        ensures ok { OnOk result
+            (self.new ≡ record self.old { durable = matchmaker_after self.old.durable what.now }) }
         ensures err { OnErr result (self.new ≡ self.old) }
     {
         match what {

@@ -49,7 +49,8 @@ impl Matchmaker {
 
     /// Whether it records rounds: it is of a set, and has not stopped.
     pub(crate) fn is_at_work(&self) -> bool
-        ensures { result ≡ (is_booted self.now.cluster self.now.me self.now.durable && not (is_stopped self.now.durable)) }
+        ensures { result ≡ (is_booted self.now.cluster self.now.me self.now.durable
+            && not (is_stopped self.now.durable)) }
     {
         self.is_booted() && !self.is_stopped()
     }

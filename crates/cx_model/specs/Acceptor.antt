@@ -1,5 +1,6 @@
 -- The acceptor's rows: it promises rounds and votes for values (VLDB 2021, with the chosen watermark of this project).
-use Rattle.std.specs.Prelude.{ℕ, ◌+◌, ◌==◌, Bool, false, not, ◌&&◌, ◌||◌, nat_lt, nat_le, max, filter, if◌then◌else◌, List, [], ◌∷◌, Option, None, Some, true}
+use Rattle.std.specs.Prelude.{ℕ, ◌+◌, ◌==◌, Bool, false, not, ◌&&◌, ◌||◌, nat_lt, nat_le, max, filter, if◌then◌else◌, List, [], ◌∷◌, Option}
+use Rattle.std.specs.Prelude.{None, Some, true}
 use Rattle.cx_base.specs.declared.cluster.Cluster.{Cluster}
 use Rattle.cx_base.specs.declared.command.Value.{Value}
 use Rattle.cx_base.specs.declared.role.RoleId.{RoleId}
@@ -22,8 +23,8 @@ use Rattle.cx_model.specs.Names.{names, names_round, names_value}
 use Rattle.cx_model.specs.Outcome.{Outcome, only_word, replied}
 use Rattle.cx_model.specs.Rules.{Rules}
 
--- the promised round, the chosen watermark, the last vote at each slot from there on by rising slot, and one more than the greatest slot that was
--- ever voted at
+-- the promised round, the chosen watermark, the last vote at each slot from there on by rising slot, and one more than the greatest slot
+-- that was ever voted at
 pub record AcceptorDurable : Type 0 where
   pub promise : Round
   pub cw : ℕ
@@ -67,8 +68,8 @@ acceptor_after d other = d
 -- whether the acceptor could have appended this record
 abbrev pub acceptor_fits : Cluster → RoleId → AcceptorDurable → Record → Bool
 acceptor_fits c me d (kept.Promise i) = names_round c i && is_before d.promise i
-acceptor_fits c me d (kept.Vote i s cw v) =
-    names_round c i && names_value c v && not (is_before i d.promise) && nat_le d.cw s && in_window cw s && not (is_of_round i (vote_at s d.votes))
+acceptor_fits c me d (kept.Vote i s cw v) = names_round c i && names_value c v && not (is_before i d.promise) && nat_le d.cw s
+    && in_window cw s && not (is_of_round i (vote_at s d.votes))
 acceptor_fits c me d (kept.Water i cw) = names_round c i && not (is_before i d.promise) && (is_before d.promise i || nat_lt d.cw cw)
 acceptor_fits c me d other = false
 

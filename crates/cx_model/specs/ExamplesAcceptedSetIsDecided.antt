@@ -1,6 +1,6 @@
--- Two replacers have a next set decided among the same three matchmakers. One matchmaker accepted the first one's set, two the other's in a later
--- ballot, which decides it. The first replacer is refused, begins anew and hears of both sets: it asks for the one of the later ballot, not for
--- the one that it was ordered.
+-- Two replacers have a next set decided among the same three matchmakers. One matchmaker accepted the first one's set, two the other's in a
+-- later ballot, which decides it. The first replacer is refused, begins anew and hears of both sets: it asks for the one of the later
+-- ballot, not for the one that it was ordered.
 use Rattle.std.specs.Prelude.{ℕ, List, [], ◌∷◌}
 use Rattle.std.proofs.Common.{lit≤}
 use Rattle.cx_base.specs.declared.cluster.Cluster.{Cluster}
@@ -10,7 +10,8 @@ use Rattle.cx_base.specs.Round.{no_round}
 use Rattle.cx_letter.specs.Letter.{letter}
 use Rattle.cx_letter.specs.declared.kept.Record.TheVariants as kept
 use Rattle.cx_letter.specs.declared.message.Msg.TheVariants as msg
-use Rattle.cx_model.specs.Examples.{Line, IsRun, one_of_each, matchmaker, replacer, make_round, first, replace, deliver, final_state, hold, ◌⇒◌, ◌keeping◌by◌, ◌sending◌}
+use Rattle.cx_model.specs.Examples.{Line, IsRun, one_of_each, matchmaker, replacer, make_round, first, replace, deliver, final_state, hold}
+use Rattle.cx_model.specs.Examples.{◌⇒◌, ◌keeping◌by◌, ◌sending◌}
 
 abbrev pub cluster : Cluster
 cluster =

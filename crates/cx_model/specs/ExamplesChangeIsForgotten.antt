@@ -7,7 +7,8 @@ use Rattle.cx_base.specs.Round.{no_round}
 use Rattle.cx_letter.specs.Letter.{letter}
 use Rattle.cx_letter.specs.declared.kept.Record.TheVariants as kept
 use Rattle.cx_letter.specs.declared.message.Msg.TheVariants as msg
-use Rattle.cx_model.specs.Examples.{Line, IsRun, two_leaders, batcher, leader, matchmaker, make_round, first, single, lead, change, deliver, final_state, hold, ◌⇒◌, ◌keeping◌by◌, ◌sending◌}
+use Rattle.cx_model.specs.Examples.{Line, IsRun, two_leaders, batcher, leader, matchmaker, make_round, first, single, lead, change, deliver}
+use Rattle.cx_model.specs.Examples.{final_state, hold, ◌⇒◌, ◌keeping◌by◌, ◌sending◌}
 use Rattle.cx_model.specs.Matchmaker.{entry}
 
 abbrev pub changed : Round

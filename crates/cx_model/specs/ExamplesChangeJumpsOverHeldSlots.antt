@@ -12,7 +12,9 @@ use Rattle.cx_base.specs.Round.{no_round}
 use Rattle.cx_letter.specs.Letter.{letter}
 use Rattle.cx_letter.specs.declared.kept.Record.TheVariants as kept
 use Rattle.cx_letter.specs.declared.message.Msg.TheVariants as msg
-use Rattle.cx_model.specs.Examples.{Line, IsRun, two_leaders, client, batcher, leader, proxy, acceptor, matchmaker, replica, unbatcher, make_round, first, single, make_put, put_a, batch_of, answered, lead, change, deliver, final_state, hold, make_pair, ◌⇒◌, ◌keeping◌by◌, ◌sending◌}
+use Rattle.cx_model.specs.Examples.{Line, IsRun, two_leaders, client, batcher, leader, proxy, acceptor, matchmaker, replica, unbatcher}
+use Rattle.cx_model.specs.Examples.{make_round, first, single, make_put, put_a, batch_of, answered, lead, change, deliver, final_state}
+use Rattle.cx_model.specs.Examples.{hold, make_pair, ◌⇒◌, ◌keeping◌by◌, ◌sending◌}
 use Rattle.cx_model.specs.Matchmaker.{entry}
 
 abbrev pub cluster : Cluster
@@ -107,4 +109,5 @@ story =
     ∷ []
 
 abbrev pub ChangeJumpsOverHeldSlots : Type 0
-ChangeJumpsOverHeldSlots = IsRun cluster story (final_state (batch_of put_a ∷ []) (true ∷ []) (hold 1 (make_pair (codes "a") (codes "1") ∷ []) ∷ []))
+ChangeJumpsOverHeldSlots =
+    IsRun cluster story (final_state (batch_of put_a ∷ []) (true ∷ []) (hold 1 (make_pair (codes "a") (codes "1") ∷ []) ∷ []))

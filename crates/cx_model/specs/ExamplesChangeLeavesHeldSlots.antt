@@ -9,7 +9,9 @@ use Rattle.cx_base.specs.Round.{no_round}
 use Rattle.cx_letter.specs.Letter.{letter}
 use Rattle.cx_letter.specs.declared.kept.Record.TheVariants as kept
 use Rattle.cx_letter.specs.declared.message.Msg.TheVariants as msg
-use Rattle.cx_model.specs.Examples.{Line, IsRun, two_acceptors, client, batcher, leader, proxy, matchmaker, replica, make_round, first, single, make_put, put_a, batch_of, change, deliver, final_state, hold, make_pair, ◌⇒◌, ◌keeping◌by◌, ◌sending◌}
+use Rattle.cx_model.specs.Examples.{Line, IsRun, two_acceptors, client, batcher, leader, proxy, matchmaker, replica, make_round, first}
+use Rattle.cx_model.specs.Examples.{single, make_put, put_a, batch_of, change, deliver, final_state, hold, make_pair, ◌⇒◌, ◌keeping◌by◌}
+use Rattle.cx_model.specs.Examples.{◌sending◌}
 use Rattle.cx_model.specs.Matchmaker.{entry}
 use Rattle.cx_model.specs.ExamplesOnePut.{story as put_held}
 
@@ -57,7 +59,8 @@ story =
     sending letter (leader 0) (matchmaker 0) (msg.MatchA changed_again (single 0))  -- 23
     ∷ deliver 23 ⇒ why.Matched
     keeping kept.Match changed_again (single 0) by matchmaker 0
-    sending letter (matchmaker 0) (leader 0) (msg.MatchB changed_again no_round (entry first (single 0) ∷ entry changed (single 1) ∷ []))  -- 24
+    sending letter (matchmaker 0) (leader 0)
+    (msg.MatchB changed_again no_round (entry first (single 0) ∷ entry changed (single 1) ∷ []))  -- 24
     ∷ deliver 24 ⇒ why.Bypassed
     sending letter (leader 0) (proxy 0) (msg.Propose changed_again (single 0) 1 1 (batch_of put_b))  -- 25
     sending letter (leader 0) (proxy 0) (msg.Propose changed_again (single 0) 2 1 (batch_of put_c))  -- 26
@@ -65,4 +68,5 @@ story =
     ∷ []
 
 abbrev pub ChangeLeavesHeldSlots : Type 0
-ChangeLeavesHeldSlots = IsRun two_acceptors story (final_state (batch_of put_a ∷ []) (true ∷ []) (hold 1 (make_pair (codes "a") (codes "1") ∷ []) ∷ []))
+ChangeLeavesHeldSlots =
+    IsRun two_acceptors story (final_state (batch_of put_a ∷ []) (true ∷ []) (hold 1 (make_pair (codes "a") (codes "1") ∷ []) ∷ []))

@@ -7,7 +7,8 @@ use Rattle.cx_base.specs.Round.{no_round}
 use Rattle.cx_letter.specs.Letter.{letter}
 use Rattle.cx_letter.specs.declared.kept.Record.TheVariants as kept
 use Rattle.cx_letter.specs.declared.message.Msg.TheVariants as msg
-use Rattle.cx_model.specs.Examples.{Line, IsRun, two_acceptors, batcher, leader, proxy, acceptor, matchmaker, replica, make_round, first, single, put_a, batch_of, change, collect, deliver, final_state, hold, ◌⇒◌, ◌keeping◌by◌, ◌sending◌}
+use Rattle.cx_model.specs.Examples.{Line, IsRun, two_acceptors, batcher, leader, proxy, acceptor, matchmaker, replica, make_round, first}
+use Rattle.cx_model.specs.Examples.{single, put_a, batch_of, change, collect, deliver, final_state, hold, ◌⇒◌, ◌keeping◌by◌, ◌sending◌}
 use Rattle.cx_model.specs.Matchmaker.{entry}
 use Rattle.cx_model.specs.ExamplesOnePut.{voted}
 

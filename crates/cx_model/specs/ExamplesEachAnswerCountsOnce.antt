@@ -12,7 +12,9 @@ use Rattle.cx_base.specs.Round.{no_round}
 use Rattle.cx_letter.specs.Letter.{letter}
 use Rattle.cx_letter.specs.declared.kept.Record.TheVariants as kept
 use Rattle.cx_letter.specs.declared.message.Msg.TheVariants as msg
-use Rattle.cx_model.specs.Examples.{Line, IsRun, one_of_each, client, batcher, leader, proxy, acceptor, matchmaker, replica, unbatcher, reader, make_round, first, put_a, batch_of, make_vote, answered, lead, deliver, final_state, hold, make_pair, ◌⇒◌, ◌keeping◌by◌, ◌sending◌}
+use Rattle.cx_model.specs.Examples.{Line, IsRun, one_of_each, client, batcher, leader, proxy, acceptor, matchmaker, replica, unbatcher}
+use Rattle.cx_model.specs.Examples.{reader, make_round, first, put_a, batch_of, make_vote, answered, lead, deliver, final_state, hold}
+use Rattle.cx_model.specs.Examples.{make_pair, ◌⇒◌, ◌keeping◌by◌, ◌sending◌}
 use Rattle.cx_model.specs.Matchmaker.{entry}
 use Rattle.cx_model.specs.Reader.{asking, make_token}
 
@@ -126,9 +128,11 @@ story =
     sending letter (reader 0) (matchmaker 1) (msg.MatchRead (asking 0 1))  -- 30
     sending letter (reader 0) (matchmaker 2) (msg.MatchRead (asking 0 1))  -- 31
     ∷ deliver 29 ⇒ why.Asked
-    sending letter (matchmaker 0) (reader 0) (msg.MatchReadAck (asking 0 1) no_round (entry first low_row ∷ entry later high_row ∷ []))  -- 32
+    sending letter (matchmaker 0) (reader 0)
+    (msg.MatchReadAck (asking 0 1) no_round (entry first low_row ∷ entry later high_row ∷ []))  -- 32
     ∷ deliver 30 ⇒ why.Asked
-    sending letter (matchmaker 1) (reader 0) (msg.MatchReadAck (asking 0 1) no_round (entry first low_row ∷ entry later high_row ∷ []))  -- 33
+    sending letter (matchmaker 1) (reader 0)
+    (msg.MatchReadAck (asking 0 1) no_round (entry first low_row ∷ entry later high_row ∷ []))  -- 33
     ∷ deliver 32 ⇒ why.Counted
     ∷ deliver 32 ⇒ why.Same
     ∷ deliver 33 ⇒ why.Asking

@@ -1,5 +1,5 @@
--- The first read of the running batch is asked for again: the batch begins anew, under the next turn and with the read that waited. Answers to the
--- turn before do not count. Another running read that is asked for again changes nothing, and one that waits waits on.
+-- The first read of the running batch is asked for again: the batch begins anew, under the next turn and with the read that waited. Answers
+-- to the turn before do not count. Another running read that is asked for again changes nothing, and one that waits waits on.
 use Rattle.std.specs.Prelude.{◌++◌, List, [], ◌∷◌, codes}
 use Rattle.cx_base.specs.declared.why.Why.TheVariants as why
 use Rattle.cx_base.specs.Round.{no_round}

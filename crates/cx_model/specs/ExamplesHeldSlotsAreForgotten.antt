@@ -12,7 +12,9 @@ use Rattle.cx_base.specs.Round.{no_round}
 use Rattle.cx_letter.specs.Letter.{letter}
 use Rattle.cx_letter.specs.declared.kept.Record.TheVariants as kept
 use Rattle.cx_letter.specs.declared.message.Msg.TheVariants as msg
-use Rattle.cx_model.specs.Examples.{Line, IsRun, one_of_each, client, batcher, leader, proxy, acceptor, matchmaker, replica, unbatcher, reader, make_round, first, single, make_put, put_a, batch_of, make_vote, answered, lead, deliver, final_state, hold, make_pair, Holding, ◌⇒◌, ◌keeping◌by◌, ◌sending◌}
+use Rattle.cx_model.specs.Examples.{Line, IsRun, one_of_each, client, batcher, leader, proxy, acceptor, matchmaker, replica, unbatcher}
+use Rattle.cx_model.specs.Examples.{reader, make_round, first, single, make_put, put_a, batch_of, make_vote, answered, lead, deliver}
+use Rattle.cx_model.specs.Examples.{final_state, hold, make_pair, Holding, ◌⇒◌, ◌keeping◌by◌, ◌sending◌}
 use Rattle.cx_model.specs.Matchmaker.{entry}
 use Rattle.cx_model.specs.Reader.{asking, make_token}
 
@@ -169,7 +171,8 @@ story =
     sending letter (leader 0) (acceptor 0) (msg.Phase1A next)  -- 55
     ∷ deliver 55 ⇒ why.Promised
     keeping kept.Promise next by acceptor 0
-    sending letter (acceptor 0) (leader 0) (msg.Phase1B next 1 (make_vote first 1 (batch_of put_b) ∷ make_vote first 2 (batch_of put_c) ∷ []))  -- 56
+    sending letter (acceptor 0) (leader 0)
+    (msg.Phase1B next 1 (make_vote first 1 (batch_of put_b) ∷ make_vote first 2 (batch_of put_c) ∷ []))  -- 56
     ∷ deliver 56 ⇒ why.Leads
     sending letter (leader 0) (proxy 0) (msg.Propose next (single 0) 1 1 (batch_of put_b))  -- 57
     sending letter (leader 0) (proxy 0) (msg.Propose next (single 0) 2 1 (batch_of put_c))  -- 58

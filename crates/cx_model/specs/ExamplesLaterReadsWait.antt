@@ -8,7 +8,8 @@ use Rattle.cx_base.specs.Round.{no_round}
 use Rattle.cx_letter.specs.Letter.{letter}
 use Rattle.cx_letter.specs.declared.kept.Record.TheVariants as kept
 use Rattle.cx_letter.specs.declared.message.Msg.TheVariants as msg
-use Rattle.cx_model.specs.Examples.{Line, IsRun, one_of_each, client, matchmaker, replica, reader, deliver, final_state, hold, ◌⇒◌, ◌keeping◌by◌, ◌sending◌}
+use Rattle.cx_model.specs.Examples.{Line, IsRun, one_of_each, client, matchmaker, replica, reader, deliver, final_state, hold, ◌⇒◌}
+use Rattle.cx_model.specs.Examples.{◌keeping◌by◌, ◌sending◌}
 use Rattle.cx_model.specs.Reader.{asking, make_token}
 
 abbrev pub cluster : Cluster

@@ -1,5 +1,5 @@
--- A client's second command is chosen before its first, and tells that the client isn't done with the first: both act. Later requests go out by
--- the floors that were told: one above all of them, though it is below the greatest number, and one again, whatever its floor.
+-- A client's second command is chosen before its first, and tells that the client isn't done with the first: both act. Later requests go
+-- out by the floors that were told: one above all of them, though it is below the greatest number, and one again, whatever its floor.
 use Rattle.std.specs.Prelude.{true, List, [], ◌∷◌, codes}
 use Rattle.cx_base.specs.declared.command.Command.{Command}
 use Rattle.cx_base.specs.declared.command.Reply.TheVariants.{Okay}
@@ -9,7 +9,9 @@ use Rattle.cx_base.specs.Round.{no_round}
 use Rattle.cx_letter.specs.Letter.{letter}
 use Rattle.cx_letter.specs.declared.kept.Record.TheVariants as kept
 use Rattle.cx_letter.specs.declared.message.Msg.TheVariants as msg
-use Rattle.cx_model.specs.Examples.{Line, IsRun, one_of_each, client, batcher, leader, proxy, acceptor, matchmaker, replica, unbatcher, reader, first, single, make_put, del, command_with_floor, put_a, batch_of, answered, lead, deliver, final_state, hold, make_pair, ◌⇒◌, ◌keeping◌by◌, ◌sending◌}
+use Rattle.cx_model.specs.Examples.{Line, IsRun, one_of_each, client, batcher, leader, proxy, acceptor, matchmaker, replica, unbatcher}
+use Rattle.cx_model.specs.Examples.{reader, first, single, make_put, del, command_with_floor, put_a, batch_of, answered, lead, deliver}
+use Rattle.cx_model.specs.Examples.{final_state, hold, make_pair, ◌⇒◌, ◌keeping◌by◌, ◌sending◌}
 
 -- the second command; the client isn't done with its first
 abbrev pub put_second : Command

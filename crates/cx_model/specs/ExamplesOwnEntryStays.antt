@@ -1,5 +1,5 @@
--- Two of three matchmakers are enough, and a leader leads again with another grid and retires its round before. A matchmaker that never heard
--- of the new round forgets all earlier ones and has an entry of the new one.
+-- Two of three matchmakers are enough, and a leader leads again with another grid and retires its round before. A matchmaker that never
+-- heard of the new round forgets all earlier ones and has an entry of the new one.
 use Rattle.std.specs.Prelude.{List, [], ◌∷◌, codes, None}
 use Rattle.std.proofs.Common.{lit≤}
 use Rattle.cx_base.specs.declared.cluster.Cluster.{Cluster}
@@ -12,7 +12,8 @@ use Rattle.cx_field.specs.declared.parts.NackReason.TheVariants as nack
 use Rattle.cx_letter.specs.Letter.{letter}
 use Rattle.cx_letter.specs.declared.kept.Record.TheVariants as kept
 use Rattle.cx_letter.specs.declared.message.Msg.TheVariants as msg
-use Rattle.cx_model.specs.Examples.{Line, IsRun, one_of_each, client, batcher, leader, acceptor, matchmaker, replica, reader, make_round, first, single, lead, collect, deliver, final_state, hold, ◌⇒◌, ◌keeping◌by◌, ◌sending◌}
+use Rattle.cx_model.specs.Examples.{Line, IsRun, one_of_each, client, batcher, leader, acceptor, matchmaker, replica, reader, make_round}
+use Rattle.cx_model.specs.Examples.{first, single, lead, collect, deliver, final_state, hold, ◌⇒◌, ◌keeping◌by◌, ◌sending◌}
 use Rattle.cx_model.specs.Matchmaker.{entry}
 use Rattle.cx_model.specs.Reader.{asking, make_token}
 
@@ -111,7 +112,8 @@ story =
     ∷ deliver 28 ⇒ why.Asked
     sending letter (matchmaker 2) (reader 0) (msg.MatchReadAck (asking 0 1) next (entry next column ∷ []))  -- 29
     ∷ deliver 27 ⇒ why.Asked
-    sending letter (matchmaker 1) (reader 0) (msg.MatchReadAck (asking 0 1) no_round (entry first (single 0) ∷ entry next column ∷ []))  -- 30
+    sending letter (matchmaker 1) (reader 0)
+    (msg.MatchReadAck (asking 0 1) no_round (entry first (single 0) ∷ entry next column ∷ []))  -- 30
     ∷ deliver 29 ⇒ why.Counted
     ∷ deliver 30 ⇒ why.Asking
     sending letter (reader 0) (acceptor 1) (msg.PreRead (asking 0 1) next)  -- 31

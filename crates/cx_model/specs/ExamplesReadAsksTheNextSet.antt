@@ -1,5 +1,5 @@
--- A read has one answer of a matchmaker when the reader hears of the next set: it asks that one's members under the same turn, and counts their
--- answers alone. An answer that was late, and one of a matchmaker that never heard that it was replaced, count no more.
+-- A read has one answer of a matchmaker when the reader hears of the next set: it asks that one's members under the same turn, and counts
+-- their answers alone. An answer that was late, and one of a matchmaker that never heard that it was replaced, count no more.
 use Rattle.std.specs.Prelude.{ℕ, List, [], ◌∷◌, codes}
 use Rattle.std.proofs.Common.{lit≤}
 use Rattle.cx_base.specs.declared.cluster.Cluster.{Cluster}
@@ -9,7 +9,8 @@ use Rattle.cx_base.specs.Round.{no_round}
 use Rattle.cx_letter.specs.Letter.{letter}
 use Rattle.cx_letter.specs.declared.kept.Record.TheVariants as kept
 use Rattle.cx_letter.specs.declared.message.Msg.TheVariants as msg
-use Rattle.cx_model.specs.Examples.{Line, IsRun, one_of_each, client, leader, matchmaker, replica, reader, replacer, first, replace, deliver, final_state, hold, ◌⇒◌, ◌keeping◌by◌, ◌sending◌}
+use Rattle.cx_model.specs.Examples.{Line, IsRun, one_of_each, client, leader, matchmaker, replica, reader, replacer, first, replace}
+use Rattle.cx_model.specs.Examples.{deliver, final_state, hold, ◌⇒◌, ◌keeping◌by◌, ◌sending◌}
 use Rattle.cx_model.specs.Reader.{asking, make_token}
 
 abbrev pub cluster : Cluster

@@ -1,5 +1,5 @@
--- A leader goes on with another grid, and the matchmaker refuses: a later round is recorded. The leader gives up, and can only lead anew, in
--- a round that asks the acceptors.
+-- A leader goes on with another grid, and the matchmaker refuses: a later round is recorded. The leader gives up, and can only lead anew,
+-- in a round that asks the acceptors.
 use Rattle.std.specs.Prelude.{◌++◌, true, List, [], ◌∷◌}
 use Rattle.cx_base.specs.declared.round.Round.{Round}
 use Rattle.cx_base.specs.declared.why.Why.TheVariants as why
@@ -8,7 +8,8 @@ use Rattle.cx_field.specs.declared.parts.NackReason.TheVariants as nack
 use Rattle.cx_letter.specs.Letter.{letter}
 use Rattle.cx_letter.specs.declared.kept.Record.TheVariants as kept
 use Rattle.cx_letter.specs.declared.message.Msg.TheVariants as msg
-use Rattle.cx_model.specs.Examples.{Line, IsRun, two_leaders, batcher, leader, proxy, acceptor, matchmaker, make_round, first, single, put_a, batch_of, make_vote, lead, change, deliver, final_state, hold, ◌⇒◌, ◌keeping◌by◌, ◌sending◌}
+use Rattle.cx_model.specs.Examples.{Line, IsRun, two_leaders, batcher, leader, proxy, acceptor, matchmaker, make_round, first, single}
+use Rattle.cx_model.specs.Examples.{put_a, batch_of, make_vote, lead, change, deliver, final_state, hold, ◌⇒◌, ◌keeping◌by◌, ◌sending◌}
 use Rattle.cx_model.specs.Matchmaker.{entry}
 use Rattle.cx_model.specs.ExamplesOnePut.{voted}
 

@@ -1,5 +1,6 @@
--- Two clients send a command again with another floor, one with a greater and one with a lesser one, and each is chosen in two slots. It acts once,
--- and has the same answer again. The greater floor stays told, so that the client's earlier number doesn't act any more, and has no answer.
+-- Two clients send a command again with another floor, one with a greater and one with a lesser one, and each is chosen in two slots. It
+-- acts once, and has the same answer again. The greater floor stays told, so that the client's earlier number doesn't act any more, and has
+-- no answer.
 use Rattle.std.specs.Prelude.{true, false, List, [], ◌∷◌, codes}
 use Rattle.std.proofs.Common.{lit≤}
 use Rattle.cx_base.specs.declared.cluster.Cluster.{Cluster}
@@ -13,7 +14,9 @@ use Rattle.cx_base.specs.Round.{no_round}
 use Rattle.cx_letter.specs.Letter.{letter}
 use Rattle.cx_letter.specs.declared.kept.Record.TheVariants as kept
 use Rattle.cx_letter.specs.declared.message.Msg.TheVariants as msg
-use Rattle.cx_model.specs.Examples.{Line, IsRun, one_of_each, client, batcher, leader, proxy, acceptor, matchmaker, replica, unbatcher, first, single, make_put, app, command_with_floor, put_a, answered, lead, deliver, final_state, hold, make_pair, ◌⇒◌, ◌keeping◌by◌, ◌sending◌}
+use Rattle.cx_model.specs.Examples.{Line, IsRun, one_of_each, client, batcher, leader, proxy, acceptor, matchmaker, replica, unbatcher}
+use Rattle.cx_model.specs.Examples.{first, single, make_put, app, command_with_floor, put_a, answered, lead, deliver, final_state, hold}
+use Rattle.cx_model.specs.Examples.{make_pair, ◌⇒◌, ◌keeping◌by◌, ◌sending◌}
 
 abbrev pub cluster : Cluster
 cluster =

@@ -1,6 +1,6 @@
--- The only replica forgets the one value that it holds, as nobody will ask it for that: its list has the map and the answers in its place. It
--- finds nothing more to forget, also when it is opened again, and goes on with the next command as before. If it crashes inside the renewal
--- its store has the old list, and it forgets the value later, or the new one.
+-- The only replica forgets the one value that it holds, as nobody will ask it for that: its list has the map and the answers in its place.
+-- It finds nothing more to forget, also when it is opened again, and goes on with the next command as before. If it crashes inside the
+-- renewal its store has the old list, and it forgets the value later, or the new one.
 use Rattle.std.specs.Prelude.{◌≡◌, ◌++◌, true, List, [], ◌∷◌, codes}
 use Rattle.cx_base.specs.declared.command.Command.{Command}
 use Rattle.cx_base.specs.declared.command.Note.{Note}
@@ -12,7 +12,9 @@ use Rattle.cx_letter.specs.Letter.{letter}
 use Rattle.cx_letter.specs.declared.kept.Record.{Record}
 use Rattle.cx_letter.specs.declared.kept.Record.TheVariants as kept
 use Rattle.cx_letter.specs.declared.message.Msg.TheVariants as msg
-use Rattle.cx_model.specs.Examples.{Line, IsRun, run_of_lines, one_of_each, client, batcher, leader, proxy, acceptor, replica, unbatcher, first, single, app, put_a, batch_of, answered, deliver, final_state, hold, make_pair, ◌⇒◌, ◌keeping◌by◌, ◌snapping◌by◌, ◌sending◌}
+use Rattle.cx_model.specs.Examples.{Line, IsRun, run_of_lines, one_of_each, client, batcher, leader, proxy, acceptor, replica, unbatcher}
+use Rattle.cx_model.specs.Examples.{first, single, app, put_a, batch_of, answered, deliver, final_state, hold, make_pair, ◌⇒◌, ◌keeping◌by◌}
+use Rattle.cx_model.specs.Examples.{◌snapping◌by◌, ◌sending◌}
 use Rattle.cx_model.specs.ExamplesOnePut.{story as put_story}
 use Rattle.cx_model.specs.Replica.{replica_rules}
 use Rattle.cx_model.specs.World.{list_of}
@@ -80,7 +82,9 @@ cut =
     ∷ []
 
 pub record SnapshotOfOne : Type 0 where
-  pub whole : IsRun one_of_each story (final_state (batch_of put_a ∷ batch_of app_a ∷ []) (true ∷ true ∷ []) (hold 2 (make_pair (codes "a") (codes "1x") ∷ []) ∷ []))
+  pub whole : IsRun one_of_each story
+      (final_state (batch_of put_a ∷ batch_of app_a ∷ []) (true ∷ true ∷ []) (hold 2 (make_pair (codes "a") (codes "1x") ∷ []) ∷ []))
   pub list : list_of replica_rules (replica 0) (run_of_lines one_of_each story).kept ≡ renewed ++ kept.Log (batch_of app_a ∷ []) ∷ []
-  pub when_cut : IsRun one_of_each cut (final_state (batch_of put_a ∷ []) (true ∷ []) (hold 1 (make_pair (codes "a") (codes "1") ∷ []) ∷ []))
+  pub when_cut : IsRun one_of_each cut
+      (final_state (batch_of put_a ∷ []) (true ∷ []) (hold 1 (make_pair (codes "a") (codes "1") ∷ []) ∷ []))
   pub list_when_cut : list_of replica_rules (replica 0) (run_of_lines one_of_each cut).kept ≡ renewed

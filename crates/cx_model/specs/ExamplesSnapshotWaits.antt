@@ -8,7 +8,8 @@ use Rattle.cx_base.specs.declared.why.Why.TheVariants as why
 use Rattle.cx_letter.specs.Letter.{letter}
 use Rattle.cx_letter.specs.declared.kept.Record.TheVariants as kept
 use Rattle.cx_letter.specs.declared.message.Msg.TheVariants as msg
-use Rattle.cx_model.specs.Examples.{Line, IsRun, leader, proxy, replica, unbatcher, first, put_a, batch_of, answered, deliver, final_state, hold, make_pair, Holding, ◌⇒◌, ◌keeping◌by◌, ◌snapping◌by◌, ◌sending◌}
+use Rattle.cx_model.specs.Examples.{Line, IsRun, leader, proxy, replica, unbatcher, first, put_a, batch_of, answered, deliver, final_state}
+use Rattle.cx_model.specs.Examples.{hold, make_pair, Holding, ◌⇒◌, ◌keeping◌by◌, ◌snapping◌by◌, ◌sending◌}
 use Rattle.cx_model.specs.ExamplesDeferredRead.{cluster}
 use Rattle.cx_model.specs.ExamplesOnePut.{voted}
 

@@ -1,6 +1,6 @@
--- Three rounds: the second retires the earlier one at one matchmaker, the third is recorded at another one. Then these two stop, and the next set
--- begins with the greatest retirement watermark and all entries from there on. Both leaders learn of it, ask it and count its answers alone. The
--- member that hasn't begun answers nothing.
+-- Three rounds: the second retires the earlier one at one matchmaker, the third is recorded at another one. Then these two stop, and the
+-- next set begins with the greatest retirement watermark and all entries from there on. Both leaders learn of it, ask it and count its
+-- answers alone. The member that hasn't begun answers nothing.
 use Rattle.std.specs.Prelude.{ℕ, List, [], ◌∷◌}
 use Rattle.std.proofs.Common.{lit≤}
 use Rattle.cx_base.specs.declared.cluster.Cluster.{Cluster}
@@ -10,7 +10,8 @@ use Rattle.cx_base.specs.Round.{no_round}
 use Rattle.cx_letter.specs.Letter.{letter}
 use Rattle.cx_letter.specs.declared.kept.Record.TheVariants as kept
 use Rattle.cx_letter.specs.declared.message.Msg.TheVariants as msg
-use Rattle.cx_model.specs.Examples.{Line, IsRun, one_of_each, batcher, leader, acceptor, matchmaker, reader, replacer, make_round, first, single, lead, collect, replace, deliver, final_state, hold, ◌⇒◌, ◌keeping◌by◌, ◌sending◌}
+use Rattle.cx_model.specs.Examples.{Line, IsRun, one_of_each, batcher, leader, acceptor, matchmaker, reader, replacer, make_round, first}
+use Rattle.cx_model.specs.Examples.{single, lead, collect, replace, deliver, final_state, hold, ◌⇒◌, ◌keeping◌by◌, ◌sending◌}
 use Rattle.cx_model.specs.Matchmaker.{entry}
 
 abbrev pub cluster : Cluster
@@ -99,7 +100,8 @@ story =
     sending letter (matchmaker 1) (replacer 0) (msg.StopB first second (entry second (single 0) ∷ []) no_round [])  -- 25
     ∷ deliver 22 ⇒ why.Halted
     keeping kept.Stop first by matchmaker 0
-    sending letter (matchmaker 0) (replacer 0) (msg.StopB first no_round (entry first (single 0) ∷ entry second (single 0) ∷ entry third (single 0) ∷ []) no_round [])  -- 26
+    sending letter (matchmaker 0) (replacer 0)
+    (msg.StopB first no_round (entry first (single 0) ∷ entry second (single 0) ∷ entry third (single 0) ∷ []) no_round [])  -- 26
     ∷ deliver 25 ⇒ why.Counted
     ∷ deliver 26 ⇒ why.Asking
     sending letter (replacer 0) (matchmaker 0) (msg.NextA first next)  -- 27

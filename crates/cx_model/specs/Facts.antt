@@ -1,6 +1,7 @@
 -- The facts from which the hard property follows, as they hold at the end of each event of each run: the published ones, in words that stay
 -- true once they are. Nothing of them is proved here. The laws keep them, with what must be added so that a step keeps them.
-use Rattle.std.specs.Prelude.{◌≡◌, ℕ, ◌+◌, ◌<◌, ◌≤◌, Bool, true, false, not, ◌&&◌, ◌||◌, ◌⊎◌, filter, List, ◌++◌, length, slice_get, Option, None, Some}
+use Rattle.std.specs.Prelude.{◌≡◌, ℕ, ◌+◌, ◌<◌, ◌≤◌, Bool, true, false, not, ◌&&◌, ◌||◌, ◌⊎◌, filter, List, ◌++◌, length, slice_get, Option}
+use Rattle.std.specs.Prelude.{None, Some}
 use Rattle.std.specs.List.{list_any}
 use Rattle.cx_base.specs.declared.cluster.Cluster.{Cluster}
 use Rattle.cx_base.specs.declared.command.Command.{Command}
@@ -127,8 +128,8 @@ IsOpen c history i = (s : List ℕ) × IsSet c history s × (c.f + 1 ≤ length 
 abbrev pub IsProposed : List Letter → Round → ℕ → Value → Type 0
 IsProposed sent i s v = (from : RoleId) × (to : RoleId) × (g : Shape) × (cw : ℕ) × Member (letter from to (msg.Propose i g s cw v)) sent
 
--- A value can still be chosen in a round: the round is open; each member of some column of its grid voted for it in the round or has promised no
--- later one; and it was proposed in the round, or the round's leader has begun no later one.
+-- A value can still be chosen in a round: the round is open; each member of some column of its grid voted for it in the round or has
+-- promised no later one; and it was proposed in the round, or the round's leader has begun no later one.
 pub record CanBeChosen (c : Cluster) (history : List KeptRecord) (sent : List Letter) (j : Round) (s : ℕ) (v : Value) : Type 0 where
   pub is_open : IsOpen c history j
   pub grid : Shape
@@ -138,7 +139,8 @@ pub record CanBeChosen (c : Cluster) (history : List KeptRecord) (sent : List Le
   pub in_grid : column < grid.cols
   pub members : (a : ℕ) → Member a (column_of grid column)
       → HasVoted history (role kind.Acceptor a) j s v ⊎ (is_before j (acceptor_of history a).promise ≡ false)
-  pub may : IsProposed sent j s v ⊎ ((i : Round) (g : Shape) → HasKept history (role kind.Leader j.id) (kept.Round i g) → is_before j i ≡ false)
+  pub may : IsProposed sent j s v
+      ⊎ ((i : Round) (g : Shape) → HasKept history (role kind.Leader j.id) (kept.Round i g) → is_before j i ≡ false)
 
 -- a round's value for a slot is in a proposal, in the asking for votes, or in a vote
 abbrev pub Carries : World → Round → ℕ → Value → Type 0
@@ -160,16 +162,21 @@ IsFinished c es i cw end = (n : ℕ) × Member {X = Finish} (record { event = n;
 -- What a running role counted, holds pending or knows came to it in datagrams.
 
 pub record LeaderWasTold (sent : List Letter) (me : RoleId) (i : Round) (v : LeaderVolatile) : Type 0 where
-  pub answers : (a : MatchAnswer) → Member a v.told → Member (letter (role kind.Matchmaker a.matchmaker) me (msg.MatchB i a.watermark a.entries)) sent
+  pub answers : (a : MatchAnswer) → Member a v.told
+      → Member (letter (role kind.Matchmaker a.matchmaker) me (msg.MatchB i a.watermark a.entries)) sent
   pub promises : (p : Promised) → Member p v.promises → Member (letter (role kind.Acceptor p.acceptor) me (msg.Phase1B i p.cw p.votes)) sent
   pub chosen : (s : ℕ) → is_leading v.mode ≡ true → Member s v.chosen → (from : RoleId) × Member (letter from me (msg.ChosenIn i s)) sent
   pub held : (p n : ℕ) → slice_get v.held p ≡ Some n → (n ≡ 0) ⊎ Member (letter (role kind.Replica p) me (msg.Held n)) sent
-  pub informed : (a : ℕ) → is_informing v.collection.stage ≡ true → Member a v.collection.counted → IsInformed sent (role kind.Acceptor a) i v.collection.mark
-  pub forgotten : (m : ℕ) → is_collecting v.collection.stage ≡ true → Member m v.collection.counted → Member (letter (role kind.Matchmaker m) me (msg.GarbageB i)) sent
+  pub informed : (a : ℕ) → is_informing v.collection.stage ≡ true → Member a v.collection.counted
+      → IsInformed sent (role kind.Acceptor a) i v.collection.mark
+  pub forgotten : (m : ℕ) → is_collecting v.collection.stage ≡ true → Member m v.collection.counted
+      → Member (letter (role kind.Matchmaker m) me (msg.GarbageB i)) sent
 
 pub record ProxyWasTold (sent : List Letter) (me : RoleId) (v : ProxyVolatile) : Type 0 where
-  pub proposed : (p : Pending) → Member p v.pending → (from : RoleId) × Member (letter from me (msg.Propose p.round p.grid p.slot p.cw p.value)) sent
-  pub votes : (p : Pending) (a : ℕ) → Member p v.pending → Member a p.marks → Member (letter (role kind.Acceptor a) me (msg.Phase2B p.round p.slot)) sent
+  pub proposed : (p : Pending) → Member p v.pending
+      → (from : RoleId) × Member (letter from me (msg.Propose p.round p.grid p.slot p.cw p.value)) sent
+  pub votes : (p : Pending) (a : ℕ) → Member p v.pending → Member a p.marks
+      → Member (letter (role kind.Acceptor a) me (msg.Phase2B p.round p.slot)) sent
 
 pub record BatcherWasTold (sent : List Letter) (me : RoleId) (v : BatcherVolatile) : Type 0 where
   pub commands : (k : Command) → Member k v.waiting → (from : RoleId) × Member (letter from me (msg.Submit k)) sent
@@ -201,8 +208,8 @@ pub record ReaderWasTold (sent : List Letter) (me : RoleId) (v : ReaderVolatile)
 
 -- what a replacer counts came in datagrams of its own ballot, or of the set that it lets begin
 pub record ReplacerWasTold (sent : List Letter) (me : RoleId) (b : Round) (v : ReplacerVolatile) : Type 0 where
-  pub halts : (h : Halt) → is_stopping v.mode ≡ true → Member h v.halts
-      → Member (letter (role kind.Matchmaker h.answer.matchmaker) me (msg.StopB b h.answer.watermark h.answer.entries h.accepted h.next)) sent
+  pub halts : (h : Halt) → is_stopping v.mode ≡ true → Member h v.halts → Member (letter (role kind.Matchmaker h.answer.matchmaker) me
+      (msg.StopB b h.answer.watermark h.answer.entries h.accepted h.next)) sent
   pub accepted : (m : ℕ) → is_deciding v.mode ≡ true → Member m v.counted → Member (letter (role kind.Matchmaker m) me (msg.NextB b)) sent
   pub begun : (m : ℕ) → is_booting v.mode ≡ true → Member m v.counted → Member (letter (role kind.Matchmaker m) me (msg.BootB v.next)) sent
 
@@ -240,28 +247,33 @@ pub record MatchingFacts (c : Cluster) (es : List Event) : Type 0 where
       → is_round_in i r ≡ true → is_round_in j s ≡ true → m < n → is_before i j ≡ true
   -- an answer from a matchmaker that doesn't have the round comes after the round was finished and began to retire others
   pub answered : (from to : RoleId) (i w : Round) (entries : List Entry) → Member (letter from to (msg.MatchB i w entries)) (run c es).sent
-      → ((g : Shape) × HasRound (run c es).kept from i g) ⊎ (IsRetiring (run c es).sent i × ((cw : ℕ) × (end : ℕ) × IsFinished c es i cw end))
+      → ((g : Shape) × HasRound (run c es).kept from i g)
+      ⊎ (IsRetiring (run c es).sent i × ((cw : ℕ) × (end : ℕ) × IsFinished c es i cw end))
   -- an answer has each earlier round that its sender has, or its retirement watermark is above it
   pub tells : (from to : RoleId) (i w : Round) (entries : List Entry) → Member (letter from to (msg.MatchB i w entries)) (run c es).sent
       → (j : Round) (g : Shape) → is_before j i ≡ true → HasRound (run c es).kept from j g
       → Member {X = Entry} (record { round = j; grid = g }) entries ⊎ (is_before j w ≡ true)
   -- a real retirement watermark has its entry, unless it is the answer's own round
-  pub has_watermark : (from to : RoleId) (i w : Round) (entries : List Entry) → Member (letter from to (msg.MatchB i w entries)) (run c es).sent
-      → (w ≡ no_round) ⊎ ((w ≡ i) ⊎ ((g : Shape) × Member {X = Entry} (record { round = w; grid = g }) entries))
+  pub has_watermark : (from to : RoleId) (i w : Round) (entries : List Entry) → Member (letter from to (msg.MatchB i w entries))
+      (run c es).sent → (w ≡ no_round) ⊎ ((w ≡ i) ⊎ ((g : Shape) × Member {X = Entry} (record { round = w; grid = g }) entries))
   -- what an answer to a reader says, when it is sent
   pub tells_readers : (e : Event) (from to : RoleId) (u : Asking) (w : Round) (entries : List Entry)
       → Member (letter from to (msg.MatchReadAck u w entries)) (change (run c es) e).sends
       → (j : Round) (g : Shape) → HasRound (run c es).kept from j g
       → Member {X = Entry} (record { round = j; grid = g }) entries ⊎ (is_before j w ≡ true)
-  pub readers_watermark : (from to : RoleId) (u : Asking) (w : Round) (entries : List Entry) → Member (letter from to (msg.MatchReadAck u w entries)) (run c es).sent
+  pub readers_watermark : (from to : RoleId) (u : Asking) (w : Round) (entries : List Entry)
+      → Member (letter from to (msg.MatchReadAck u w entries)) (run c es).sent
       → (w ≡ no_round) ⊎ ((g : Shape) × Member {X = Entry} (record { round = w; grid = g }) entries)
   -- Promising: an acceptor that promised stays at or above the round and the chosen watermark, and reports only votes of its own;
-  pub promised : (a : ℕ) (to : RoleId) (i : Round) (cw : ℕ) (votes : List Vote) → Member (letter (role kind.Acceptor a) to (msg.Phase1B i cw votes)) (run c es).sent
+  pub promised : (a : ℕ) (to : RoleId) (i : Round) (cw : ℕ) (votes : List Vote)
+      → Member (letter (role kind.Acceptor a) to (msg.Phase1B i cw votes)) (run c es).sent
       → (is_before (acceptor_of (run c es).kept a).promise i ≡ false) × (cw ≤ (acceptor_of (run c es).kept a).cw)
-  pub tells_own : (a : ℕ) (to : RoleId) (i : Round) (cw : ℕ) (votes : List Vote) → Member (letter (role kind.Acceptor a) to (msg.Phase1B i cw votes)) (run c es).sent
+  pub tells_own : (a : ℕ) (to : RoleId) (i : Round) (cw : ℕ) (votes : List Vote)
+      → Member (letter (role kind.Acceptor a) to (msg.Phase1B i cw votes)) (run c es).sent
       → (u : Vote) → Member u votes → HasVoted (run c es).kept (role kind.Acceptor a) u.round u.slot u.value × (cw ≤ u.slot)
   -- and for each of its votes of an earlier round from the chosen watermark on, it reports a vote of that round or a later one
-  pub tells_last : (a : ℕ) (to : RoleId) (i : Round) (cw : ℕ) (votes : List Vote) → Member (letter (role kind.Acceptor a) to (msg.Phase1B i cw votes)) (run c es).sent
+  pub tells_last : (a : ℕ) (to : RoleId) (i : Round) (cw : ℕ) (votes : List Vote)
+      → Member (letter (role kind.Acceptor a) to (msg.Phase1B i cw votes)) (run c es).sent
       → (j : Round) (s : ℕ) (v : Value) → is_before j i ≡ true → cw ≤ s → HasVoted (run c es).kept (role kind.Acceptor a) j s v
       → (u : Vote) × Member u votes × (u.slot ≡ s) × (is_before u.round j ≡ false)
 
@@ -279,8 +291,8 @@ pub record IsCollected (c : Cluster) (es : List Event) (w : Round) (g : Shape) :
   pub informed : (a : ℕ) → Member a (column_of g column) → IsInformed (run c es).sent (role kind.Acceptor a) w mark
   pub chosen : (s : ℕ) → mark ≤ s → s < end → (v : Value) × (is_chosen_in (run c es).kept w g s v ≡ true)
 
--- Collection: a matchmaker forgets rounds, or begins without them, only for one that was collected, and whoever was informed says so to every
--- later round.
+-- Collection: a matchmaker forgets rounds, or begins without them, only for one that was collected, and whoever was informed says so to
+-- every later round.
 pub record CollectionFacts (c : Cluster) (es : List Event) : Type 0 where
   pub collected : (who : RoleId) (w : Round) (g : Shape) → HasRetired (run c es).kept who w g → IsCollected c es w g
   pub asked : (who : RoleId) (w : Round) (g : Shape) → HasRetired (run c es).kept who w g → IsRetiring (run c es).sent w
@@ -308,12 +320,14 @@ pub record WatermarkFacts (c : Cluster) (w : World) : Type 0 where
   pub records : (who : RoleId) (what : Record) (cw : ℕ) → HasKept w.kept who what → watermark_in what ≡ Some cw → IsHeld c w.kept cw
   pub datagrams : (d : Letter) (cw : ℕ) → Member d w.sent → watermark_of d.msg ≡ Some cw → IsHeld c w.kept cw
   pub acceptors : (a : ℕ) → IsHeld c w.kept (acceptor_of w.kept a).cw
-  pub leaders : (l : ℕ) (v : LeaderVolatile) → w.roles (role kind.Leader l) ≡ LeaderIn v → IsHeld c w.kept v.cw × IsHeld c w.kept v.collection.mark
+  pub leaders : (l : ℕ) (v : LeaderVolatile) → w.roles (role kind.Leader l) ≡ LeaderIn v
+      → IsHeld c w.kept v.cw × IsHeld c w.kept v.collection.mark
   pub proxies : (p : ℕ) (v : ProxyVolatile) → w.roles (role kind.Proxy p) ≡ ProxyIn v
       → IsHeld c w.kept v.known × ((q : Pending) → Member q v.pending → IsHeld c w.kept q.cw)
   -- a replica reports no more than it holds, and a leader notes no more
   pub told : (p : ℕ) (to : RoleId) (n : ℕ) → Member (letter (role kind.Replica p) to (msg.Held n)) w.sent → n ≤ length (log_of p w.kept)
-  pub noted : (l : ℕ) (v : LeaderVolatile) (p n : ℕ) → w.roles (role kind.Leader l) ≡ LeaderIn v → slice_get v.held p ≡ Some n → n ≤ length (log_of p w.kept)
+  pub noted : (l : ℕ) (v : LeaderVolatile) (p n : ℕ) → w.roles (role kind.Leader l) ≡ LeaderIn v → slice_get v.held p ≡ Some n
+      → n ≤ length (log_of p w.kept)
   pub kept_is_chosen : (p s : ℕ) (v : Value) → slice_get (log_of p w.kept) s ≡ Some v → is_chosen w.kept s v ≡ true
 
 -- Open rounds: what can still be chosen in an earlier round is what a finished round proposes, from its chosen watermark on.
@@ -321,10 +335,11 @@ pub record OpenRoundFacts (c : Cluster) (es : List Event) : Type 0 where
   pub proposed : (i : Round) (cw end : ℕ) → IsFinished c es i cw end
       → (j : Round) (s : ℕ) (v : Value) → is_before j i ≡ true → cw ≤ s → CanBeChosen c (run c es).kept (run c es).sent j s v
       → (s < end) × IsProposed (run c es).sent i s v
-  pub from_watermark_on : (i : Round) (cw end : ℕ) → IsFinished c es i cw end → (s : ℕ) (v : Value) → IsProposed (run c es).sent i s v → cw ≤ s
+  pub from_watermark_on : (i : Round) (cw end : ℕ) → IsFinished c es i cw end → (s : ℕ) (v : Value)
+      → IsProposed (run c es).sent i s v → cw ≤ s
 
--- Reads: answers to a reader come after it kept the turn that they are of, and that after each read of the turn's batch was asked for; their numbers
--- are above all that their senders voted for till then.
+-- Reads: answers to a reader come after it kept the turn that they are of, and that after each read of the turn's batch was asked for;
+-- their numbers are above all that their senders voted for till then.
 pub record ReadFacts (c : Cluster) (es : List Event) : Type 0 where
   pub matchmakers_asked : (from to : RoleId) (u : Asking) (w : Round) (entries : List Entry)
       → Member (letter from to (msg.MatchReadAck u w entries)) (run c es).sent → HasTurn (run c es).kept u

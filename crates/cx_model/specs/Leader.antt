@@ -1,5 +1,6 @@
 -- The leader's rows: it begins rounds and retires the earlier ones (JSys 2021), and gives each batch a slot while it leads (VLDB 2021).
-use Rattle.std.specs.Prelude.{ℕ, ◌+◌, ◌-◌, ◌%◌, ◌==◌, Bool, true, false, not, ◌&&◌, ◌||◌, nat_lt, nat_le, max, map, filter, if◌then◌else◌, List, [], ◌∷◌, ◌++◌, length, Option, None, Some, slice_index_or, slice_set}
+use Rattle.std.specs.Prelude.{ℕ, ◌+◌, ◌-◌, ◌%◌, ◌==◌, Bool, true, false, not, ◌&&◌, ◌||◌, nat_lt, nat_le, max, map, filter, if◌then◌else◌}
+use Rattle.std.specs.Prelude.{List, [], ◌∷◌, ◌++◌, length, Option, None, Some, slice_index_or, slice_set}
 use Rattle.std.specs.List.{list_all}
 use Rattle.cx_base.specs.declared.cluster.Cluster.{Cluster}
 use Rattle.cx_base.specs.declared.command.Command.{Command}
@@ -32,8 +33,10 @@ use Rattle.cx_model.specs.declared.states.Mode.{Mode}
 use Rattle.cx_model.specs.declared.states.Mode.TheVariants.{Idle, Matching, Phase1, Leading}
 use Rattle.cx_model.specs.declared.states.Plan.{Plan}
 use Rattle.cx_model.specs.declared.states.Promised.{Promised}
-use Rattle.cx_model.specs.Collection.{Collection, not_collecting, collection_from, with_informed, with_forgotten, is_off, is_informing, is_collecting, is_retired}
-use Rattle.cx_model.specs.Matched.{enough, first_set, later_round, is_counted, live_entries, is_member_of, members_of, members_in, rows_whole}
+use Rattle.cx_model.specs.Collection.{Collection, not_collecting, collection_from, with_informed, with_forgotten, is_off, is_informing}
+use Rattle.cx_model.specs.Collection.{is_collecting, is_retired}
+use Rattle.cx_model.specs.Matched.{enough, first_set, later_round, is_counted, live_entries, is_member_of, members_of, members_in}
+use Rattle.cx_model.specs.Matched.{rows_whole}
 use Rattle.cx_model.specs.Names.{names, names_round, names_grid}
 use Rattle.cx_model.specs.Outcome.{Outcome, only_word, replied}
 use Rattle.cx_model.specs.Plan.{promised_by, has_promised, plan, placed_from}
@@ -45,8 +48,8 @@ pub record LeaderDurable : Type 0 where
 
 -- What it is doing; the greatest round that a refusal named; the set of matchmakers that it knows; the greatest number of slots that
 -- each replica reported; the matchmakers' and the acceptors' answers that it counted; the chosen watermark and the next free slot; the
--- slot behind the last one that it proposed when it began to lead; the values that it proposed from the chosen watermark on, by slot, in its
--- round or, while it goes on to another grid, in the round before; which of these slots it knows to be chosen in its round; and how
+-- slot behind the last one that it proposed when it began to lead; the values that it proposed from the chosen watermark on, by slot, in
+-- its round or, while it goes on to another grid, in the round before; which of these slots it knows to be chosen in its round; and how
 -- far it is in retiring the earlier rounds.
 pub record LeaderVolatile : Type 0 where
   pub mode : Mode
@@ -364,8 +367,8 @@ tick_in c me v Idle (Some own) = only_word why.Idle v
 tick_in c me v Matching (Some own) = replied why.Resent v (map (match_a_to me own.round own.grid) v.set)
 tick_in c me v Phase1 (Some own) = replied why.Resent v (map (phase1a_to me own.round) (members_of c (live_entries v.told)))
 tick_in c me v Leading (Some own) =
-    replied why.Resent v
-    (map (propose_to c me own v.cw) (open_values v) ++ map (leads_to me own.round) (below c.batchers) ++ stage_sends c me own v.set v.collection)
+    replied why.Resent v (map (propose_to c me own v.cw) (open_values v) ++ map (leads_to me own.round) (below c.batchers)
+    ++ stage_sends c me own v.set v.collection)
 
 -- an order; matchmakers are replaced by a replacer
 abbrev pub order_row : Cluster → RoleId → LeaderDurable → LeaderVolatile → OrderOf → Outcome LeaderVolatile

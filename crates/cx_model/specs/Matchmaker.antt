@@ -1,13 +1,15 @@
--- The matchmaker's rows: it records which grid each round uses, and is replaced as a member of a set (JSys 2021; the rows of being replaced are
--- this project's own).
-use Rattle.std.specs.Prelude.{ℕ, ◌+◌, ◌*◌, ◌-◌, bytes_eq, Bool, true, false, not, ◌&&◌, nat_lt, nat_le, filter, if◌then◌else◌, List, [], ◌∷◌, ◌++◌, length, slice_get, Option, None, Some}
+-- The matchmaker's rows: it records which grid each round uses, and is replaced as a member of a set (JSys 2021; the rows of being replaced
+-- are this project's own).
+use Rattle.std.specs.Prelude.{ℕ, ◌+◌, ◌*◌, ◌-◌, bytes_eq, Bool, true, false, not, ◌&&◌, nat_lt, nat_le, filter, if◌then◌else◌, List, []}
+use Rattle.std.specs.Prelude.{◌∷◌, ◌++◌, length, slice_get, Option, None, Some}
 use Rattle.std.specs.List.{list_all, list_any}
 use Rattle.std.specs.Option.{option_map_or}
 use Rattle.cx_base.specs.declared.cluster.Cluster.{Cluster}
 use Rattle.cx_base.specs.declared.role.Kind.TheVariants.{Matchmaker}
 use Rattle.cx_base.specs.declared.role.RoleId.{RoleId}
 use Rattle.cx_base.specs.declared.round.Round.{Round}
-use Rattle.cx_base.specs.declared.why.Why.TheVariants.{Accepted, Asked, Booted, Collected, Full, Halted, Idle, Later, Matched, Nack, New, Old, Raised, Same, Stopped, Stranger, Unasked}
+use Rattle.cx_base.specs.declared.why.Why.TheVariants.{Accepted, Asked, Booted, Collected, Full, Halted, Idle, Later, Matched, Nack, New}
+use Rattle.cx_base.specs.declared.why.Why.TheVariants.{Old, Raised, Same, Stopped, Stranger, Unasked}
 use Rattle.cx_base.specs.Grid.{Shape, is_in}
 use Rattle.cx_base.specs.Role.{same_role}
 use Rattle.cx_base.specs.Lists.{below}
@@ -28,8 +30,8 @@ use Rattle.cx_model.specs.Outcome.{Outcome, only_word, replied}
 use Rattle.cx_model.specs.Rules.{Rules}
 
 -- The round below which rounds are retired, and the rounds that were recorded, rising, with their grids; the set with which it began, if it
--- began in one that followed another; the greatest ballot that it promised, which it stopped under, and the ballot in which it accepted a next
--- set last, with that set.
+-- began in one that followed another; the greatest ballot that it promised, which it stopped under, and the ballot in which it accepted a
+-- next set last, with that set.
 pub record MatchmakerDurable : Type 0 where
   pub watermark : Round
   pub entries : List Entry
@@ -109,8 +111,8 @@ match_nack_to me leader i reason other = letter me leader (msg.MatchNack i reaso
 abbrev pub match_a_row : RoleId → MatchmakerDurable → RoleId → Round → Shape → Outcome (Unit {0})
 match_a_row me d from i g =
     if is_before i d.watermark then replied Collected tt (match_nack_to me from i nack.Collected d.watermark ∷ [])
-    else if list_any (λ (e : Entry). is_before i e.round) d.entries then replied Later tt (match_nack_to me from i nack.Later (greatest d.entries) ∷ [])
-    else if has_round i d.entries then replied Same tt (match_b_to me from i d ∷ [])
+    else if list_any (λ (e : Entry). is_before i e.round) d.entries then replied Later tt (match_nack_to me from i nack.Later
+    (greatest d.entries) ∷ []) else if has_round i d.entries then replied Same tt (match_b_to me from i d ∷ [])
     else if nat_le 16 (length d.entries) then replied Full tt (match_nack_to me from i nack.Full (greatest d.entries) ∷ [])
     else record { why = Matched; kept = Some (kept.Match i g); volatile = tt; sends = match_b_to me from i d ∷ [] }
 

@@ -96,7 +96,8 @@ names_body c (msg.PreReadAck u w n) = names_asking c u && names_round c w
 names_body c (msg.Read t n key) = names_token c t
 names_body c (msg.ReadAnswer seq n text) = true
 names_body c (msg.StopA b) = names_ballot c b
-names_body c (msg.StopB b w es a s) = names_ballot c b && names_round c w && list_all (λ (e : Entry). names_entry c e) es && names_ballot c a && names_next c s
+names_body c (msg.StopB b w es a s) =
+    names_ballot c b && names_round c w && list_all (λ (e : Entry). names_entry c e) es && names_ballot c a && names_next c s
 names_body c (msg.StopNack b a) = names_ballot c b && names_ballot c a
 names_body c (msg.NextA b s) = names_ballot c b && names_set c s
 names_body c (msg.NextB b) = names_ballot c b

@@ -1,14 +1,16 @@
--- The reader's rows: reads wait, and at most one batch of them runs. For a batch the reader keeps its next turn, and asks enough matchmakers for
--- the live grids, then a row of each for its greatest voted slot; then it asks one replica for each read, which answers once it holds this
--- many slots (VLDB 2021: quorum reads; over several grids, and in batches, this project's own).
-use Rattle.std.specs.Prelude.{ℕ, ◌+◌, ◌==◌, Bool, false, not, ◌&&◌, nat_le, nat_lt, max, map, if◌then◌else◌, List, [], ◌∷◌, ◌++◌, length, Option, None, Some, true}
+-- The reader's rows: reads wait, and at most one batch of them runs. For a batch the reader keeps its next turn, and asks enough
+-- matchmakers for the live grids, then a row of each for its greatest voted slot; then it asks one replica for each read, which answers
+-- once it holds this many slots (VLDB 2021: quorum reads; over several grids, and in batches, this project's own).
+use Rattle.std.specs.Prelude.{ℕ, ◌+◌, ◌==◌, Bool, false, not, ◌&&◌, nat_le, nat_lt, max, map, if◌then◌else◌, List, [], ◌∷◌, ◌++◌, length}
+use Rattle.std.specs.Prelude.{Option, None, Some, true}
 use Rattle.std.specs.List.{list_any}
 use Rattle.cx_base.specs.declared.cluster.Cluster.{Cluster}
 use Rattle.cx_base.specs.declared.role.RoleId.{RoleId}
 use Rattle.cx_base.specs.declared.role.Kind.TheVariants.{Acceptor, Matchmaker, Reader, Replica}
 use Rattle.cx_base.specs.declared.round.Round.{Round}
 use Rattle.cx_base.specs.declared.why.Why.{Why}
-use Rattle.cx_base.specs.declared.why.Why.TheVariants.{Again, Counted, End, Full, Idle, Learnt, Old, Queued, Resent, Same, Sent, Started, Stranger, Unasked}
+use Rattle.cx_base.specs.declared.why.Why.TheVariants.{Again, Counted, End, Full, Idle, Learnt, Old, Queued, Resent, Same, Sent, Started}
+use Rattle.cx_base.specs.declared.why.Why.TheVariants.{Stranger, Unasked}
 use Rattle.cx_base.specs.declared.why.Why.TheVariants as why
 use Rattle.cx_base.specs.Grid.{is_in}
 use Rattle.cx_base.specs.Role.{same_role, role}
@@ -44,8 +46,8 @@ pub record Asked : Type 0 where
   pub replica : ℕ
   pub key : List ℕ
 
--- The running batch: its turn, its reads in the order in which they came, the matchmakers' answers that were counted, and the acceptors'. It is in
--- its first stage until enough matchmakers have answered, then in its second.
+-- The running batch: its turn, its reads in the order in which they came, the matchmakers' answers that were counted, and the acceptors'.
+-- It is in its first stage until enough matchmakers have answered, then in its second.
 pub record Batch : Type 0 where
   pub turn : ℕ
   pub reads : List Asked
@@ -155,7 +157,8 @@ request_over me d v one (Some b) =
     else if nat_le 64 (length v.waiting + length b.reads) then only_word Full v
     else only_word Queued (record v { waiting = v.waiting ++ one ∷ [] })
 
--- A client asks for a key. A read that waits waits on, with what it asks now; the first of the running batch begins that anew, with all that wait.
+-- A client asks for a key. A read that waits waits on, with what it asks now; the first of the running batch begins that anew, with all
+-- that wait.
 abbrev pub request_row : RoleId → ReaderDurable → ReaderVolatile → Asked → Outcome ReaderVolatile
 request_row me d v one =
     if is_among one.read v.waiting then only_word Again (record v { waiting = with_asked one v.waiting })
@@ -185,7 +188,8 @@ abbrev pub is_of_batch : RoleId → Batch → Asking → Bool
 is_of_batch me b u = same_asking u (asking_of me b.turn)
 
 -- a matchmaker answers
-abbrev pub match_ack_row : Cluster → RoleId → ReaderDurable → ReaderVolatile → RoleId → Asking → Round → List Entry → Option Batch → Outcome ReaderVolatile
+abbrev pub match_ack_row : Cluster → RoleId → ReaderDurable → ReaderVolatile → RoleId → Asking → Round → List Entry → Option Batch
+    → Outcome ReaderVolatile
 match_ack_row c me d v from u w es None = only_word Unasked v
 match_ack_row c me d v from u w es (Some b) =
     if not (is_of_batch me b u && not (is_matched c b) && is_in from.index v.set) then only_word Unasked v
@@ -198,7 +202,8 @@ pre_read_counted c me d v b =
     else only_word Counted (with_batch v b)
 
 -- an acceptor of a live grid answers, with the retirement watermark that it was asked with
-abbrev pub pre_read_ack_row : Cluster → RoleId → ReaderDurable → ReaderVolatile → RoleId → Asking → Round → ℕ → Option Batch → Outcome ReaderVolatile
+abbrev pub pre_read_ack_row : Cluster → RoleId → ReaderDurable → ReaderVolatile → RoleId → Asking → Round → ℕ → Option Batch
+    → Outcome ReaderVolatile
 pre_read_ack_row c me d v from u w n None = only_word Unasked v
 pre_read_ack_row c me d v from u w n (Some b) =
     if not (is_of_batch me b u && is_matched c b && is_member_of (live_entries b.told) from.index) then only_word Unasked v

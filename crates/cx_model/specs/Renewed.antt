@@ -1,6 +1,7 @@
 -- Laws of a renewed list: it leaves what it was made of, without the values that it forgets, and it is one that a replica could
 -- have made.
-use Rattle.std.specs.Prelude.{◌≡◌, ◌≤◌, ℕ, zero, suc, ◌+◌, ◌-◌, ◌==◌, ◌&&◌, ◌⊎◌, Bool, true, false, not, nat_le, nat_lt, min, map, filter, List, [], ◌∷◌, ◌++◌, length, take, drop, Option, None, Some, refl}
+use Rattle.std.specs.Prelude.{◌≡◌, ◌≤◌, ℕ, zero, suc, ◌+◌, ◌-◌, ◌==◌, ◌&&◌, ◌⊎◌, Bool, true, false, not, nat_le, nat_lt, min, map, filter}
+use Rattle.std.specs.Prelude.{List, [], ◌∷◌, ◌++◌, length, take, drop, Option, None, Some, refl}
 use Rattle.std.specs.List.{list_all}
 use Rattle.std.proofs.Common.{ap, sym, ◌∙◌, subst, inl, inr, arith, append_assoc, append-nil, length-append, length-drop, take-append-drop}
 use Rattle.std.proofs.lemmas.Bool.{and_from, and_parts, cases_Bool}
@@ -19,7 +20,8 @@ use Rattle.cx_base.specs.Noted.{Table, are_rising, comes_before, floor_of}
 use Rattle.cx_letter.specs.declared.kept.Record.{Record}
 use Rattle.cx_letter.specs.declared.kept.Record.TheVariants as kept
 use Rattle.cx_model.specs.Names.{names_value}
-use Rattle.cx_model.specs.Replica.{ReplicaDurable, answer_of, are_client_notes, is_renewal_whole, key_before, note_of, notes_of, pieces, pieces_of, replica_after, replica_fits, replica_rules}
+use Rattle.cx_model.specs.Replica.{ReplicaDurable, answer_of, are_client_notes, is_renewal_whole, key_before, note_of, notes_of, pieces}
+use Rattle.cx_model.specs.Replica.{pieces_of, replica_after, replica_fits, replica_rules}
 use Rattle.cx_model.specs.Rules.{folded_from, refused, refused_from}
 
 -- whether a number is above a floor that was told
@@ -69,7 +71,8 @@ pieces_joined zero size [] few some = refl
 pieces_joined zero size (x ∷ xs) few some = absurd (omega arith)
 pieces_joined (suc fuel) size [] few some = refl
 pieces_joined (suc fuel) size (x ∷ xs) few some =
-    ap (λ rest. take size (x ∷ xs) ++ rest) (pieces_joined fuel size (drop size (x ∷ xs)) (omega (arith, length-drop size (x ∷ xs))) some) ∙ take-append-drop size (x ∷ xs)
+    ap (λ rest. take size (x ∷ xs) ++ rest) (pieces_joined fuel size (drop size (x ∷ xs)) (omega (arith, length-drop size (x ∷ xs))) some)
+    ∙ take-append-drop size (x ∷ xs)
 
 -- tests of lists and of their parts
 
@@ -94,7 +97,8 @@ rises_front : {A : Type 0} (comes : A → A → Bool) (xs ys : List A) → rises
 rises_front comes [] ys h = refl
 rises_front comes (x ∷ xs) ys h =
     let p = and_parts (list_all (λ y. comes x y) (xs ++ ys)) (rises comes (xs ++ ys)) h in
-    let all = and_parts (list_all (λ y. comes x y) xs) (list_all (λ y. comes x y) ys) (sym (list_all-append (λ y. comes x y) xs ys) ∙ p.0) in
+    let all =
+    and_parts (list_all (λ y. comes x y) xs) (list_all (λ y. comes x y) ys) (sym (list_all-append (λ y. comes x y) xs ys) ∙ p.0) in
     and_from (list_all (λ y. comes x y) xs) (rises comes xs) all.0 (rises_front comes xs ys p.1)
 
 rising_front : (n : ℕ) (xs ys : List Floor) → are_rising n (xs ++ ys) ≡ true → are_rising n xs ≡ true
@@ -133,14 +137,17 @@ folds_append d [] qs = refl
 folds_append d (r ∷ rs) qs = folds_append (replica_after d r) rs qs
 
 pub with_pairs : (d : ReplicaDurable) (xs : List (List Pair)) → d.begun ≡ true
-    → replica_folds d (map (λ ps. kept.Pairs ps) xs)
-    ≡ record d { machine = record { map = d.machine.map ++ all_pieces xs; table = d.machine.table }; pairs = d.pairs - length (all_pieces xs) }
+    → replica_folds d (map (λ ps. kept.Pairs ps) xs) ≡ record d {
+      machine = record { map = d.machine.map ++ all_pieces xs; table = d.machine.table };
+      pairs = d.pairs - length (all_pieces xs);
+    }
 unfolding all_pieces
 with_pairs d [] begun =
     let none : d.pairs - 0 ≡ d.pairs = omega arith in
     rw (append-nil d.machine.map, none) refl
 with_pairs d (x ∷ xs) begun =
-    let fewer : d.pairs - length x - length (all_pieces xs) ≡ d.pairs - length (x ++ all_pieces xs) = omega (arith, length-append x (all_pieces xs)) in
+    let fewer : d.pairs - length x - length (all_pieces xs) ≡ d.pairs - length (x ++ all_pieces xs) =
+    omega (arith, length-append x (all_pieces xs)) in
     with_pairs (replica_after d (kept.Pairs x)) xs refl ∙ rw (append_assoc d.machine.map x (all_pieces xs), fewer, begun) refl
 
 -- answers, client by client
@@ -151,7 +158,10 @@ spread notes (f ∷ fs) = map (answer_of f.client) (map note_of (filter (λ (a :
 pub with_notes : (t : Table) (d : ReplicaDurable) (fs : List Floor) → d.begun ≡ true
     → replica_folds d (map (notes_of t) fs)
     ≡ record d {
-      machine = record { map = d.machine.map; table = record { floors = d.machine.table.floors ++ fs; notes = d.machine.table.notes ++ spread t.notes fs } };
+      machine = record {
+        map = d.machine.map;
+        table = record { floors = d.machine.table.floors ++ fs; notes = d.machine.table.notes ++ spread t.notes fs };
+      };
       clients = d.clients - length fs;
     }
 unfolding spread
@@ -171,7 +181,8 @@ with_tail d [] begun =
     let none : d.values - 0 ≡ d.values = omega arith in
     rw (append-nil d.log, none) refl
 with_tail d (x ∷ xs) begun =
-    let fewer : d.values - length x - length (all_pieces xs) ≡ d.values - length (x ++ all_pieces xs) = omega (arith, length-append x (all_pieces xs)) in
+    let fewer : d.values - length x - length (all_pieces xs) ≡ d.values - length (x ++ all_pieces xs) =
+    omega (arith, length-append x (all_pieces xs)) in
     with_tail (replica_after d (kept.Tail x)) xs refl ∙ rw (append_assoc d.log x (all_pieces xs), fewer, begun) refl
 
 -- a list whose records fit is not refused
@@ -202,12 +213,14 @@ module _ (c : Cluster) (me : RoleId) where
       let all : (d.machine.map ++ front) ++ behind ≡ d.machine.map ++ x ∷ xs
       = append_assoc d.machine.map front behind ∙ ap (λ l. d.machine.map ++ l) (take-append-drop size (x ∷ xs)) in
       let risen : rises key_before ((d.machine.map ++ front) ++ behind) ≡ true = ap (λ l. rises key_before l) all ∙ rise in
-      let sum : length front + length behind ≡ suc (length xs) = sym (length-append front behind) ∙ ap (λ l. length l) (take-append-drop size (x ∷ xs)) in
+      let sum : length front + length behind ≡ suc (length xs) =
+      sym (length-append front behind) ∙ ap (λ l. length l) (take-append-drop size (x ∷ xs)) in
       let filled : (length front == min size d.pairs) ≡ true
       = same_number (length front) (min size d.pairs) (length-take size (x ∷ xs) ∙ ap (λ n. min size n) (sym count)) in
       let few_behind : length behind ≤ fuel = omega (arith, length-drop size (x ∷ xs), is) in
       let left : d.pairs - length front ≡ length behind = omega (arith, sum, count) in (
-        and_from (length front == min 255 d.pairs) (rises key_before (d.machine.map ++ front)) (subst (λ n. (length front == min n d.pairs) ≡ true) is filled) (rises_front key_before (d.machine.map ++ front) behind risen),
+        and_from (length front == min 255 d.pairs) (rises key_before (d.machine.map ++ front))
+            (subst (λ n. (length front == min n d.pairs) ≡ true) is filled) (rises_front key_before (d.machine.map ++ front) behind risen),
         pairs_fit size is fuel (replica_after d (kept.Pairs front)) behind few_behind left risen,
       )
 
@@ -221,18 +234,21 @@ module _ (c : Cluster) (me : RoleId) where
       let notes = map note_of (filter (λ (a : Answered). a.client == f.client) t.notes) in
       let n = and_parts (nat_lt f.client c.clients) (list_all (λ (g : Floor). nat_lt g.client c.clients) fs) named in
       let a = and_parts (are_client_notes f.floor notes)
-      (list_all (λ (g : Floor). are_client_notes g.floor (map note_of (filter (λ (x : Answered). x.client == g.client) t.notes))) fs) above in
+      (list_all (λ (g : Floor). are_client_notes g.floor (map note_of (filter (λ (x : Answered). x.client == g.client) t.notes)))
+      fs) above in
       let all : (floors ++ f ∷ []) ++ fs ≡ floors ++ f ∷ fs = append_assoc floors (f ∷ []) fs in
       let risen : are_rising 0 ((floors ++ f ∷ []) ++ fs) ≡ true = ap (λ l. are_rising 0 l) all ∙ rise in
       let some : nat_lt 0 d.clients ≡ true = grind (arith, nat_tests, count) in
       let left : d.clients - 1 ≡ length fs = omega (arith, count) in (
-        all_five (d.pairs == 0) (nat_lt 0 d.clients) (nat_lt f.client c.clients) (are_rising 0 (floors ++ f ∷ [])) (are_client_notes f.floor notes)
-            (same_number d.pairs 0 none) some n.0 (rising_front 0 (floors ++ f ∷ []) fs risen) a.0,
+        all_five (d.pairs == 0) (nat_lt 0 d.clients) (nat_lt f.client c.clients) (are_rising 0 (floors ++ f ∷ []))
+            (are_client_notes f.floor notes) (same_number d.pairs 0 none) some n.0 (rising_front 0 (floors ++ f ∷ []) fs risen) a.0,
         notes_fit t (replica_after d (notes_of t f)) fs none left n.1 risen a.1,
       )
 
-  pub tail_fits : (size : ℕ) → size ≡ 32 → (fuel : ℕ) (d : ReplicaDurable) (xs : List Value) → length xs ≤ fuel → d.pairs ≡ 0 → d.clients ≡ 0
-      → d.values ≡ length xs → list_all (λ (v : Value). names_value c v) xs ≡ true → AllFit d (map (λ vs. kept.Tail vs) (pieces_of fuel size xs))
+  pub tail_fits : (size : ℕ) → size ≡ 32 → (fuel : ℕ) (d : ReplicaDurable) (xs : List Value) → length xs ≤ fuel → d.pairs ≡ 0
+      → d.clients ≡ 0
+      → d.values ≡ length xs → list_all (λ (v : Value). names_value c v) xs ≡ true
+      → AllFit d (map (λ vs. kept.Tail vs) (pieces_of fuel size xs))
   unfolding pieces_of
   tail_fits size is zero d [] few none nobody count named = tt
   tail_fits size is zero d (x ∷ xs) few none nobody count named = absurd (omega arith)
@@ -240,13 +256,15 @@ module _ (c : Cluster) (me : RoleId) where
   tail_fits size is (suc fuel) d (x ∷ xs) few none nobody count named =
       let front = take size (x ∷ xs) in
       let behind = drop size (x ∷ xs) in
-      let sum : length front + length behind ≡ suc (length xs) = sym (length-append front behind) ∙ ap (λ l. length l) (take-append-drop size (x ∷ xs)) in
+      let sum : length front + length behind ≡ suc (length xs) =
+      sym (length-append front behind) ∙ ap (λ l. length l) (take-append-drop size (x ∷ xs)) in
       let filled : (length front == min size d.values) ≡ true
       = same_number (length front) (min size d.values) (length-take size (x ∷ xs) ∙ ap (λ n. min size n) (sym count)) in
       let few_behind : length behind ≤ fuel = omega (arith, length-drop size (x ∷ xs), is) in
       let left : d.values - length front ≡ length behind = omega (arith, sum, count) in
       let parts = all_parts (λ (v : Value). names_value c v) size (x ∷ xs) named in (
         all_four (d.pairs == 0) (d.clients == 0) (list_all (λ (v : Value). names_value c v) front) (length front == min 32 d.values)
-            (same_number d.pairs 0 none) (same_number d.clients 0 nobody) parts.0 (subst (λ n. (length front == min n d.values) ≡ true) is filled),
+            (same_number d.pairs 0 none) (same_number d.clients 0 nobody) parts.0
+            (subst (λ n. (length front == min n d.values) ≡ true) is filled),
         tail_fits size is fuel (replica_after d (kept.Tail front)) behind few_behind none nobody left parts.1,
       )

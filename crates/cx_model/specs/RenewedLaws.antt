@@ -10,7 +10,8 @@ use Rattle.cx_letter.specs.declared.kept.Record.TheVariants as kept
 use Rattle.cx_model.specs.Names.{names_value}
 use Rattle.cx_model.specs.Replica.{ReplicaDurable, held, is_renewal_whole, notes_of, pieces, replica_renewed, replica_rules}
 use Rattle.cx_model.specs.Rules.{folded, refused}
-use Rattle.cx_model.specs.Renewed.{IsOrdered, IsRenewable, forgets, pieces_joined, all_parts, replica_folds, folds_append, with_pairs, spread, with_notes, with_tail, AllFit, fit_append, not_refused, pairs_fit, notes_fit, tail_fits}
+use Rattle.cx_model.specs.Renewed.{IsOrdered, IsRenewable, forgets, pieces_joined, all_parts, replica_folds, folds_append, with_pairs}
+use Rattle.cx_model.specs.Renewed.{spread, with_notes, with_tail, AllFit, fit_append, not_refused, pairs_fit, notes_fit, tail_fits}
 use Rattle.cx_model.specs.RenewedNotes.{spread_is, all_by_client, all_above}
 
 -- THE two laws of a renewal
@@ -57,7 +58,8 @@ module _ (d : ReplicaDurable) (first : ℕ) (from : d.first ≤ first) (ordered 
   pairs_there : replica_folds based pairs ≡ paired
   pairs_there =
       let nothing : length d.machine.map - length d.machine.map ≡ 0 = omega arith in
-      with_pairs based (pieces 255 d.machine.map) refl ∙ rw (pieces_joined (length d.machine.map) 255 d.machine.map (omega arith) (omega arith), nothing) refl
+      with_pairs based (pieces 255 d.machine.map) refl
+      ∙ rw (pieces_joined (length d.machine.map) 255 d.machine.map (omega arith) (omega arith), nothing) refl
 
   notes_there : replica_folds paired notes ≡ noted
   notes_there =
@@ -80,7 +82,8 @@ module _ (d : ReplicaDurable) (first : ℕ) (from : d.first ≤ first) (ordered 
   renewed_folds = folds_append replica_rules.empty (base ++ pairs ++ notes) tail ∙ ap (λ x. replica_folds x tail) behind_notes ∙ tail_there
 
   -- a replica opens from it
-  pub renewed_fits : (c : Cluster) (me : RoleId) → first ≤ held d → IsRenewable c d → refused replica_rules c me (replica_renewed d first) ≡ None
+  pub renewed_fits : (c : Cluster) (me : RoleId) → first ≤ held d → IsRenewable c d
+      → refused replica_rules c me (replica_renewed d first) ≡ None
   renewed_fits c me within renewable = not_refused c me replica_rules.empty 0 (replica_renewed d first) fits whole
     where
       base_fits : AllFit c me replica_rules.empty base
@@ -92,21 +95,25 @@ module _ (d : ReplicaDurable) (first : ℕ) (from : d.first ≤ first) (ordered 
       all_of_notes : AllFit c me paired notes
       all_of_notes =
           notes_fit c me d.machine.table paired d.machine.table.floors refl refl renewable.clients ordered.floors_rise
-          (all_above 0 d.machine.table.floors d.machine.table.floors d.machine.table.notes ordered.floors_rise (λ k least. refl) ordered.notes_rise renewable.near)
+          (all_above 0 d.machine.table.floors d.machine.table.floors d.machine.table.notes ordered.floors_rise (λ k least. refl)
+          ordered.notes_rise renewable.near)
 
       all_of_tail : AllFit c me noted tail
       all_of_tail =
           let count : held d - first ≡ length left = omega (arith, length-drop (first - d.first) d.log, from, within) in
-          tail_fits c me 32 refl (length left) noted left (omega arith) refl refl count (all_parts (λ (v : Value). names_value c v) (first - d.first) d.log renewable.values).1
+          tail_fits c me 32 refl (length left) noted left (omega arith) refl refl count
+          (all_parts (λ (v : Value). names_value c v) (first - d.first) d.log renewable.values).1
 
       to_pairs : AllFit c me replica_rules.empty (base ++ pairs)
       to_pairs = fit_append c me replica_rules.empty base pairs base_fits all_pairs
 
       to_notes : AllFit c me replica_rules.empty (base ++ pairs ++ notes)
-      to_notes = fit_append c me replica_rules.empty (base ++ pairs) notes to_pairs (subst (λ x. AllFit c me x notes) (sym behind_pairs) all_of_notes)
+      to_notes = fit_append c me replica_rules.empty (base ++ pairs) notes to_pairs
+          (subst (λ x. AllFit c me x notes) (sym behind_pairs) all_of_notes)
 
       fits : AllFit c me replica_rules.empty (replica_renewed d first)
-      fits = fit_append c me replica_rules.empty (base ++ pairs ++ notes) tail to_notes (subst (λ x. AllFit c me x tail) (sym behind_notes) all_of_tail)
+      fits = fit_append c me replica_rules.empty (base ++ pairs ++ notes) tail to_notes
+          (subst (λ x. AllFit c me x tail) (sym behind_notes) all_of_tail)
 
       whole : is_renewal_whole (replica_folds replica_rules.empty (replica_renewed d first)) ≡ true
       whole = ap (λ x. is_renewal_whole x) renewed_folds

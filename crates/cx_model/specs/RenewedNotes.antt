@@ -1,5 +1,6 @@
 -- The answers of an ordered client table are those of its clients, one client after another.
-use Rattle.std.specs.Prelude.{◌≡◌, ℕ, ◌+◌, ◌-◌, ◌==◌, ◌⊎◌, Bool, true, false, not, nat_le, nat_lt, map, filter, List, [], ◌∷◌, ◌++◌, Option, Some, refl}
+use Rattle.std.specs.Prelude.{◌≡◌, ℕ, ◌+◌, ◌-◌, ◌==◌, ◌⊎◌, Bool, true, false, not, nat_le, nat_lt, map, filter, List, [], ◌∷◌, ◌++◌, Option}
+use Rattle.std.specs.Prelude.{Some, refl}
 use Rattle.std.specs.List.{list_all}
 use Rattle.std.proofs.Common.{ap, sym, ◌∙◌, subst, inl, inr, arith}
 use Rattle.std.proofs.lemmas.Bool.{and_from, and_parts, cases_Bool, eqb-true}
@@ -45,8 +46,8 @@ given_back k (a ∷ ns) = go (cases_Bool (a.client == k)) (given_back k ns)
 pub spread_is : (ns : List Answered) (fs : List Floor) → spread ns fs ≡ notes_by_client ns fs
 unfolding spread notes_by_client
 spread_is ns [] = refl
-spread_is ns (f ∷ fs) =
-    ap (λ (l : List Answered). l ++ spread ns fs) (given_back f.client ns) ∙ ap (λ (l : List Answered). of_client f.client ns ++ l) (spread_is ns fs)
+spread_is ns (f ∷ fs) = ap (λ (l : List Answered). l ++ spread ns fs) (given_back f.client ns)
+    ∙ ap (λ (l : List Answered). of_client f.client ns ++ l) (spread_is ns fs)
 
 -- the answers of one client and of all others, where no client comes before it
 
@@ -66,16 +67,18 @@ none_of k (a ∷ ns) all =
 
     go : (a.client == k) ≡ false → of_client k ns ++ of_others k ns ≡ ns → of_client k (a ∷ ns) ++ of_others k (a ∷ ns) ≡ a ∷ ns
     go other rest =
-        let nobody : of_client k ns ≡ [] = none_own ns (and_parts (not (a.client == k)) (list_all (λ (b : Answered). not (b.client == k)) ns) all).1 in
+        let nobody : of_client k ns ≡ [] =
+        none_own ns (and_parts (not (a.client == k)) (list_all (λ (b : Answered). not (b.client == k)) ns) all).1 in
         let all_of_them : of_others k ns ≡ ns = ap (λ (l : List Answered). l ++ of_others k ns) (sym nobody) ∙ rest in
         rw (other, nobody) (ap (λ (l : List Answered). a ∷ l) all_of_them)
 
-later_others : (k : ℕ) (a : Answered) (ns : List Answered) → nat_lt k a.client ≡ true → list_all (λ (b : Answered). comes_before a b) ns ≡ true
-    → list_all (λ (b : Answered). not (b.client == k)) ns ≡ true
+later_others : (k : ℕ) (a : Answered) (ns : List Answered) → nat_lt k a.client ≡ true
+    → list_all (λ (b : Answered). comes_before a b) ns ≡ true → list_all (λ (b : Answered). not (b.client == k)) ns ≡ true
 later_others k a [] later all = refl
 later_others k a (b ∷ ns) later all =
     let p = and_parts (comes_before a b) (list_all (λ (x : Answered). comes_before a x) ns) all in
-    and_from (not (b.client == k)) (list_all (λ (x : Answered). not (x.client == k)) ns) (apart k a b later p.0) (later_others k a ns later p.1)
+    and_from (not (b.client == k)) (list_all (λ (x : Answered). not (x.client == k)) ns) (apart k a b later p.0)
+    (later_others k a ns later p.1)
   where
     apart : (k : ℕ) (a b : Answered) → nat_lt k a.client ≡ true → comes_before a b ≡ true → not (b.client == k) ≡ true
     apart k a b h g = grind (arith, nat_tests, h, g)
@@ -88,13 +91,14 @@ own_first k (a ∷ ns) rise least =
     let l = and_parts (nat_le k a.client) (list_all (λ (b : Answered). nat_le k b.client) ns) least in
     go (cases_Bool (a.client == k)) r.0 l.0 (own_first k ns r.1 l.1)
   where
-    go : ((a.client == k) ≡ true) ⊎ ((a.client == k) ≡ false) → list_all (λ (b : Answered). comes_before a b) ns ≡ true → nat_le k a.client ≡ true
-        → of_client k ns ++ of_others k ns ≡ ns → of_client k (a ∷ ns) ++ of_others k (a ∷ ns) ≡ a ∷ ns
+    go : ((a.client == k) ≡ true) ⊎ ((a.client == k) ≡ false) → list_all (λ (b : Answered). comes_before a b) ns ≡ true
+        → nat_le k a.client ≡ true → of_client k ns ++ of_others k ns ≡ ns → of_client k (a ∷ ns) ++ of_others k (a ∷ ns) ≡ a ∷ ns
     go (inl t) all above rest = rw t (ap (λ (l : List Answered). a ∷ l) rest)
     go (inr t) all above rest =
         let later : nat_lt k a.client ≡ true = grind (arith, nat_tests, t, above) in
         let other : not (a.client == k) ≡ true = rw t refl in
-        none_of k (a ∷ ns) (and_from (not (a.client == k)) (list_all (λ (b : Answered). not (b.client == k)) ns) other (later_others k a ns later all))
+        none_of k (a ∷ ns)
+        (and_from (not (a.client == k)) (list_all (λ (b : Answered). not (b.client == k)) ns) other (later_others k a ns later all))
 
 -- answers of others are not those of a client
 
@@ -121,14 +125,15 @@ of_others_by_client k n ns (f ∷ fs) below rise =
     ∙ ap (λ (l : List Answered). of_client f.client ns ++ l) (of_others_by_client k (f.client + 1) ns fs next p.1)
 
 -- a client that told a floor is one of theirs
-told_least : (n : ℕ) (fs : List Floor) (client seq : ℕ) → are_rising n fs ≡ true → is_over seq (floor_of client fs) ≡ true → nat_le n client ≡ true
+told_least : (n : ℕ) (fs : List Floor) (client seq : ℕ) → are_rising n fs ≡ true → is_over seq (floor_of client fs) ≡ true
+    → nat_le n client ≡ true
 told_least n [] client seq rise told = cc
 told_least n (f ∷ fs) client seq rise told =
     let p = and_parts (nat_le n f.client) (are_rising (f.client + 1) fs) rise in
     go (cases_Bool (f.client == client)) p.0 told (told_least (f.client + 1) fs client seq p.1)
   where
-    go : ((f.client == client) ≡ true) ⊎ ((f.client == client) ≡ false) → nat_le n f.client ≡ true → is_over seq (floor_of client (f ∷ fs)) ≡ true
-        → (is_over seq (floor_of client fs) ≡ true → nat_le (f.client + 1) client ≡ true) → nat_le n client ≡ true
+    go : ((f.client == client) ≡ true) ⊎ ((f.client == client) ≡ false) → nat_le n f.client ≡ true → is_over seq (floor_of client (f ∷ fs))
+        ≡ true → (is_over seq (floor_of client fs) ≡ true → nat_le (f.client + 1) client ≡ true) → nat_le n client ≡ true
     go (inl t) least told rest = grind (arith, nat_tests, t, least)
     go (inr t) least told rest =
         let later : nat_le (f.client + 1) client ≡ true = rest (rw t at told) in
@@ -139,7 +144,8 @@ all_least : (n : ℕ) (fs : List Floor) (ns : List Answered) → are_rising n fs
 all_least n fs [] rise told = refl
 all_least n fs (a ∷ ns) rise told =
     let p = and_parts (is_over a.seq (floor_of a.client fs)) (all_told fs ns) told in
-    and_from (nat_le n a.client) (list_all (λ (b : Answered). nat_le n b.client) ns) (told_least n fs a.client a.seq rise p.0) (all_least n fs ns rise p.1)
+    and_from (nat_le n a.client) (list_all (λ (b : Answered). nat_le n b.client) ns) (told_least n fs a.client a.seq rise p.0)
+    (all_least n fs ns rise p.1)
 
 others_told : (f : Floor) (fs : List Floor) (ns : List Answered) → all_told (f ∷ fs) ns ≡ true → all_told fs (of_others f.client ns) ≡ true
 others_told f fs [] told = refl
@@ -155,8 +161,8 @@ others_told f fs (a ∷ ns) told =
         let own : is_over a.seq (floor_of a.client fs) ≡ true = rw turned at first in
         rw t (and_from (is_over a.seq (floor_of a.client fs)) (all_told fs (of_others f.client ns)) own rest)
 
-pub all_by_client : (n : ℕ) (fs : List Floor) (ns : List Answered) → are_rising n fs ≡ true → rises comes_before ns ≡ true → all_told fs ns ≡ true
-    → notes_by_client ns fs ≡ ns
+pub all_by_client : (n : ℕ) (fs : List Floor) (ns : List Answered) → are_rising n fs ≡ true → rises comes_before ns ≡ true
+    → all_told fs ns ≡ true → notes_by_client ns fs ≡ ns
 unfolding notes_by_client
 all_by_client n [] [] rise order told = refl
 all_by_client n [] (a ∷ ns) rise order told = cc
@@ -165,7 +171,8 @@ all_by_client n (f ∷ fs) ns rise order told =
     let below : nat_lt f.client (f.client + 1) ≡ true = grind (arith, nat_tests) in
     let itself : nat_le f.client f.client ≡ true = grind (arith, nat_tests) in
     let least = all_least f.client (f ∷ fs) ns (and_from (nat_le f.client f.client) (are_rising (f.client + 1) fs) itself p.1) told in
-    let rest = all_by_client (f.client + 1) fs (of_others f.client ns) p.1 (rises_left comes_before (λ (a : Answered). not (a.client == f.client)) ns order) (others_told f fs ns told) in
+    let rest = all_by_client (f.client + 1) fs (of_others f.client ns) p.1
+    (rises_left comes_before (λ (a : Answered). not (a.client == f.client)) ns order) (others_told f fs ns told) in
     ap (λ (l : List Answered). of_client f.client ns ++ l) (sym (of_others_by_client f.client (f.client + 1) ns fs below p.1) ∙ rest)
     ∙ own_first f.client ns order least
 
@@ -207,7 +214,8 @@ noted_rise k (a ∷ ns) order =
         one : ((b.client == k) ≡ true) ⊎ ((b.client == k) ≡ false) → comes_before a b ≡ true
             → list_all (λ (later : Note). nat_lt a.seq later.seq) (map note_of (of_client k bs)) ≡ true
             → list_all (λ (later : Note). nat_lt a.seq later.seq) (map note_of (of_client k (b ∷ bs))) ≡ true
-        one (inl t) h rest = rw t (and_from (nat_lt a.seq b.seq) (list_all (λ (later : Note). nat_lt a.seq later.seq) (map note_of (of_client k bs))) (by_number b s t h) rest)
+        one (inl t) h rest = rw t (and_from (nat_lt a.seq b.seq)
+            (list_all (λ (later : Note). nat_lt a.seq later.seq) (map note_of (of_client k bs))) (by_number b s t h) rest)
         one (inr t) h rest = rw t rest
 
     go : ((a.client == k) ≡ true) ⊎ ((a.client == k) ≡ false) → list_all (λ (b : Answered). comes_before a b) ns ≡ true
@@ -230,8 +238,8 @@ all_above n all (f ∷ fs) ns rise found order told =
     let own : are_client_notes f.floor notes ≡ true
     = and_from (rises (λ (n : Note) (later : Note). nat_lt n.seq later.seq) notes) (list_all (λ (n : Note). floor_fits n.seq f.floor) notes)
     (noted_rise f.client ns order) (noted_above f.client f.floor all ns (found f.client p.0 ∙ here) told) in
-    and_from (are_client_notes f.floor notes) (list_all (λ (g : Floor). are_client_notes g.floor (map note_of (of_client g.client ns))) fs) own
-    (all_above (f.client + 1) all fs ns p.1 (λ k above. later k above p.0) order told)
+    and_from (are_client_notes f.floor notes) (list_all (λ (g : Floor). are_client_notes g.floor (map note_of (of_client g.client ns))) fs)
+    own (all_above (f.client + 1) all fs ns p.1 (λ k above. later k above p.0) order told)
   where
     later : (k : ℕ) → nat_le (f.client + 1) k ≡ true → nat_le n f.client ≡ true → floor_of k all ≡ floor_of k fs
     later k above least =

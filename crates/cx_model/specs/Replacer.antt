@@ -1,6 +1,7 @@
--- The replacer's rows: it stops a set of matchmakers, has the next set decided among them, and lets its members begin with what the earlier ones
--- recorded (JSys 2021: matchmakers are replaced by a consensus among the old; the rows are this project's own).
-use Rattle.std.specs.Prelude.{ℕ, ◌==◌, Bool, true, false, not, ◌&&◌, ◌||◌, bytes_eq, nat_lt, map, filter, if◌then◌else◌, List, [], ◌∷◌, ◌++◌, length, Option, None, Some}
+-- The replacer's rows: it stops a set of matchmakers, has the next set decided among them, and lets its members begin with what the earlier
+-- ones recorded (JSys 2021: matchmakers are replaced by a consensus among the old; the rows are this project's own).
+use Rattle.std.specs.Prelude.{ℕ, ◌==◌, Bool, true, false, not, ◌&&◌, ◌||◌, bytes_eq, nat_lt, map, filter, if◌then◌else◌, List, [], ◌∷◌}
+use Rattle.std.specs.Prelude.{◌++◌, length, Option, None, Some}
 use Rattle.std.specs.List.{list_any}
 use Rattle.cx_base.specs.declared.cluster.Cluster.{Cluster}
 use Rattle.cx_base.specs.declared.event.Order.{Order as OrderOf}
@@ -36,9 +37,9 @@ use Rattle.cx_model.specs.Rules.{Rules}
 pub record ReplacerDurable : Type 0 where
   pub own : Round
 
--- What it is doing; the greatest round that it was told of; the set that it knows; the set that is to follow: the one that was ordered, then the
--- one that is to be decided; the answers of stopped matchmakers that it counted, and who answered the later questions; and what the members of
--- the next set begin with.
+-- What it is doing; the greatest round that it was told of; the set that it knows; the set that is to follow: the one that was ordered,
+-- then the one that is to be decided; the answers of stopped matchmakers that it counted, and who answered the later questions; and what
+-- the members of the next set begin with.
 pub record ReplacerVolatile : Type 0 where
   pub mode : Replacing
   pub seen : Round
@@ -169,12 +170,14 @@ halt_counted c me d v =
     else decide me d v (joined_entries v.halts) (to_decide v.next v.halts)
 
 -- a matchmaker has stopped
-abbrev pub stop_b_row : Cluster → RoleId → ReplacerDurable → ReplacerVolatile → RoleId → Round → Round → List Entry → Round → List ℕ → Outcome ReplacerVolatile
+abbrev pub stop_b_row : Cluster → RoleId → ReplacerDurable → ReplacerVolatile → RoleId → Round → Round → List Entry → Round → List ℕ
+    → Outcome ReplacerVolatile
 stop_b_row c me d v from b w es a s =
     if not (is_stopping v.mode && same_round b d.own && is_in from.index v.set) then only_word why.Old v
     else if has_halted from.index v.halts then only_word why.Same v
-    else halt_counted c me d
-    (record v { halts = v.halts ++ record { answer = record { matchmaker = from.index; watermark = w; entries = es }; accepted = a; next = s } ∷ [] })
+    else halt_counted c me d (record v {
+      halts = v.halts ++ record { answer = record { matchmaker = from.index; watermark = w; entries = es }; accepted = a; next = s } ∷ [];
+    })
 
 abbrev pub next_counted : Cluster → RoleId → ReplacerVolatile → List ℕ → Outcome ReplacerVolatile
 next_counted c me v counted =

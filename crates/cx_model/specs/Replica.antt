@@ -1,6 +1,7 @@
 -- The replica's rows: it keeps the chosen values in order, executes their commands, and answers commands and reads (VLDB 2021; deferred
 -- reads are this project's own).
-use Rattle.std.specs.Prelude.{◌≡◌, ◌≤◌, ℕ, zero, suc, ◌+◌, ◌-◌, ◌%◌, ◌==◌, Bool, true, false, ◌&&◌, ◌||◌, not, nat_lt, nat_le, min, max, map, filter, if◌then◌else◌, List, [], ◌∷◌, ◌++◌, length, take, drop, slice_get, Option, None, Some}
+use Rattle.std.specs.Prelude.{◌≡◌, ◌≤◌, ℕ, zero, suc, ◌+◌, ◌-◌, ◌%◌, ◌==◌, Bool, true, false, ◌&&◌, ◌||◌, not, nat_lt, nat_le, min, max}
+use Rattle.std.specs.Prelude.{map, filter, if◌then◌else◌, List, [], ◌∷◌, ◌++◌, length, take, drop, slice_get, Option, None, Some}
 use Rattle.std.specs.List.{list_all, list_any}
 use Rattle.cx_base.specs.declared.cluster.Cluster.{Cluster}
 use Rattle.cx_base.specs.declared.command.Answered.{Answered}
@@ -12,7 +13,8 @@ use Rattle.cx_base.specs.declared.command.Placed.{Placed}
 use Rattle.cx_base.specs.declared.command.Value.{Value}
 use Rattle.cx_base.specs.declared.role.RoleId.{RoleId}
 use Rattle.cx_base.specs.declared.role.Kind.TheVariants.{Client, Leader, Replica, Unbatcher}
-use Rattle.cx_base.specs.declared.why.Why.TheVariants.{Answered as AnsweredWord, Applied, Deferred as DeferredWord, Early, Fetched, Full, Idle, Past, Resent, Same, Stranger, Window}
+use Rattle.cx_base.specs.declared.why.Why.TheVariants.{Answered as AnsweredWord, Applied, Deferred as DeferredWord, Early, Fetched, Full}
+use Rattle.cx_base.specs.declared.why.Why.TheVariants.{Idle, Past, Resent, Same, Stranger, Window}
 use Rattle.cx_base.specs.Asked.{floor_fits}
 use Rattle.cx_base.specs.Fold.{commands_of, is_less, map_after, reply_of, text_at}
 use Rattle.cx_base.specs.Lists.{below, rises}
@@ -232,8 +234,11 @@ replica_after d (kept.Base first n pairs clients) =
     record d { first = first; begun = true; pairs = pairs; clients = clients; values = n - first }
 replica_after d (kept.Pairs ps) =
     record d { machine = record d.machine { map = d.machine.map ++ ps }; begun = true; pairs = d.pairs - length ps }
-replica_after d (kept.Notes client floor notes) =
-    record d { machine = record d.machine { table = with_client client floor notes d.machine.table }; begun = true; clients = d.clients - 1 }
+replica_after d (kept.Notes client floor notes) = record d {
+  machine = record d.machine { table = with_client client floor notes d.machine.table };
+  begun = true;
+  clients = d.clients - 1;
+}
 replica_after d (kept.Tail vs) = record d { log = d.log ++ vs; begun = true; values = d.values - length vs }
 replica_after d other = d
 

@@ -1,12 +1,14 @@
 -- What decodes is spelled so, and what is spelled decodes.
-use Rattle.std.proofs.Common.{◌≡◌, ◌⊎◌, inl, inr, ◌||◌, ℕ, zero, suc, ◌+◌, ◌<◌, ◌≤◌, Bool, true, false, ◌&&◌, not, cond, ltb, eqb, List, [], ◌∷◌, ◌++◌, length, Result, Ok, Err, refl, sym, ap, subst, ◌∙◌, append_assoc, arith}
+use Rattle.std.proofs.Common.{◌≡◌, ◌⊎◌, inl, inr, ◌||◌, ℕ, zero, suc, ◌+◌, ◌<◌, ◌≤◌, Bool, true, false, ◌&&◌, not, cond, ltb, eqb, List, []}
+use Rattle.std.proofs.Common.{◌∷◌, ◌++◌, length, Result, Ok, Err, refl, sym, ap, subst, ◌∙◌, append_assoc, arith}
 use Rattle.std.specs.Prelude.{IfOk, IsTrue, if◌then◌else◌}
 use Rattle.std.proofs.lemmas.Bool.{eqb-true, ltb-false, le-ltb}
 use Rattle.std.proofs.lemmas.List.{append-nil, nil_from_length, length-append}
 use Rattle.std.specs.List.{list_any, list_all}
 use Rattle.cx_base.specs.Role.{code_of, kind_of}
 use Rattle.cx_base.specs.declared.role.Kind.{Kind}
-use Rattle.cx_base.specs.declared.role.Kind.TheVariants.{Client, Batcher, Leader, Proxy, Acceptor, Matchmaker, Replica, Unbatcher, Reader, Replacer}
+use Rattle.cx_base.specs.declared.role.Kind.TheVariants.{Client, Batcher, Leader, Proxy, Acceptor, Matchmaker, Replica, Unbatcher, Reader}
+use Rattle.cx_base.specs.declared.role.Kind.TheVariants.{Replacer}
 use Rattle.cx_wire.specs.Format.{Miss, u8, u16, ◌▷◌, by_tag}
 use Rattle.cx_wire.proofs.Laws.{IsBytes, IsExact, u8-exact, u16-exact, ▷-exact, shaped-exact, by_tag-takes, both, ok_is, tag_fits}
 use Rattle.cx_letter.specs.Messages.{body_shape, body_with, cases_with, tells_floors, version_of}
@@ -15,7 +17,11 @@ use Rattle.cx_msg.specs.Datagrams.{magic, header, header_of, spelling}
 use Rattle.cx_msg.specs.Decoding.{letter_at_end, after_header, with_header, decoded}
 use Rattle.cx_msg.specs.Decodes.{Decodes}
 use Rattle.cx_letter.specs.declared.message.Msg.{Msg}
-use Rattle.cx_letter.specs.declared.message.Msg.TheVariants.{Leads, MatchA, MatchNack, Phase1A, Nack, Phase2B, Chosen, ChosenIn, Held, Fetch, Inform, Informed, GarbageA, GarbageB, ReadReq, MatchRead, MatchReadAck, PreRead, PreReadAck, Read, Phase2A, Submit, Batch, MatchB, Phase1B, Propose, Results, Answer, ReadAnswer, SessRead, StopA, StopB, StopNack, NextA, NextB, BootA, BootB, Sets}
+use Rattle.cx_letter.specs.declared.message.Msg.TheVariants.{Leads, MatchA, MatchNack, Phase1A, Nack, Phase2B, Chosen, ChosenIn, Held}
+use Rattle.cx_letter.specs.declared.message.Msg.TheVariants.{Fetch, Inform, Informed, GarbageA, GarbageB, ReadReq, MatchRead, MatchReadAck}
+use Rattle.cx_letter.specs.declared.message.Msg.TheVariants.{PreRead, PreReadAck, Read, Phase2A, Submit, Batch, MatchB, Phase1B, Propose}
+use Rattle.cx_letter.specs.declared.message.Msg.TheVariants.{Results, Answer, ReadAnswer, SessRead, StopA, StopB, StopNack, NextA, NextB}
+use Rattle.cx_letter.specs.declared.message.Msg.TheVariants.{BootA, BootB, Sets}
 use Rattle.cx_msg.specs.declared.header.Header.{Header}
 use Rattle.cx_msg.specs.declared.fault.WireFault.{WireFault}
 use Rattle.cx_msg.specs.declared.fault.WireFault.TheVariants as faults
@@ -87,7 +93,8 @@ kind_back Replacer = refl
 are_codes : List (ℕ × ℕ) → Bool
 are_codes ps = list_all (λ (p : ℕ × ℕ). not (ltb p.1 1) && not (ltb 10 p.1)) ps
 
-in_range : (ps : List (ℕ × ℕ)) (kind code : ℕ) → are_codes ps ≡ true → list_any (λ (p : ℕ × ℕ). eqb p.0 kind && eqb p.1 code) ps ≡ true → (1 ≤ code) × (code ≤ 10)
+in_range : (ps : List (ℕ × ℕ)) (kind code : ℕ) → are_codes ps ≡ true → list_any (λ (p : ℕ × ℕ). eqb p.0 kind && eqb p.1 code) ps ≡ true
+    → (1 ≤ code) × (code ≤ 10)
 unfolding are_codes
 in_range [] kind code codes h = absurd cc
 in_range (p ∷ ps) kind code codes h =
@@ -112,23 +119,31 @@ getter_back kind code h = let r = in_range receivers kind code refl h in code_ba
 
 -- ---- what decodes is spelled so
 
-header_case : (all : ℕ) (r : Result (Header × List ℕ) Miss) (d : Letter) → with_header all r ≡ Ok d → (h : Header × List ℕ) × (r ≡ Ok h) × (after_header all h.0 h.1 ≡ Ok d)
+header_case : (all : ℕ) (r : Result (Header × List ℕ) Miss) (d : Letter) → with_header all r ≡ Ok d
+    → (h : Header × List ℕ) × (r ≡ Ok h) × (after_header all h.0 h.1 ≡ Ok d)
 unfolding with_header
 header_case all (Err miss) d e = absurd cc
 header_case all (Ok h) d e = (h, refl, e)
 
 abbrev datagram_of : Header → Msg → Letter
-datagram_of h m = record { from = record { kind = kind_of h.from; index = h.from_index }; to = record { kind = kind_of h.to; index = h.to_index }; msg = m }
+datagram_of h m = record {
+  from = record { kind = kind_of h.from; index = h.from_index };
+  to = record { kind = kind_of h.to; index = h.to_index };
+  msg = m;
+}
 
 -- the last test, of the version
-version_test : (b : Bool) (e : WireFault) (x d : Letter) → (if b then Ok x else Err e) ≡ (let r : Result Letter WireFault = Ok d in r) → (b ≡ true) × (x ≡ d)
+version_test : (b : Bool) (e : WireFault) (x d : Letter) → (if b then Ok x else Err e) ≡ (let r : Result Letter WireFault = Ok d in r)
+    → (b ≡ true) × (x ≡ d)
 version_test true e x d h = (refl, cc)
 version_test false e x d h = absurd cc
 
-finished_case : (all : ℕ) (h : Header) (r : Result (Msg × List ℕ) Miss) (d : Letter) → letter_at_end all h r ≡ Ok d → (m : Msg) × (r ≡ Ok (m, [])) × (h.version ≡ version_of m) × (datagram_of h m ≡ d)
+finished_case : (all : ℕ) (h : Header) (r : Result (Msg × List ℕ) Miss) (d : Letter) → letter_at_end all h r ≡ Ok d
+    → (m : Msg) × (r ≡ Ok (m, [])) × (h.version ≡ version_of m) × (datagram_of h m ≡ d)
 unfolding letter_at_end
 finished_case all h (Err miss) d e = absurd cc
-finished_case all h (Ok (m, [])) d e = let t = version_test (eqb h.version (version_of m)) (faults.Version h.version) (datagram_of h m) d e in (m, refl, eqb-true _ _ t.0, t.1)
+finished_case all h (Ok (m, [])) d e =
+    let t = version_test (eqb h.version (version_of m)) (faults.Version h.version) (datagram_of h m) d e in (m, refl, eqb-true _ _ t.0, t.1)
 finished_case all h (Ok (m, b ∷ bytes)) d e = absurd cc
 
 record Passed (all : ℕ) (h : Header) (body : List ℕ) (d : Letter) : Type 0 where
@@ -159,14 +174,69 @@ all_passed all h body d e =
     }
 
 -- the header that a decoded datagram has
-same_header : (h : Header) (m : Msg) → h.magic ≡ magic → h.version ≡ version_of m → (body_shape m).tag ≡ h.kind → code_of (kind_of h.from) ≡ h.from → code_of (kind_of h.to) ≡ h.to → length (body_shape m).bytes ≡ h.said → header_of (datagram_of h m) ≡ h
+same_header : (h : Header) (m : Msg) → h.magic ≡ magic → h.version ≡ version_of m → (body_shape m).tag ≡ h.kind → code_of (kind_of h.from)
+    ≡ h.from → code_of (kind_of h.to) ≡ h.to → length (body_shape m).bytes ≡ h.said → header_of (datagram_of h m) ≡ h
 same_header h m mg ve ki fr to sa =
-    let with_magic : ℕ → Header = λ x. record { magic = x; version = version_of m; kind = (body_shape m).tag; from = code_of (kind_of h.from); from_index = h.from_index; to = code_of (kind_of h.to); to_index = h.to_index; said = length (body_shape m).bytes } in
-    let with_version : ℕ → Header = λ x. record { magic = h.magic; version = x; kind = (body_shape m).tag; from = code_of (kind_of h.from); from_index = h.from_index; to = code_of (kind_of h.to); to_index = h.to_index; said = length (body_shape m).bytes } in
-    let with_kind : ℕ → Header = λ x. record { magic = h.magic; version = h.version; kind = x; from = code_of (kind_of h.from); from_index = h.from_index; to = code_of (kind_of h.to); to_index = h.to_index; said = length (body_shape m).bytes } in
-    let with_from : ℕ → Header = λ x. record { magic = h.magic; version = h.version; kind = h.kind; from = x; from_index = h.from_index; to = code_of (kind_of h.to); to_index = h.to_index; said = length (body_shape m).bytes } in
-    let with_to : ℕ → Header = λ x. record { magic = h.magic; version = h.version; kind = h.kind; from = h.from; from_index = h.from_index; to = x; to_index = h.to_index; said = length (body_shape m).bytes } in
-    let with_said : ℕ → Header = λ x. record { magic = h.magic; version = h.version; kind = h.kind; from = h.from; from_index = h.from_index; to = h.to; to_index = h.to_index; said = x } in
+    let with_magic : ℕ → Header = λ x. record {
+      magic = x;
+      version = version_of m;
+      kind = (body_shape m).tag;
+      from = code_of (kind_of h.from);
+      from_index = h.from_index;
+      to = code_of (kind_of h.to);
+      to_index = h.to_index;
+      said = length (body_shape m).bytes;
+    } in
+    let with_version : ℕ → Header = λ x. record {
+      magic = h.magic;
+      version = x;
+      kind = (body_shape m).tag;
+      from = code_of (kind_of h.from);
+      from_index = h.from_index;
+      to = code_of (kind_of h.to);
+      to_index = h.to_index;
+      said = length (body_shape m).bytes;
+    } in
+    let with_kind : ℕ → Header = λ x. record {
+      magic = h.magic;
+      version = h.version;
+      kind = x;
+      from = code_of (kind_of h.from);
+      from_index = h.from_index;
+      to = code_of (kind_of h.to);
+      to_index = h.to_index;
+      said = length (body_shape m).bytes;
+    } in
+    let with_from : ℕ → Header = λ x. record {
+      magic = h.magic;
+      version = h.version;
+      kind = h.kind;
+      from = x;
+      from_index = h.from_index;
+      to = code_of (kind_of h.to);
+      to_index = h.to_index;
+      said = length (body_shape m).bytes;
+    } in
+    let with_to : ℕ → Header = λ x. record {
+      magic = h.magic;
+      version = h.version;
+      kind = h.kind;
+      from = h.from;
+      from_index = h.from_index;
+      to = x;
+      to_index = h.to_index;
+      said = length (body_shape m).bytes;
+    } in
+    let with_said : ℕ → Header = λ x. record {
+      magic = h.magic;
+      version = h.version;
+      kind = h.kind;
+      from = h.from;
+      from_index = h.from_index;
+      to = h.to;
+      to_index = h.to_index;
+      said = x;
+    } in
     ap with_magic (sym mg) ∙ ap with_version (sym ve) ∙ ap with_kind ki ∙ ap with_from fr ∙ ap with_to to ∙ ap with_said sa
 
 index_fits : (h : Header) → header.fits h ≡ true → (u16.fits h.from_index ≡ true) × (u16.fits h.to_index ≡ true)
@@ -197,14 +267,16 @@ decoded-takes bytes d is_bytes e =
     let floors : Bool = eqb h.version 2 in
     let f = finished_case (length bytes) h (by_tag (cases_with floors) h.kind (length body) body) d p.msg in
     let m : Msg = f.0 in
-    let second = by_tag-takes (body_with floors) (cases_with floors) (bodies-sound floors) h.kind (length body) body (m, []) first.0.rest_fits f.1 in
+    let second =
+    by_tag-takes (body_with floors) (cases_with floors) (bodies-sound floors) h.kind (length body) body (m, []) first.0.rest_fits f.1 in
     let whole : body ≡ (body_shape m).bytes = second.0.parts ∙ append-nil (body_with floors m).bytes ∙ version_bytes floors m in
     let kind : (body_shape m).tag ≡ h.kind = sym (version_tag floors m) ∙ second.2 in
     let fit : (body_shape m).fits ≡ true = version_fits floors m second.1 in
     let len : length (body_shape m).bytes ≡ h.said = sym (p.said ∙ ap length whole) in
     let same = same_header h m p.magic f.2 kind (sender_back h.kind h.from p.from) (getter_back h.kind h.to p.to) len in
     let indexes = index_fits h first.1 in
-    let from : is_listed senders (body_shape m).tag (code_of (kind_of h.from)) ≡ true = rw (kind, sender_back h.kind h.from p.from) p.from in
+    let from : is_listed senders (body_shape m).tag (code_of (kind_of h.from)) ≡ true =
+    rw (kind, sender_back h.kind h.from p.from) p.from in
     let to : is_listed receivers (body_shape m).tag (code_of (kind_of h.to)) ≡ true = rw (kind, getter_back h.kind h.to p.to) p.to in
     subst (λ (x : Letter). (bytes ≡ spelling x) × (fits x ≡ true)) f.3
     (rw (same, ← whole) first.0.parts, rw (indexes.0, indexes.1, from, to, fit) refl)
@@ -253,7 +325,11 @@ has_kind (SessRead q n key) = refl
 
 same_datagram : (d : Letter) → datagram_of (header_of d) d.msg ≡ d
 same_datagram d =
-    let with_from : Kind → Letter = λ k. record { from = record { kind = k; index = d.from.index }; to = record { kind = kind_of (code_of d.to.kind); index = d.to.index }; msg = d.msg } in
+    let with_from : Kind → Letter = λ k. record {
+      from = record { kind = k; index = d.from.index };
+      to = record { kind = kind_of (code_of d.to.kind); index = d.to.index };
+      msg = d.msg;
+    } in
     let with_to : Kind → Letter = λ k. record { from = d.from; to = record { kind = k; index = d.to.index }; msg = d.msg } in
     ap with_from (kind_back d.from.kind) ∙ ap with_to (kind_back d.to.kind)
 
@@ -291,7 +367,16 @@ unfolding header
 header_fits d f =
     let size = body-sizes d.msg f.msg in
     let said : u16.fits (length (body_shape d.msg).bytes) ≡ true = short_fits (length (body_shape d.msg).bytes) (omega arith) in
-    rw (short_fits magic (lit< tt), small_version d.msg, tag_fits (body_shape d.msg).tag (small_tag d.msg), tag_fits (code_of d.from.kind) (small_code d.from.kind), f.from_index, tag_fits (code_of d.to.kind) (small_code d.to.kind), f.to_index, said) refl
+    rw (
+      short_fits magic (lit< tt),
+      small_version d.msg,
+      tag_fits (body_shape d.msg).tag (small_tag d.msg),
+      tag_fits (code_of d.from.kind) (small_code d.from.kind),
+      f.from_index,
+      tag_fits (code_of d.to.kind) (small_code d.to.kind),
+      f.to_index,
+      said,
+    ) refl
 
 version_known : (b : Bool) → (eqb (if b then 2 else 1) 1 || eqb (if b then 2 else 1) 2) ≡ true
 version_known true = refl
@@ -310,13 +395,16 @@ unfolding with_header after_header letter_at_end
 decoded-again d h =
     let s = body_shape d.msg in
     let f = fitting d h in
-    let first : header.read (header.spell (header_of d) ++ s.bytes) ≡ Ok (header_of d, s.bytes) = header-exact.again (header_of d) s.bytes (header_fits d f) in
+    let first : header.read (header.spell (header_of d) ++ s.bytes) ≡ Ok (header_of d, s.bytes) =
+    header-exact.again (header_of d) s.bytes (header_fits d f) in
     let even : ltb (length s.bytes) (length s.bytes) ≡ false = le-ltb _ _ (omega arith) in
     let floors : Bool = tells_floors d.msg in
     let own : (body_with floors d.msg).fits ≡ true = own_version floors d.msg refl f.msg in
-    let back : by_tag (cases_with floors) (body_with floors d.msg).tag (length (body_with floors d.msg).bytes) ((body_with floors d.msg).bytes ++ []) ≡ Ok (d.msg, []) = body-again floors d.msg (length (body_with floors d.msg).bytes) [] own in
+    let back : by_tag (cases_with floors) (body_with floors d.msg).tag (length (body_with floors d.msg).bytes)
+    ((body_with floors d.msg).bytes ++ []) ≡ Ok (d.msg, []) = body-again floors d.msg (length (body_with floors d.msg).bytes) [] own in
     let second : by_tag (cases_with floors) s.tag (length s.bytes) s.bytes ≡ Ok (d.msg, []) =
-    ap (by_tag (cases_with floors) s.tag (length s.bytes)) (sym (append-nil s.bytes)) ∙ (rw (← version_tag floors d.msg, ← version_bytes floors d.msg) back) in
+    ap (by_tag (cases_with floors) s.tag (length s.bytes)) (sym (append-nil s.bytes))
+    ∙ (rw (← version_tag floors d.msg, ← version_bytes floors d.msg) back) in
     let kind : is_kind s.tag ≡ true = has_kind d.msg in
     let done : Letter → Result Letter WireFault = λ x. Ok x in
     let known : (eqb (version_of d.msg) 1 || eqb (version_of d.msg) 2) ≡ true = version_known floors in
@@ -324,7 +412,8 @@ decoded-again d h =
     let same : eqb (version_of d.msg) (version_of d.msg) ≡ true = version_same floors in
     rw (first, known, kind, even, f.from, f.to, second_one, second, same) (ap done (same_datagram d))
 
-pub is_found : (bytes : List ℕ) (r : Result Letter WireFault) → IsBytes bytes → Decodes r (decoded bytes) → IfOk r (λ d. (bytes ≡ spelling d) × IsTrue (fits d))
+pub is_found : (bytes : List ℕ) (r : Result Letter WireFault) → IsBytes bytes → Decodes r (decoded bytes)
+    → IfOk r (λ d. (bytes ≡ spelling d) × IsTrue (fits d))
 is_found bytes (Ok d) is_bytes given = decoded-takes bytes d is_bytes given
 is_found bytes (Err e) is_bytes given = tt
 
@@ -340,7 +429,8 @@ pub one_spelling : (d e : Letter) (more : List ℕ) → fits d ≡ true → fits
 one_spelling d e more fit_d fit_e same =
     let s = (body_shape d.msg).bytes in
     let t = (body_shape e.msg).bytes in
-    let read_d : header.read (spelling d ++ more) ≡ Ok (header_of d, s ++ more) = ap header.read (append_assoc (header.spell (header_of d)) s more) ∙ header-exact.again (header_of d) (s ++ more) (header_fits d (fitting d fit_d)) in
+    let read_d : header.read (spelling d ++ more) ≡ Ok (header_of d, s ++ more) = ap header.read
+    (append_assoc (header.spell (header_of d)) s more) ∙ header-exact.again (header_of d) (s ++ more) (header_fits d (fitting d fit_d)) in
     let read_e : header.read (spelling e) ≡ Ok (header_of e, t) = header-exact.again (header_of e) t (header_fits e (fitting e fit_e)) in
     let done : Header × List ℕ → Result (Header × List ℕ) Miss = λ x. Ok x in
     let pair : done (header_of d, s ++ more) ≡ done (header_of e, t) = sym read_d ∙ ap header.read same ∙ read_e in

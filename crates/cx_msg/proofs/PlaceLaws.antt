@@ -1,5 +1,6 @@
 -- Where faults of decoding lie.
-use Rattle.std.proofs.Common.{◌≡◌, ◌⊎◌, inl, inr, ℕ, ◌+◌, ◌-◌, ◌<◌, ◌≤◌, Bool, true, false, not, cond, ltb, eqb, List, [], ◌∷◌, length, Result, Ok, Err, refl, ap, subst, arith}
+use Rattle.std.proofs.Common.{◌≡◌, ◌⊎◌, inl, inr, ℕ, ◌+◌, ◌-◌, ◌<◌, ◌≤◌, Bool, true, false, not, cond, ltb, eqb, List, [], ◌∷◌, length}
+use Rattle.std.proofs.Common.{Result, Ok, Err, refl, ap, subst, arith}
 use Rattle.std.specs.Prelude.{◌||◌, IfErr}
 use Rattle.std.proofs.lemmas.Bool.{ltb-true}
 use Rattle.std.proofs.lemmas.List.{length-append}
@@ -28,28 +29,38 @@ fault_is : {A : Type 0} (d e : WireFault) (r : Result A WireFault) → r ≡ Err
 fault_is d e r h k = cc
 
 -- a test that failed, or what comes after it
-stopped : {A : Type 0} (b : Bool) (d e : WireFault) (r : Result A WireFault) → cond b (Err d) r ≡ Err e → ((b ≡ true) × (d ≡ e)) ⊎ (r ≡ Err e)
+stopped : {A : Type 0} (b : Bool) (d e : WireFault) (r : Result A WireFault) → cond b (Err d) r ≡ Err e
+    → ((b ≡ true) × (d ≡ e)) ⊎ (r ≡ Err e)
 stopped {A} true d e r h = inl (refl, fault_is {A = A} d e (Err d) refl h)
 stopped false d e r h = inr h
 
 -- ---- datagrams
 
-version_lies : (bytes : List ℕ) (b : Bool) (n : ℕ) (d : Letter) (e : WireFault) → cond b (Ok d) (Err (faults.Version n)) ≡ Err e → LiesIn 4 bytes e
+version_lies : (bytes : List ℕ) (b : Bool) (n : ℕ) (d : Letter) (e : WireFault) → cond b (Ok d) (Err (faults.Version n)) ≡ Err e
+    → LiesIn 4 bytes e
 version_lies bytes true n d e given = absurd cc
-version_lies bytes false n d e given = subst (λ (x : WireFault). LiesIn 4 bytes x) (fault_is {A = Letter} (faults.Version n) e _ refl given) tt
+version_lies bytes false n d e given =
+    subst (λ (x : WireFault). LiesIn 4 bytes x) (fault_is {A = Letter} (faults.Version n) e _ refl given) tt
 
-finished_lies : (bytes : List ℕ) (h : Header) (body : List ℕ) (r : Result (Msg × List ℕ) Miss) (e : WireFault) → IsBytes body → length bytes ≡ 12 + length body → by_tag (cases_with (eqb h.version 2)) h.kind (length body) body ≡ r → letter_at_end (length bytes) h r ≡ Err e → LiesIn 4 bytes e
+finished_lies : (bytes : List ℕ) (h : Header) (body : List ℕ) (r : Result (Msg × List ℕ) Miss) (e : WireFault)
+    → IsBytes body → length bytes ≡ 12 + length body → by_tag (cases_with (eqb h.version 2)) h.kind (length body) body ≡ r
+    → letter_at_end (length bytes) h r ≡ Err e → LiesIn 4 bytes e
 unfolding letter_at_end
 finished_lies bytes h body (Err miss) e is_bytes len same given =
-    let le : miss.left ≤ length body = by_tag-within (body_with (eqb h.version 2)) (cases_with (eqb h.version 2)) (bodies-sound (eqb h.version 2)) h.kind (length body) body miss is_bytes (omega arith) same in
-    subst (λ (x : WireFault). LiesIn 4 bytes x) (fault_is {A = Letter} (faults.Field h.kind (length bytes - miss.left)) e _ refl given) (omega arith, omega arith)
+    let le : miss.left ≤ length body = by_tag-within (body_with (eqb h.version 2)) (cases_with (eqb h.version 2))
+    (bodies-sound (eqb h.version 2)) h.kind (length body) body miss is_bytes (omega arith) same in
+    subst (λ (x : WireFault). LiesIn 4 bytes x) (fault_is {A = Letter} (faults.Field h.kind (length bytes - miss.left)) e _ refl given)
+    (omega arith, omega arith)
 finished_lies bytes h body (Ok (m, [])) e is_bytes len same given = version_lies bytes (eqb h.version (version_of m)) h.version _ e given
 finished_lies bytes h body (Ok (m, b ∷ rest)) e is_bytes len same given =
-    let t = by_tag-takes (body_with (eqb h.version 2)) (cases_with (eqb h.version 2)) (bodies-sound (eqb h.version 2)) h.kind (length body) body (m, b ∷ rest) is_bytes same in
+    let t = by_tag-takes (body_with (eqb h.version 2)) (cases_with (eqb h.version 2)) (bodies-sound (eqb h.version 2)) h.kind (length body)
+    body (m, b ∷ rest) is_bytes same in
     let le : length (b ∷ rest) ≤ length body = Takes-less body (body_with (eqb h.version 2) m).bytes (b ∷ rest) t.0 in
-    subst (λ (x : WireFault). LiesIn 4 bytes x) (fault_is {A = Letter} (faults.Trailing (length bytes - length (b ∷ rest))) e _ refl given) (omega arith, omega arith)
+    subst (λ (x : WireFault). LiesIn 4 bytes x) (fault_is {A = Letter} (faults.Trailing (length bytes - length (b ∷ rest))) e _ refl given)
+    (omega arith, omega arith)
 
-after_lies : (bytes : List ℕ) (h : Header) (body : List ℕ) (e : WireFault) → IsBytes body → length bytes ≡ 12 + length body → after_header (length bytes) h body ≡ Err e → LiesIn 4 bytes e
+after_lies : (bytes : List ℕ) (h : Header) (body : List ℕ) (e : WireFault) → IsBytes body → length bytes ≡ 12 + length body
+    → after_header (length bytes) h body ≡ Err e → LiesIn 4 bytes e
 unfolding after_header
 after_lies bytes h body e is_bytes len given =
     let lies : WireFault → Type 0 = λ x. LiesIn 4 bytes x in
@@ -69,7 +80,8 @@ after_lies bytes h body e is_bytes len given =
                 | inl here ↦ subst lies here.1 (omega arith, omega arith)
                 | inr g ↦ elim (stopped (not (is_listed receivers h.kind h.to)) (faults.Field h.kind 7) e _ g) [
                   | inl here ↦ subst lies here.1 (omega arith, omega arith)
-                  | inr last ↦ finished_lies bytes h body (by_tag (cases_with (eqb h.version 2)) h.kind (length body) body) e is_bytes len refl last
+                  | inr last ↦
+                      finished_lies bytes h body (by_tag (cases_with (eqb h.version 2)) h.kind (length body) body) e is_bytes len refl last
                 ]
               ]
             ]
@@ -82,9 +94,11 @@ header-size : (h : Header) → length (header.spell h) ≡ 12
 unfolding header u8 u16
 header-size h = refl
 
-header_lies : (bytes : List ℕ) (r : Result (Header × List ℕ) Miss) (e : WireFault) → IsBytes bytes → header.read bytes ≡ r → with_header (length bytes) r ≡ Err e → LiesIn 4 bytes e
+header_lies : (bytes : List ℕ) (r : Result (Header × List ℕ) Miss) (e : WireFault) → IsBytes bytes → header.read bytes ≡ r
+    → with_header (length bytes) r ≡ Err e → LiesIn 4 bytes e
 unfolding with_header
-header_lies bytes (Err miss) e is_bytes same given = subst (λ (x : WireFault). LiesIn 4 bytes x) (fault_is {A = Letter} (faults.Short 12 (length bytes)) e _ refl given) tt
+header_lies bytes (Err miss) e is_bytes same given =
+    subst (λ (x : WireFault). LiesIn 4 bytes x) (fault_is {A = Letter} (faults.Short 12 (length bytes)) e _ refl given) tt
 header_lies bytes (Ok (h, body)) e is_bytes same given =
     let t = header-exact.takes bytes (h, body) is_bytes same in
     let len : length bytes ≡ 12 + length body = omega (arith, ap length t.0.parts, length-append (header.spell h) body, header-size h) in
@@ -106,24 +120,30 @@ faults_lie bytes (faults.Field kind at) is_bytes given = decoded_lies bytes (fau
 
 -- ---- records
 
-ended_lies : (bytes : List ℕ) (tag : ℕ) (body : List ℕ) (r : Result (Record × List ℕ) Miss) (e : WireFault) → IsBytes body → length bytes ≡ 1 + length body → by_tag record_cases tag (length body) body ≡ r → record_at_end (length bytes) tag r ≡ Err e → LiesIn 1 bytes e
+ended_lies : (bytes : List ℕ) (tag : ℕ) (body : List ℕ) (r : Result (Record × List ℕ) Miss) (e : WireFault) → IsBytes body → length bytes
+    ≡ 1 + length body → by_tag record_cases tag (length body) body ≡ r → record_at_end (length bytes) tag r ≡ Err e → LiesIn 1 bytes e
 unfolding record_at_end
 ended_lies bytes tag body (Err miss) e is_bytes len same given =
-    let le : miss.left ≤ length body = by_tag-within record_shape record_cases records-sound tag (length body) body miss is_bytes (omega arith) same in
-    subst (λ (x : WireFault). LiesIn 1 bytes x) (fault_is {A = Record} (faults.Field tag (length bytes - miss.left)) e _ refl given) (omega arith, omega arith)
+    let le : miss.left ≤ length body =
+    by_tag-within record_shape record_cases records-sound tag (length body) body miss is_bytes (omega arith) same in
+    subst (λ (x : WireFault). LiesIn 1 bytes x) (fault_is {A = Record} (faults.Field tag (length bytes - miss.left)) e _ refl given)
+    (omega arith, omega arith)
 ended_lies bytes tag body (Ok (kept, [])) e is_bytes len same given = absurd cc
 ended_lies bytes tag body (Ok (kept, b ∷ rest)) e is_bytes len same given =
     let t = by_tag-takes record_shape record_cases records-sound tag (length body) body (kept, b ∷ rest) is_bytes same in
     let le : length (b ∷ rest) ≤ length body = Takes-less body (record_shape kept).bytes (b ∷ rest) t.0 in
-    subst (λ (x : WireFault). LiesIn 1 bytes x) (fault_is {A = Record} (faults.Trailing (length bytes - length (b ∷ rest))) e _ refl given) (omega arith, omega arith)
+    subst (λ (x : WireFault). LiesIn 1 bytes x) (fault_is {A = Record} (faults.Trailing (length bytes - length (b ∷ rest))) e _ refl given)
+    (omega arith, omega arith)
 
 u8-size : (n : ℕ) → length (u8.spell n) ≡ 1
 unfolding u8
 u8-size n = refl
 
-tag_lies : (bytes : List ℕ) (r : Result (ℕ × List ℕ) Miss) (e : WireFault) → IsBytes bytes → u8.read bytes ≡ r → with_tag (length bytes) r ≡ Err e → LiesIn 1 bytes e
+tag_lies : (bytes : List ℕ) (r : Result (ℕ × List ℕ) Miss) (e : WireFault) → IsBytes bytes → u8.read bytes ≡ r
+    → with_tag (length bytes) r ≡ Err e → LiesIn 1 bytes e
 unfolding with_tag
-tag_lies bytes (Err miss) e is_bytes same given = subst (λ (x : WireFault). LiesIn 1 bytes x) (fault_is {A = Record} (faults.Short 1 0) e _ refl given) tt
+tag_lies bytes (Err miss) e is_bytes same given =
+    subst (λ (x : WireFault). LiesIn 1 bytes x) (fault_is {A = Record} (faults.Short 1 0) e _ refl given) tt
 tag_lies bytes (Ok (tag, body)) e is_bytes same given =
     let t = u8-exact.takes bytes (tag, body) is_bytes same in
     let len : length bytes ≡ 1 + length body = omega (arith, ap length t.0.parts, length-append (u8.spell tag) body, u8-size tag) in
@@ -136,7 +156,8 @@ recorded_lies : (bytes : List ℕ) (e : WireFault) → IsBytes bytes → record_
 recorded_lies bytes e is_bytes given = tag_lies bytes (u8.read bytes) e is_bytes refl given
 
 -- a fault of a record lies after its tag, in the bytes
-pub record_faults_lie : (bytes : List ℕ) (r : Result Record WireFault) → IsBytes bytes → Decodes r (record_of_bytes bytes) → IfErr r (LiesIn 1 bytes)
+pub record_faults_lie : (bytes : List ℕ) (r : Result Record WireFault) → IsBytes bytes → Decodes r (record_of_bytes bytes)
+    → IfErr r (LiesIn 1 bytes)
 record_faults_lie bytes (Ok kept) is_bytes given = tt
 record_faults_lie bytes (Err faults.NoMemory) is_bytes given = tt
 record_faults_lie bytes (Err (faults.Short need have)) is_bytes given = tt

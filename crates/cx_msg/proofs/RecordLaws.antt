@@ -1,21 +1,26 @@
 -- What decodes as a record is spelled so, and what is spelled decodes.
-use Rattle.std.proofs.Common.{◌≡◌, ℕ, ◌<◌, Bool, true, false, not, cond, List, [], ◌∷◌, ◌++◌, length, Result, Ok, Err, refl, sym, ap, ◌∙◌, lit<}
+use Rattle.std.proofs.Common.{◌≡◌, ℕ, ◌<◌, Bool, true, false, not, cond, List, [], ◌∷◌, ◌++◌, length, Result, Ok, Err, refl, sym, ap, ◌∙◌}
+use Rattle.std.proofs.Common.{lit<}
 use Rattle.std.specs.Prelude.{IfOk, IsTrue}
 use Rattle.std.proofs.lemmas.List.{append-nil}
 use Rattle.cx_wire.specs.Format.{Miss, u8, u16, u32, u64, ◌▷◌, by_tag}
-use Rattle.cx_wire.proofs.Laws.{IsBytes, IsExact, Takes-then, u8-exact, u16-exact, u32-exact, u64-exact, ▷-exact, case-sound, case-again, AllSound, ReadsAgain, by_tag-takes, tag_fits}
+use Rattle.cx_wire.proofs.Laws.{IsBytes, IsExact, Takes-then, u8-exact, u16-exact, u32-exact, u64-exact, ▷-exact, case-sound, case-again}
+use Rattle.cx_wire.proofs.Laws.{AllSound, ReadsAgain, by_tag-takes, tag_fits}
 use Rattle.cx_field.specs.Fields.{slot, mark, seq, round, round0, grid, value, values, pairs, notes, joined, set}
-use Rattle.cx_letter.specs.Records.{vote, round_mark, round_grid, base, client_notes, round_set, boot, record_shape, record_cases, kept_record, fits}
+use Rattle.cx_letter.specs.Records.{vote, round_mark, round_grid, base, client_notes, round_set, boot, record_shape, record_cases}
+use Rattle.cx_letter.specs.Records.{kept_record, fits}
 use Rattle.cx_msg.specs.RecordBytes.{spelling, is_tag, record_at_end, with_tag, record_of_bytes}
 use Rattle.cx_msg.specs.Decodes.{Decodes}
 use Rattle.cx_letter.specs.declared.kept.Record.{Record}
 use Rattle.cx_letter.specs.declared.kept.Record.TheVariants as kept
 use Rattle.cx_msg.specs.declared.fault.WireFault.{WireFault}
 use Rattle.cx_msg.specs.declared.fault.WireFault.TheVariants as faults
-use Rattle.cx_field.proofs.FieldLaws.{slot-exact, mark-exact, seq-exact, round-exact, round0-exact, grid-exact, value-exact, values-exact, pairs-exact, notes-exact, joined-exact, set-exact}
+use Rattle.cx_field.proofs.FieldLaws.{slot-exact, mark-exact, seq-exact, round-exact, round0-exact, grid-exact, value-exact, values-exact}
+use Rattle.cx_field.proofs.FieldLaws.{pairs-exact, notes-exact, joined-exact, set-exact}
 
 vote-exact : IsExact vote
-vote-exact = ▷-exact round (slot ▷ (mark ▷ value)) round-exact (▷-exact slot (mark ▷ value) slot-exact (▷-exact mark value mark-exact value-exact))
+vote-exact =
+    ▷-exact round (slot ▷ (mark ▷ value)) round-exact (▷-exact slot (mark ▷ value) slot-exact (▷-exact mark value mark-exact value-exact))
 
 pub round_mark-exact : IsExact round_mark
 round_mark-exact = ▷-exact round mark round-exact mark-exact
@@ -87,20 +92,28 @@ records-sound = (
 record-again : (r : Record) → ReadsAgain record_shape record_cases r
 unfolding record_cases
 record-again (kept.Promise r) left rest fits = case-again {A = Record} 1 round (λ x. kept.Promise x) r rest round-exact fits
-record-again (kept.Vote r s cw v) left rest fits = case-again {A = Record} 2 vote (λ x. kept.Vote x.0 x.1.0 x.1.1.0 x.1.1.1) (r, (s, (cw, v))) rest vote-exact fits
-record-again (kept.Water r n) left rest fits = case-again {A = Record} 3 round_mark (λ x. kept.Water x.0 x.1) (r, n) rest round_mark-exact fits
-record-again (kept.Match r g) left rest fits = case-again {A = Record} 4 round_grid (λ x. kept.Match x.0 x.1) (r, g) rest round_grid-exact fits
-record-again (kept.Garbage r g) left rest fits = case-again {A = Record} 5 round_grid (λ x. kept.Garbage x.0 x.1) (r, g) rest round_grid-exact fits
-record-again (kept.Round r g) left rest fits = case-again {A = Record} 6 round_grid (λ x. kept.Round x.0 x.1) (r, g) rest round_grid-exact fits
+record-again (kept.Vote r s cw v) left rest fits =
+    case-again {A = Record} 2 vote (λ x. kept.Vote x.0 x.1.0 x.1.1.0 x.1.1.1) (r, (s, (cw, v))) rest vote-exact fits
+record-again (kept.Water r n) left rest fits =
+    case-again {A = Record} 3 round_mark (λ x. kept.Water x.0 x.1) (r, n) rest round_mark-exact fits
+record-again (kept.Match r g) left rest fits =
+    case-again {A = Record} 4 round_grid (λ x. kept.Match x.0 x.1) (r, g) rest round_grid-exact fits
+record-again (kept.Garbage r g) left rest fits =
+    case-again {A = Record} 5 round_grid (λ x. kept.Garbage x.0 x.1) (r, g) rest round_grid-exact fits
+record-again (kept.Round r g) left rest fits =
+    case-again {A = Record} 6 round_grid (λ x. kept.Round x.0 x.1) (r, g) rest round_grid-exact fits
 record-again (kept.Log vs) left rest fits = case-again {A = Record} 7 values (λ x. kept.Log x) vs rest values-exact fits
-record-again (kept.Base f h p c) left rest fits = case-again {A = Record} 8 base (λ x. kept.Base x.0 x.1.0 x.1.1.0 x.1.1.1) (f, (h, (p, c))) rest base-exact fits
+record-again (kept.Base f h p c) left rest fits =
+    case-again {A = Record} 8 base (λ x. kept.Base x.0 x.1.0 x.1.1.0 x.1.1.1) (f, (h, (p, c))) rest base-exact fits
 record-again (kept.Pairs ps) left rest fits = case-again {A = Record} 9 pairs (λ x. kept.Pairs x) ps rest pairs-exact fits
-record-again (kept.Notes c f ns) left rest fits = case-again {A = Record} 10 client_notes (λ x. kept.Notes x.0 x.1.0 x.1.1) (c, (f, ns)) rest client_notes-exact fits
+record-again (kept.Notes c f ns) left rest fits =
+    case-again {A = Record} 10 client_notes (λ x. kept.Notes x.0 x.1.0 x.1.1) (c, (f, ns)) rest client_notes-exact fits
 record-again (kept.Tail vs) left rest fits = case-again {A = Record} 11 values (λ x. kept.Tail x) vs rest values-exact fits
 record-again (kept.Ballot r) left rest fits = case-again {A = Record} 12 round (λ x. kept.Ballot x) r rest round-exact fits
 record-again (kept.Stop r) left rest fits = case-again {A = Record} 13 round (λ x. kept.Stop x) r rest round-exact fits
 record-again (kept.Next r s) left rest fits = case-again {A = Record} 14 round_set (λ x. kept.Next x.0 x.1) (r, s) rest round_set-exact fits
-record-again (kept.Boot s w es) left rest fits = case-again {A = Record} 15 boot (λ x. kept.Boot x.0 x.1.0 x.1.1) (s, (w, es)) rest boot-exact fits
+record-again (kept.Boot s w es) left rest fits =
+    case-again {A = Record} 15 boot (λ x. kept.Boot x.0 x.1.0 x.1.1) (s, (w, es)) rest boot-exact fits
 record-again (kept.Turn n) left rest fits = case-again {A = Record} 16 seq (λ x. kept.Turn x) n rest seq-exact fits
 
 -- a record's tag is one
@@ -126,7 +139,8 @@ past : (b : Bool) (e : WireFault) (r : Result Record WireFault) (x : Record) →
 past true e r x h = h
 past false e r x h = absurd cc
 
-tag_case : (all : ℕ) (r : Result (ℕ × List ℕ) Miss) (x : Record) → with_tag all r ≡ Ok x → (t : ℕ × List ℕ) × (r ≡ Ok t) × (record_at_end all t.0 (by_tag record_cases t.0 (length t.1) t.1) ≡ Ok x)
+tag_case : (all : ℕ) (r : Result (ℕ × List ℕ) Miss) (x : Record) → with_tag all r ≡ Ok x
+    → (t : ℕ × List ℕ) × (r ≡ Ok t) × (record_at_end all t.0 (by_tag record_cases t.0 (length t.1) t.1) ≡ Ok x)
 unfolding with_tag
 tag_case all (Err miss) x e = absurd cc
 tag_case all (Ok t) x e = (t, refl, past (is_tag t.0) (faults.Kind t.0) _ x e)
@@ -153,9 +167,11 @@ recorded-again x h =
     let s = record_shape x in
     let k = has_tag x in
     let first : u8.read (u8.spell s.tag ++ s.bytes) ≡ Ok (s.tag, s.bytes) = u8-exact.again s.tag s.bytes (tag_fits s.tag k.1) in
-    let second : by_tag record_cases s.tag (length s.bytes) s.bytes ≡ Ok (x, []) = ap (by_tag record_cases s.tag (length s.bytes)) (sym (append-nil s.bytes)) ∙ record-again x (length s.bytes) [] h in
+    let second : by_tag record_cases s.tag (length s.bytes) s.bytes ≡ Ok (x, []) =
+    ap (by_tag record_cases s.tag (length s.bytes)) (sym (append-nil s.bytes)) ∙ record-again x (length s.bytes) [] h in
     rw (first, k.0, second) refl
 
-pub is_found : (bytes : List ℕ) (r : Result Record WireFault) → IsBytes bytes → Decodes r (record_of_bytes bytes) → IfOk r (λ x. (bytes ≡ spelling x) × IsTrue (fits x))
+pub is_found : (bytes : List ℕ) (r : Result Record WireFault) → IsBytes bytes → Decodes r (record_of_bytes bytes)
+    → IfOk r (λ x. (bytes ≡ spelling x) × IsTrue (fits x))
 is_found bytes (Ok x) is_bytes given = recorded-takes bytes x is_bytes given
 is_found bytes (Err e) is_bytes given = tt

@@ -1,5 +1,6 @@
 -- A datagram's short bytes give it again.
-use Rattle.std.proofs.Common.{◌≡◌, ◌≤◌, ◌<◌, ◌+◌, ◌%◌, ◌^◌, ◌∙◌, ℕ, true, List, [], ◌++◌, Result, Ok, Err, drop, length, lit≤, refl, sym, ap, subst, arith}
+use Rattle.std.proofs.Common.{◌≡◌, ◌≤◌, ◌<◌, ◌+◌, ◌%◌, ◌^◌, ◌∙◌, ℕ, true, List, [], ◌++◌, Result, Ok, Err, drop, length, lit≤, refl, sym}
+use Rattle.std.proofs.Common.{ap, subst, arith}
 use Rattle.std.specs.Prelude.{IsTrue, slice_index}
 use Rattle.std.specs.Int.{w16, from_be_bytes, to_be_bytes}
 use Rattle.std.proofs.lemmas.Bool.{ltb-true}
@@ -7,7 +8,8 @@ use Rattle.std.proofs.lemmas.List.{append-nil}
 use Rattle.std.proofs.lemmas.Nat.{from_be_bytes-to_be_bytes_2}
 use Rattle.cx_base.specs.Role.{code_of, kind_of, role}
 use Rattle.cx_base.specs.declared.role.Kind.{Kind}
-use Rattle.cx_base.specs.declared.role.Kind.TheVariants.{Client, Batcher, Leader, Proxy, Acceptor, Matchmaker, Replica, Unbatcher, Reader, Replacer}
+use Rattle.cx_base.specs.declared.role.Kind.TheVariants.{Client, Batcher, Leader, Proxy, Acceptor, Matchmaker, Replica, Unbatcher, Reader}
+use Rattle.cx_base.specs.declared.role.Kind.TheVariants.{Replacer}
 use Rattle.cx_base.specs.declared.role.RoleId.{RoleId}
 use Rattle.cx_wire.specs.Format.{Miss, bad, by_tag, short_field, u8, u16}
 use Rattle.cx_field.specs.Reading.{Fails}
@@ -22,15 +24,18 @@ use Rattle.cx_msg.proofs.DatagramLaws.{small_tag}
 use Rattle.cx_letter.proofs.PartsLaws.{fitting}
 
 -- its body is read as its message
-pub body_reads : (d : Letter) (kind : ℕ) (bytes : List ℕ) → IsSpelled d kind bytes → by_tag (cases_with true) kind (length bytes) bytes ≡ Ok (d.msg, [])
+pub body_reads : (d : Letter) (kind : ℕ) (bytes : List ℕ) → IsSpelled d kind bytes
+    → by_tag (cases_with true) kind (length bytes) bytes ≡ Ok (d.msg, [])
 body_reads d kind bytes is =
     let f = fitting d is.in_range in
     let s = body_shape d.msg in
-    let again : by_tag (cases_with true) s.tag (length s.bytes) (s.bytes ++ []) ≡ Ok (d.msg, []) = body-again true d.msg (length s.bytes) [] f.msg in
+    let again : by_tag (cases_with true) s.tag (length s.bytes) (s.bytes ++ []) ≡ Ok (d.msg, []) =
+    body-again true d.msg (length s.bytes) [] f.msg in
     rw (is.kind_is, is.body_is) (ap (by_tag (cases_with true) s.tag (length s.bytes)) (sym (append-nil s.bytes)) ∙ again)
 
 -- reading it fails for memory alone
-pub fails_for_memory : (d : Letter) (kind : ℕ) (bytes left : List ℕ) (e : ReadFault) → IsSpelled d kind bytes → left ≡ bytes → Fails e (by_tag (cases_with true) kind (length left) left) → e ≡ faults.NoMemory
+pub fails_for_memory : (d : Letter) (kind : ℕ) (bytes left : List ℕ) (e : ReadFault) → IsSpelled d kind bytes → left ≡ bytes
+    → Fails e (by_tag (cases_with true) kind (length left) left) → e ≡ faults.NoMemory
 fails_for_memory d kind bytes left faults.NoMemory is same fails = refl
 fails_for_memory d kind bytes left (faults.Bad at) is same fails =
     let read = body_reads d kind bytes is in
@@ -71,11 +76,13 @@ code_low Unbatcher = lit≤ tt
 code_low Reader = lit≤ tt
 code_low Replacer = lit≤ tt
 
-role_again : (r : RoleId) → u16.fits r.index ≡ true → role (kind_of (code_of r.kind % 256)) (from_be_bytes w16 (to_be_bytes w16 r.index)) ≡ r
+role_again : (r : RoleId) → u16.fits r.index ≡ true
+    → role (kind_of (code_of r.kind % 256)) (from_be_bytes w16 (to_be_bytes w16 r.index)) ≡ r
 unfolding u16
 role_again r fit =
     let small : r.index < 2 ^ 16 = ltb-true _ _ fit in
-    ap (λ (k : Kind). role k (from_be_bytes w16 (to_be_bytes w16 r.index))) (kind_again r.kind) ∙ ap (role r.kind) (from_be_bytes-to_be_bytes_2 r.index small)
+    ap (λ (k : Kind). role k (from_be_bytes w16 (to_be_bytes w16 r.index))) (kind_again r.kind)
+    ∙ ap (role r.kind) (from_be_bytes-to_be_bytes_2 r.index small)
 
 pub length-short : (d : Letter) → length (short d) ≡ 7 + length (body d)
 unfolding u8 u16
@@ -96,7 +103,10 @@ letter_again d fit =
     ∙ same_letter d fit
 
 pub short_again : (d : Letter) → fits d ≡ true → IsShort (short d)
-short_again d fit = record { in_range = subst (λ (x : Letter). IsTrue (fits x)) (sym (letter_again d fit)) fit; are_its = ap short (sym (letter_again d fit)) }
+short_again d fit = record {
+  in_range = subst (λ (x : Letter). IsTrue (fits x)) (sym (letter_again d fit)) fit;
+  are_its = ap short (sym (letter_again d fit));
+}
 
 -- what the code takes out of short bytes
 pub record Opened (bytes : List ℕ) : Type 0 where
@@ -114,7 +124,11 @@ open_short d fit =
       long = omega (arith, length-short d);
       from = code_low d.from.kind;
       to = code_low d.to.kind;
-      is_spelled = record { in_range = subst (λ (x : Letter). IsTrue (fits x)) same fit; kind_is = kind ∙ ap (λ (x : Letter). (body_shape x.msg).tag) same; body_is = ap body same };
+      is_spelled = record {
+        in_range = subst (λ (x : Letter). IsTrue (fits x)) same fit;
+        kind_is = kind ∙ ap (λ (x : Letter). (body_shape x.msg).tag) same;
+        body_is = ap body same;
+      };
     }
 
 pub opened : (bytes : List ℕ) → IsShort bytes → Opened bytes

@@ -8,21 +8,23 @@ use Rattle.cx_wire.specs.Format.{Format, only, then_by, ◌▷◌, TaggedBytes}
 use Rattle.cx_wire.proofs.Laws.{both}
 use Rattle.cx_wire.proofs.Parts.{IsPart, IsShapePart, then_by-part, ▷-part, shape-part}
 use Rattle.cx_field.proofs.Floors.{command-part, commands-part, value-part, votes-part}
-use Rattle.cx_field.specs.Fields.{slot, mark, round, grid, command_with, commands_with, value_with, votes_with, in_window, tells_floor, value_tells}
+use Rattle.cx_field.specs.Fields.{slot, mark, round, grid, command_with, commands_with, value_with, votes_with, in_window, tells_floor}
+use Rattle.cx_field.specs.Fields.{value_tells}
 use Rattle.cx_field.specs.declared.parts.Vote.{Vote}
 use Rattle.cx_letter.specs.Messages.{phase1b, phase2a, propose, slot_value, tells_floors, body_with, body_shape}
 use Rattle.cx_letter.specs.declared.message.Msg.{Msg}
 use Rattle.cx_letter.specs.declared.message.Msg.TheVariants.{Chosen, Phase2A, Submit, Batch, Phase1B, Propose}
 
-watched-part : IsPart (λ (x : ℕ × (ℕ × Value)). value_tells x.1.1) (then_by slot (λ s. only (λ cw. in_window cw s) mark ▷ value_with false)) (then_by slot (λ s. only (λ cw. in_window cw s) mark ▷ value_with true))
-watched-part =
-    then_by-part slot (λ s. only (λ cw. in_window cw s) mark ▷ value_with false) (λ s. only (λ cw. in_window cw s) mark ▷ value_with true) (λ (x : ℕ × Value). value_tells x.1)
+watched-part : IsPart (λ (x : ℕ × (ℕ × Value)). value_tells x.1.1) (then_by slot (λ s. only (λ cw. in_window cw s) mark ▷ value_with false))
+    (then_by slot (λ s. only (λ cw. in_window cw s) mark ▷ value_with true))
+watched-part = then_by-part slot (λ s. only (λ cw. in_window cw s) mark ▷ value_with false)
+    (λ s. only (λ cw. in_window cw s) mark ▷ value_with true) (λ (x : ℕ × Value). value_tells x.1)
     (λ s. ▷-part (only (λ cw. in_window cw s) mark) (value_with false) (value_with true) value_tells value-part)
 
 phase2a-part : IsPart (λ (x : Round × (ℕ × (ℕ × Value))). value_tells x.1.1.1) (phase2a false) (phase2a true)
 unfolding phase2a
-phase2a-part =
-    ▷-part round (then_by slot (λ s. only (λ cw. in_window cw s) mark ▷ value_with false)) (then_by slot (λ s. only (λ cw. in_window cw s) mark ▷ value_with true)) (λ (x : ℕ × (ℕ × Value)). value_tells x.1.1) watched-part
+phase2a-part = ▷-part round (then_by slot (λ s. only (λ cw. in_window cw s) mark ▷ value_with false))
+    (then_by slot (λ s. only (λ cw. in_window cw s) mark ▷ value_with true)) (λ (x : ℕ × (ℕ × Value)). value_tells x.1.1) watched-part
 
 propose-part : IsPart (λ (x : Round × (GridShape × (ℕ × (ℕ × Value)))). value_tells x.1.1.1.1) (propose false) (propose true)
 unfolding propose
@@ -37,8 +39,8 @@ slot_value-part = ▷-part slot (value_with false) (value_with true) value_tells
 
 phase1b-part : IsPart (λ (x : Round × (ℕ × List Vote)). list_any (λ (v : Vote). value_tells v.value) x.1.1) (phase1b false) (phase1b true)
 unfolding phase1b
-phase1b-part =
-    ▷-part round (then_by mark (votes_with false)) (then_by mark (votes_with true)) (λ (x : ℕ × List Vote). list_any (λ (v : Vote). value_tells v.value) x.1)
+phase1b-part = ▷-part round (then_by mark (votes_with false)) (then_by mark (votes_with true))
+    (λ (x : ℕ × List Vote). list_any (λ (v : Vote). value_tells v.value) x.1)
     (then_by-part mark (votes_with false) (votes_with true) (list_any (λ (v : Vote). value_tells v.value)) (λ cw. votes-part cw))
 
 and_yes : (a : Bool) → a ≡ (a && true)
@@ -51,9 +53,12 @@ plain s = record { tag = refl; fits = and_yes s.fits; bytes = refl }
 pub body-part : (m : Msg) → IsShapePart (tells_floors m) (body_with false m) (body_with true m)
 body-part (Submit c) = shape-part 1 (command_with false) (command_with true) tells_floor command-part c
 body-part (Batch cs) = shape-part 2 (commands_with false) (commands_with true) (list_any tells_floor) commands-part cs
-body-part (Phase1B r cw vs) = shape-part 8 (phase1b false) (phase1b true) (λ (x : Round × (ℕ × List Vote)). list_any (λ (v : Vote). value_tells v.value) x.1.1) phase1b-part (r, (cw, vs))
-body-part (Propose r g s cw v) = shape-part 10 (propose false) (propose true) (λ (x : Round × (GridShape × (ℕ × (ℕ × Value)))). value_tells x.1.1.1.1) propose-part (r, (g, (s, (cw, v))))
-body-part (Phase2A r s cw v) = shape-part 11 (phase2a false) (phase2a true) (λ (x : Round × (ℕ × (ℕ × Value))). value_tells x.1.1.1) phase2a-part (r, (s, (cw, v)))
+body-part (Phase1B r cw vs) = shape-part 8 (phase1b false) (phase1b true)
+    (λ (x : Round × (ℕ × List Vote)). list_any (λ (v : Vote). value_tells v.value) x.1.1) phase1b-part (r, (cw, vs))
+body-part (Propose r g s cw v) = shape-part 10 (propose false) (propose true)
+    (λ (x : Round × (GridShape × (ℕ × (ℕ × Value)))). value_tells x.1.1.1.1) propose-part (r, (g, (s, (cw, v))))
+body-part (Phase2A r s cw v) =
+    shape-part 11 (phase2a false) (phase2a true) (λ (x : Round × (ℕ × (ℕ × Value))). value_tells x.1.1.1) phase2a-part (r, (s, (cw, v)))
 body-part (Chosen a b) = shape-part 13 (slot_value false) (slot_value true) (λ (x : ℕ × Value). value_tells x.1) slot_value-part (a, b)
 body-part other = plain (body_with true other)
 

@@ -12,9 +12,16 @@ magic = 17240
 
 -- the twelve bytes before a body: the letters CX, the version, the kind, who sends and who gets it, and the body's length
 unfoldable pub header : Format Header
-header = shaped
-    (λ x. record { magic = x.0; version = x.1.0; kind = x.1.1.0; from = x.1.1.1.0; from_index = x.1.1.1.1.0; to = x.1.1.1.1.1.0; to_index = x.1.1.1.1.1.1.0; said = x.1.1.1.1.1.1.1 })
-    (λ h. (h.magic, (h.version, (h.kind, (h.from, (h.from_index, (h.to, (h.to_index, h.said))))))))
+header = shaped (λ x. record {
+  magic = x.0;
+  version = x.1.0;
+  kind = x.1.1.0;
+  from = x.1.1.1.0;
+  from_index = x.1.1.1.1.0;
+  to = x.1.1.1.1.1.0;
+  to_index = x.1.1.1.1.1.1.0;
+  said = x.1.1.1.1.1.1.1;
+}) (λ h. (h.magic, (h.version, (h.kind, (h.from, (h.from_index, (h.to, (h.to_index, h.said))))))))
     (u16 ▷ u8 ▷ u8 ▷ u8 ▷ u16 ▷ u8 ▷ u16 ▷ u16)
 
 -- the header of a datagram

@@ -98,7 +98,8 @@ fn batch_from(alloc: Global, floors: bool, reader: &mut ByteReader<'_>) -> Resul
 }
 
 fn leads_from(reader: &mut ByteReader<'_>) -> Result<Msg, ReadFault>
-    ensures { Gives (λ m. m) result ((wire.case 3 field.round (λ x. Msg.Leads x)).read reader.old) reader.new }
+    ensures { Gives (λ m. m) result ((wire.case 3 field.round (λ x. Msg.Leads x)).read reader.old)
+        reader.new }
 {
     let round = round_from(reader)?;
     Ok(Msg::Leads { round })
@@ -116,7 +117,8 @@ fn match_a_from(alloc: Global, reader: &mut ByteReader<'_>) -> Result<Msg, ReadF
 #[tactic(auto, unfolding(cx_letter::specs::Messages::match_b))]
 fn match_b_from(alloc: Global, reader: &mut ByteReader<'_>) -> Result<Msg, ReadFault>
     ensures { Gives (λ m. m) result
-        ((wire.case 5 message.match_b (λ x. Msg.MatchB x.0 x.1.0 x.1.1)).read reader.old) reader.new }
+        ((wire.case 5 message.match_b
+        (λ x. Msg.MatchB x.0 x.1.0 x.1.1)).read reader.old) reader.new }
 {
     let round = round_from(reader)?;
     let watermark = round0_from(reader)?;
@@ -145,7 +147,8 @@ fn match_nack_from(reader: &mut ByteReader<'_>) -> Result<Msg, ReadFault>
 }
 
 fn phase1a_from(reader: &mut ByteReader<'_>) -> Result<Msg, ReadFault>
-    ensures { Gives (λ m. m) result ((wire.case 7 field.round (λ x. Msg.Phase1A x)).read reader.old) reader.new }
+    ensures { Gives (λ m. m) result ((wire.case 7 field.round (λ x. Msg.Phase1A x)).read reader.old)
+        reader.new }
 {
     let round = round_from(reader)?;
     Ok(Msg::Phase1A { round })
@@ -165,7 +168,8 @@ fn phase1b_from(alloc: Global, floors: bool, reader: &mut ByteReader<'_>) -> Res
 
 #[tactic(auto, unfolding(cx_letter::specs::Messages::nack))]
 fn nack_from(reader: &mut ByteReader<'_>) -> Result<Msg, ReadFault>
-    ensures { Gives (λ m. m) result ((wire.case 9 message.nack (λ x. Msg.Nack x.0 x.1)).read reader.old) reader.new }
+    ensures { Gives (λ m. m) result
+        ((wire.case 9 message.nack (λ x. Msg.Nack x.0 x.1)).read reader.old) reader.new }
 {
     let round = round_from(reader)?;
     let promise = round_from(reader)?;
@@ -266,7 +270,8 @@ fn results_from(alloc: Global, reader: &mut ByteReader<'_>) -> Result<Msg, ReadF
 #[tactic(auto, unfolding(cx_letter::specs::Messages::answer))]
 fn answer_from(reader: &mut ByteReader<'_>) -> Result<Msg, ReadFault>
     ensures { Gives (λ m. m) result
-        ((wire.case 16 message.answer (λ x. Msg.Answer x.0 x.1.0 x.1.1)).read reader.old) reader.new }
+        ((wire.case 16 message.answer
+        (λ x. Msg.Answer x.0 x.1.0 x.1.1)).read reader.old) reader.new }
 {
     let seq = seq_from(reader)?;
     let at = at_from(reader)?;
@@ -275,14 +280,16 @@ fn answer_from(reader: &mut ByteReader<'_>) -> Result<Msg, ReadFault>
 }
 
 fn held_from(reader: &mut ByteReader<'_>) -> Result<Msg, ReadFault>
-    ensures { Gives (λ m. m) result ((wire.case 17 field.mark (λ x. Msg.Held x)).read reader.old) reader.new }
+    ensures { Gives (λ m. m) result ((wire.case 17 field.mark (λ x. Msg.Held x)).read reader.old)
+        reader.new }
 {
     let mark = mark_from(reader)?;
     Ok(Msg::Held { mark })
 }
 
 fn fetch_from(reader: &mut ByteReader<'_>) -> Result<Msg, ReadFault>
-    ensures { Gives (λ m. m) result ((wire.case 18 field.mark (λ x. Msg.Fetch x)).read reader.old) reader.new }
+    ensures { Gives (λ m. m) result ((wire.case 18 field.mark (λ x. Msg.Fetch x)).read reader.old)
+        reader.new }
 {
     let mark = mark_from(reader)?;
     Ok(Msg::Fetch { mark })
@@ -316,7 +323,8 @@ fn garbage_a_from(alloc: Global, reader: &mut ByteReader<'_>) -> Result<Msg, Rea
 }
 
 fn garbage_b_from(reader: &mut ByteReader<'_>) -> Result<Msg, ReadFault>
-    ensures { Gives (λ m. m) result ((wire.case 22 field.round (λ x. Msg.GarbageB x)).read reader.old) reader.new }
+    ensures { Gives (λ m. m) result
+        ((wire.case 22 field.round (λ x. Msg.GarbageB x)).read reader.old) reader.new }
 {
     let round = round_from(reader)?;
     Ok(Msg::GarbageB { round })

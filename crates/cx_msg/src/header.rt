@@ -60,7 +60,8 @@ fn put_front(out: &mut Vec<u8>, magic: u16, version: u8, kind: u8) -> Result<(),
 }
 
 fn put_role(out: &mut Vec<u8>, code: u8, index: u16) -> Result<(), NoMemory>
-    ensures { OnOk result (Appends (wire.u8 ▷ wire.u16) (code, index) 3 out.old.items out.new.items) }
+    ensures { OnOk result
+        (Appends (wire.u8 ▷ wire.u16) (code, index) 3 out.old.items out.new.items) }
 {
     put_u8(out, code)?;
     put_u16(out, index)

@@ -19,7 +19,8 @@ use cx_field::{
 use cx_letter::Msg;
 
 fn put_round_grid(out: &mut Vec<u8>, round: &Round, grid: &Grid) -> Result<(), NoMemory>
-    ensures { OnOk result (Appends records.round_grid (round.now, grid.now) 44 out.old.items out.new.items) }
+    ensures { OnOk result
+        (Appends records.round_grid (round.now, grid.now) 44 out.old.items out.new.items) }
 {
     put_round(out, round)?;
     put_grid(out, grid)
@@ -27,14 +28,16 @@ fn put_round_grid(out: &mut Vec<u8>, round: &Round, grid: &Grid) -> Result<(), N
 
 #[tactic(auto, unfolding(cx_letter::specs::Messages::round_slot))]
 fn put_round_slot(out: &mut Vec<u8>, round: &Round, slot: u64) -> Result<(), NoMemory>
-    ensures { OnOk result (Appends message.round_slot (round.now, slot) 18 out.old.items out.new.items) }
+    ensures { OnOk result
+        (Appends message.round_slot (round.now, slot) 18 out.old.items out.new.items) }
 {
     put_round(out, round)?;
     put_slot(out, slot)
 }
 
 fn put_round_mark(out: &mut Vec<u8>, round: &Round, mark: u64) -> Result<(), NoMemory>
-    ensures { OnOk result (Appends records.round_mark (round.now, mark) 18 out.old.items out.new.items) }
+    ensures { OnOk result
+        (Appends records.round_mark (round.now, mark) 18 out.old.items out.new.items) }
 {
     put_round(out, round)?;
     put_mark(out, mark)
@@ -62,7 +65,8 @@ fn put_match_nack(
     reason: NackReason,
     other: &Round,
 ) -> Result<(), NoMemory>
-    ensures { OnOk result (Appends message.match_nack (round.now, (reason, other.now)) 21 out.old.items out.new.items) }
+    ensures { OnOk result (Appends message.match_nack (round.now, (reason, other.now)) 21
+        out.old.items out.new.items) }
 {
     put_round(out, round)?;
     put_reason(out, reason)?;
@@ -117,7 +121,8 @@ fn put_phase2a(
 
 #[tactic(auto, unfolding(cx_letter::specs::Messages::slot_value, cx_field::specs::Fields::value))]
 fn put_slot_value(out: &mut Vec<u8>, slot: u64, value: &Value) -> Result<(), NoMemory>
-    ensures { OnOk result (Appends (message.slot_value true) (slot, value.now) 946 out.old.items out.new.items) }
+    ensures { OnOk result
+        (Appends (message.slot_value true) (slot, value.now) 946 out.old.items out.new.items) }
 {
     put_slot(out, slot)?;
     put_value(out, value)
@@ -125,7 +130,8 @@ fn put_slot_value(out: &mut Vec<u8>, slot: u64, value: &Value) -> Result<(), NoM
 
 #[tactic(auto, unfolding(cx_letter::specs::Messages::nack))]
 fn put_nack(out: &mut Vec<u8>, round: &Round, promise: &Round) -> Result<(), NoMemory>
-    ensures { OnOk result (Appends message.nack (round.now, promise.now) 20 out.old.items out.new.items) }
+    ensures { OnOk result
+        (Appends message.nack (round.now, promise.now) 20 out.old.items out.new.items) }
 {
     put_round(out, round)?;
     put_round(out, promise)
@@ -133,7 +139,8 @@ fn put_nack(out: &mut Vec<u8>, round: &Round, promise: &Round) -> Result<(), NoM
 
 #[tactic(auto, unfolding(cx_letter::specs::Messages::results))]
 fn put_results(out: &mut Vec<u8>, slot: u64, answers: &Answers) -> Result<(), NoMemory>
-    ensures { OnOk result (Appends message.results (slot, answers.now) 681 out.old.items out.new.items) }
+    ensures { OnOk result
+        (Appends message.results (slot, answers.now) 681 out.old.items out.new.items) }
 {
     put_slot(out, slot)?;
     put_answers(out, answers)
@@ -141,7 +148,8 @@ fn put_results(out: &mut Vec<u8>, slot: u64, answers: &Answers) -> Result<(), No
 
 #[tactic(auto, unfolding(cx_letter::specs::Messages::answer))]
 fn put_answer(out: &mut Vec<u8>, seq: u64, at: u64, reply: &Reply) -> Result<(), NoMemory>
-    ensures { OnOk result (Appends message.answer (seq, (at, reply.now)) 82 out.old.items out.new.items) }
+    ensures { OnOk result
+        (Appends message.answer (seq, (at, reply.now)) 82 out.old.items out.new.items) }
 {
     put_seq(out, seq)?;
     put_at(out, at)?;
@@ -151,7 +159,8 @@ fn put_answer(out: &mut Vec<u8>, seq: u64, at: u64, reply: &Reply) -> Result<(),
 /// Appends a message's body, at most 30,611 bytes.
 #[tactic(auto, unfolding(cx_field::specs::Fields::command, cx_field::specs::Fields::commands))]
 pub fn put_body(out: &mut Vec<u8>, msg: &Msg) -> Result<(), NoMemory>
-    ensures bytes { OnOk result (out.new.items ≡ out.old.items ++ (message.body_shape msg.now).bytes) }
+    ensures bytes { OnOk result
+        (out.new.items ≡ out.old.items ++ (message.body_shape msg.now).bytes) }
     ensures room { OnOk result (length out.new.items ≤ length out.old.items + 30611) }
 {
     match msg {

@@ -10,8 +10,8 @@ use cx_base::{NoMemory, Round, Set};
 use cx_field::{Entries, put_entries, put_round, put_set};
 
 fn put_accepted(out: &mut Vec<u8>, accepted: &Round, set: &Set) -> Result<(), NoMemory>
-    ensures { OnOk result (Appends (then_by field.round0 field.accepted_set) (accepted.now, set.now) 25
-        out.old.items out.new.items) }
+    ensures { OnOk result (Appends (then_by field.round0 field.accepted_set) (accepted.now, set.now)
+        25 out.old.items out.new.items) }
 {
     put_round(out, accepted)?;
     put_set(out, set)
@@ -37,7 +37,8 @@ pub fn put_stop_b(
 }
 
 pub fn put_round_set(out: &mut Vec<u8>, round: &Round, set: &Set) -> Result<(), NoMemory>
-    ensures { OnOk result (Appends records.round_set (round.now, set.now) 25 out.old.items out.new.items) }
+    ensures { OnOk result
+        (Appends records.round_set (round.now, set.now) 25 out.old.items out.new.items) }
 {
     put_round(out, round)?;
     put_set(out, set)

@@ -26,7 +26,8 @@ pub fn read_req_from(reader: &mut ByteReader<'_>) -> Result<Msg, ReadFault>
 }
 
 pub fn match_read_from(reader: &mut ByteReader<'_>) -> Result<Msg, ReadFault>
-    ensures { Gives (λ m. m) result ((wire.case 24 field.asking (λ x. Msg.MatchRead x)).read reader.old) reader.new }
+    ensures { Gives (λ m. m) result
+        ((wire.case 24 field.asking (λ x. Msg.MatchRead x)).read reader.old) reader.new }
 {
     let asking = asking_from(reader)?;
     Ok(Msg::MatchRead { asking })
@@ -35,8 +36,8 @@ pub fn match_read_from(reader: &mut ByteReader<'_>) -> Result<Msg, ReadFault>
 #[tactic(auto, unfolding(cx_letter::specs::Messages::match_read_ack))]
 pub fn match_read_ack_from(alloc: Global, reader: &mut ByteReader<'_>) -> Result<Msg, ReadFault>
     ensures { Gives (λ m. m) result
-        ((wire.case 25 message.match_read_ack (λ x. Msg.MatchReadAck x.0 x.1.0 x.1.1)).read reader.old)
-        reader.new }
+        ((wire.case 25 message.match_read_ack
+        (λ x. Msg.MatchReadAck x.0 x.1.0 x.1.1)).read reader.old) reader.new }
 {
     let asking = asking_from(reader)?;
     let watermark = round0_from(reader)?;
@@ -77,7 +78,8 @@ pub fn pre_read_ack_from(reader: &mut ByteReader<'_>) -> Result<Msg, ReadFault>
 #[tactic(auto, unfolding(cx_letter::specs::Messages::read_key))]
 pub fn read_from(reader: &mut ByteReader<'_>) -> Result<Msg, ReadFault>
     ensures { Gives (λ m. m) result
-        ((wire.case 28 message.read_key (λ x. Msg.Read x.0 x.1.0 x.1.1)).read reader.old) reader.new }
+        ((wire.case 28 message.read_key
+        (λ x. Msg.Read x.0 x.1.0 x.1.1)).read reader.old) reader.new }
 {
     let token = token_from(reader)?;
     let mark = mark_from(reader)?;
@@ -100,7 +102,8 @@ pub fn read_answer_from(reader: &mut ByteReader<'_>) -> Result<Msg, ReadFault>
 #[tactic(auto, unfolding(cx_letter::specs::Messages::sess_read))]
 pub fn sess_read_from(reader: &mut ByteReader<'_>) -> Result<Msg, ReadFault>
     ensures { Gives (λ m. m) result
-        ((wire.case 38 message.sess_read (λ x. Msg.SessRead x.0 x.1.0 x.1.1)).read reader.old) reader.new }
+        ((wire.case 38 message.sess_read
+        (λ x. Msg.SessRead x.0 x.1.0 x.1.1)).read reader.old) reader.new }
 {
     let seq = seq_from(reader)?;
     let mark = mark_from(reader)?;

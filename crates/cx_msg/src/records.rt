@@ -35,7 +35,8 @@ pub(crate) fn fields_from(
     alloc: Global,
     reader: &mut ByteReader<'_>,
 ) -> Result<Record, ReadFault>
-    ensures { Gives (λ r. r) result (wire.by_tag records.record_cases tag (length reader.old) reader.old) reader.new }
+    ensures { Gives (λ r. r) result
+        (wire.by_tag records.record_cases tag (length reader.old) reader.old) reader.new }
 {
     match tag {
         1 => Ok(Record::Promise {
@@ -193,7 +194,8 @@ fn put_vote(
     cw: u64,
     value: &Value,
 ) -> Result<(), NoMemory>
-    ensures { OnOk result (Appends records.vote (round.now, (slot, (cw, value.now))) 964 out.old.items out.new.items) }
+    ensures { OnOk result (Appends records.vote (round.now, (slot, (cw, value.now))) 964
+        out.old.items out.new.items) }
 {
     put_round(out, round)?;
     put_slot(out, slot)?;
@@ -208,7 +210,8 @@ fn put_base(
     pairs: u32,
     clients: u8,
 ) -> Result<(), NoMemory>
-    ensures { OnOk result (Appends records.base (first, (held, (pairs, clients))) 21 out.old.items out.new.items) }
+    ensures { OnOk result
+        (Appends records.base (first, (held, (pairs, clients))) 21 out.old.items out.new.items) }
 {
     put_mark(out, first)?;
     put_mark(out, held)?;
@@ -222,7 +225,8 @@ fn put_client_notes(
     floor: u64,
     notes: &Notes,
 ) -> Result<(), NoMemory>
-    ensures { OnOk result (Appends records.client_notes (client, (floor, notes.now)) 5259 out.old.items out.new.items) }
+    ensures { OnOk result (Appends records.client_notes (client, (floor, notes.now)) 5259
+        out.old.items out.new.items) }
 {
     put_u16(out, client)?;
     put_u64(out, floor)?;

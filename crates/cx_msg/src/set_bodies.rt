@@ -15,7 +15,8 @@ use cx_letter::Msg;
 use std::alloc::Global;
 
 pub fn stop_a_from(reader: &mut ByteReader<'_>) -> Result<Msg, ReadFault>
-    ensures { Gives (λ m. m) result ((wire.case 30 field.round (λ x. Msg.StopA x)).read reader.old) reader.new }
+    ensures { Gives (λ m. m) result ((wire.case 30 field.round (λ x. Msg.StopA x)).read reader.old)
+        reader.new }
 {
     let round = round_from(reader)?;
     Ok(Msg::StopA { round })
@@ -61,7 +62,8 @@ pub fn next_a_from(alloc: Global, reader: &mut ByteReader<'_>) -> Result<Msg, Re
 }
 
 pub fn next_b_from(reader: &mut ByteReader<'_>) -> Result<Msg, ReadFault>
-    ensures { Gives (λ m. m) result ((wire.case 34 field.round (λ x. Msg.NextB x)).read reader.old) reader.new }
+    ensures { Gives (λ m. m) result ((wire.case 34 field.round (λ x. Msg.NextB x)).read reader.old)
+        reader.new }
 {
     let round = round_from(reader)?;
     Ok(Msg::NextB { round })
@@ -82,14 +84,16 @@ pub fn boot_a_from(alloc: Global, reader: &mut ByteReader<'_>) -> Result<Msg, Re
 }
 
 pub fn boot_b_from(alloc: Global, reader: &mut ByteReader<'_>) -> Result<Msg, ReadFault>
-    ensures { Gives (λ m. m) result ((wire.case 36 field.set (λ x. Msg.BootB x)).read reader.old) reader.new }
+    ensures { Gives (λ m. m) result ((wire.case 36 field.set (λ x. Msg.BootB x)).read reader.old)
+        reader.new }
 {
     let set = set_from(alloc, reader)?;
     Ok(Msg::BootB { set })
 }
 
 pub fn sets_from(alloc: Global, reader: &mut ByteReader<'_>) -> Result<Msg, ReadFault>
-    ensures { Gives (λ m. m) result ((wire.case 37 field.set (λ x. Msg.Sets x)).read reader.old) reader.new }
+    ensures { Gives (λ m. m) result ((wire.case 37 field.set (λ x. Msg.Sets x)).read reader.old)
+        reader.new }
 {
     let set = set_from(alloc, reader)?;
     Ok(Msg::Sets { set })

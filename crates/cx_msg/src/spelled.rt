@@ -31,7 +31,8 @@ impl<'a> Model for Spelled<'a> {
 
     ghost view = { λ s. letter_with s.kind s.from s.to s.body.now };
 
-    ghost invariant = { λ s. IsSpelled (letter_with s.kind s.from s.to s.body.now) s.kind s.body.now };
+    ghost invariant = { λ s.
+        IsSpelled (letter_with s.kind s.from s.to s.body.now) s.kind s.body.now };
 }
 
 // The role in the three bytes from a place on.

@@ -21,7 +21,8 @@ use Rattle.cx_node.specs.declared.node.RunEnd.TheVariants as end
 use Rattle.cx_node.specs.Hosting.{HasOpened, HasRun, HostAnswered, HostBinding, HostDid, HostEnds, HostEndsAt}
 use Rattle.cx_node.specs.Input.{FailsRead, input_of, may_host, refused_of}
 use Rattle.cx_seat.specs.Opening.{IsFirstBad, IsFirstUsed, is_store_used}
-use Rattle.cx_node.specs.Serving.{AllRead, IsNodeAnswer, AnswersPart, NodeCompletes, Ends, EndsAt, EndsBinding, EndsWell, IsUntouched, Outside, InputSays}
+use Rattle.cx_node.specs.Serving.{AllRead, IsNodeAnswer, AnswersPart, NodeCompletes, Ends, EndsAt, EndsBinding, EndsWell, IsUntouched}
+use Rattle.cx_node.specs.Serving.{Outside, InputSays}
 use Rattle.cx_node.specs.Serving.{TellsBad, TellsUsed, options_of, recorded_header, refused_status}
 use Rattle.cx_seat.proofs.FirstBad.{one_first}
 use Rattle.cx_node.proofs.HostedRuns.{records_header}
@@ -46,8 +47,10 @@ records_so : (recording : Bool) (roles : List RoleId) (left header : Option (Lis
 records_so recording roles left header c events says = ap is_some says.header_is ∙ records_header recording says.text
 
 pub answered_so : (recording : Bool) (roles : List RoleId) (tend : Option ℕ) (header : Option (List ℕ)) (c : Cluster) (window : ℕ)
-    (events : List Event) (turns : ℕ) (old new : Outside) (s : Status) → InputSays recording roles old.left header c events → AllRead old new
-    → HostAnswered roles tend header c (options_of tend window) events turns old new s → IsNodeAnswer roles tend window recording turns old new s
+    (events : List Event) (turns : ℕ) (old new : Outside) (s : Status) → InputSays recording roles old.left header c events
+    → AllRead old new
+    → HostAnswered roles tend header c (options_of tend window) events turns old new s
+    → IsNodeAnswer roles tend window recording turns old new s
 answered_so recording roles tend header c window events turns old new s says reads host = record {
   done = λ e. ended end.Done (did status.Done e);
   turns_ended = λ e. ended end.Turns (did status.Turns e);
@@ -83,7 +86,8 @@ answered_so recording roles tend header c window events turns old new s says rea
     records : is_some header ≡ true → recording ≡ true
     records has = sym (records_so recording roles old.left header c events says) ∙ has
 
-    ended : (e : RunEnd) → HostEnds roles tend header c (options_of tend window) events turns e old new → Ends roles tend window recording turns e old new
+    ended : (e : RunEnd) → HostEnds roles tend header c (options_of tend window) events turns e old new
+        → Ends roles tend window recording turns e old new
     ended e h = (header, c, events, h.0, h.1, says, reads, h.2, h.3)
 
     binding : HostBinding roles c old new → EndsBinding roles recording old new
@@ -211,8 +215,10 @@ completes_so recording roles tend window turns old new s is whole good = go s re
 -- ---- stores that are none of their roles'
 
 -- a whole input says one cluster
-one_cluster : (recording : Bool) (roles : List RoleId) (left : Option (List ℕ)) (all : List ℕ) (header other : Option (List ℕ)) (c d : Cluster)
-    (events more : List Event) → left ≡ Some all → InputSays recording roles left header c events → InputSays recording roles left other d more → c ≡ d
+one_cluster : (recording : Bool) (roles : List RoleId) (left : Option (List ℕ)) (all : List ℕ) (header other : Option (List ℕ))
+    (c d : Cluster)
+    (events more : List Event) → left ≡ Some all → InputSays recording roles left header c events
+    → InputSays recording roles left other d more → c ≡ d
 one_cluster recording roles left all header other c d events more known one two =
     same_cluster (sym (said header c events one).0 ∙ (said other d more two).0)
   where
@@ -288,8 +294,8 @@ not_both : (b : Bool) → b ≡ true → b ≡ false → ⊥
 not_both b is other = cc
 
 -- one store is the first that has a record
-one_used : (roles : List RoleId) (stored : RoleId → Files) (role other : RoleId) → IsFirstUsed roles stored role → IsFirstUsed roles stored other
-    → role ≡ other
+one_used : (roles : List RoleId) (stored : RoleId → Files) (role other : RoleId) → IsFirstUsed roles stored role
+    → IsFirstUsed roles stored other → role ≡ other
 one_used roles stored role other one two = go (by_order one.place two.place)
   where
     go : (one.place < two.place) ⊎ ((one.place ≡ two.place) ⊎ (two.place < one.place)) → role ≡ other

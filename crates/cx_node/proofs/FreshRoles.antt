@@ -1,5 +1,6 @@
 -- Roles that are opened from stores without records are fresh.
-use Rattle.std.proofs.Common.{◌≡◌, ◌≤◌, ℕ, suc, arith, inl, inr, Bool, true, List, [], ◌∷◌, length, Option, Some, is_some, refl, sym, ap, ◌∙◌, subst}
+use Rattle.std.proofs.Common.{◌≡◌, ◌≤◌, ℕ, suc, arith, inl, inr, Bool, true, List, [], ◌∷◌, length, Option, Some, is_some, refl, sym, ap}
+use Rattle.std.proofs.Common.{◌∙◌, subst}
 use Rattle.std.specs.Prelude.{slice_get}
 use Rattle.std.specs.List.{All}
 use Rattle.cx_base.specs.declared.cluster.Cluster.{Cluster}
@@ -38,8 +39,10 @@ all_members P [] all x is = absurd is
 all_members P (y ∷ ys) all x (inl e) = subst P (sym e) (all 0 y (omega arith))
 all_members P (y ∷ ys) all x (inr more) = all_members P ys (λ k d inside. all (suc k) d (omega (arith, inside))) x more
 
-module _ (c : Cluster) (options : ClientOptions) (events : List Event) (scripts : (client : ℕ) → IsScript c client (script_of client events))
-    (recordable : (client : ℕ) → All (IsRecordable c) (script_of client events)) (some : 1 ≤ options.window) (most : options.window ≤ 64) where
+module _ (c : Cluster) (options : ClientOptions) (events : List Event)
+    (scripts : (client : ℕ) → IsScript c client (script_of client events))
+    (recordable : (client : ℕ) → All (IsRecordable c) (script_of client events)) (some : 1 ≤ options.window)
+    (most : options.window ≤ 64) where
   client_fresh : (me : RoleId) → me.kind ≡ Client → names_role c me ≡ true
       → IsFreshClient c (client_opened c me (script_of me.index events) options)
   client_fresh me kind named = record {

@@ -21,7 +21,8 @@ use Rattle.cx_journal.specs.declared.store.RecordStore.{RecordStore}
 use Rattle.cx_disk.specs.declared.disk.Disk.{Ghosts as DiskGhosts}
 use Rattle.cx_letter.specs.declared.kept.Record.{Record}
 use Rattle.cx_record.specs.Numbers.{Recorded}
-use Rattle.cx_course.specs.Action.{Action, Bound, Filled, AreTakesOf, Kept, Printed, Took, is_filled, kept_as, kept_in, printed_by, printed_in}
+use Rattle.cx_course.specs.Action.{Action, Bound, Filled, AreTakesOf, Kept, Printed, Took, is_filled, kept_as, kept_in, printed_by}
+use Rattle.cx_course.specs.Action.{printed_in}
 use Rattle.cx_course.specs.Changing.{StoreChange, changes_of, lists_after}
 use Rattle.cx_course.specs.Course.{Course, course_of}
 use Rattle.cx_course.specs.Hosted.{Hosted}
@@ -38,12 +39,14 @@ use Rattle.cx_node.specs.Acts.{failures}
 use Rattle.cx_node.specs.Doing.{Did as DidNode, DidPart, Linked, Scene, course_in, scene}
 use Rattle.cx_seat.specs.Guest.{who}
 use Rattle.cx_seat.specs.Closing.{GivesBack}
-use Rattle.cx_node.specs.Hosting.{HasOpened, HasRun, HostAnswered, HostBinding, HostDid, HostEnds, HostEndsAt, HostEndsAtChange, HostEndsEarly, Ran}
+use Rattle.cx_node.specs.Hosting.{HasOpened, HasRun, HostAnswered, HostBinding, HostDid, HostEnds, HostEndsAt, HostEndsAtChange}
+use Rattle.cx_node.specs.Hosting.{HostEndsEarly, Ran}
 use Rattle.cx_node.specs.Hosting.{RunsBehind, RunsPartBehind, ended_status, known_first, unopened_status, with_binds}
 use Rattle.cx_node.specs.Node.{IsEnd, IsUnderway}
 use Rattle.cx_seat.specs.Opening.{AreApart, AreOpened, IsBadAs, IsFirstBad, IsFirstUsed, disks_in, is_durable, is_store_used}
 use Rattle.cx_node.specs.Ports.{bind_of}
-use Rattle.cx_node.specs.Serving.{Did, IsRecordedRun, Outside, ServedPart, begun_with, record_head, hosts, recorded_header, run_of, records_in_files}
+use Rattle.cx_node.specs.Serving.{Did, IsRecordedRun, Outside, ServedPart, begun_with, record_head, hosts, recorded_header, run_of}
+use Rattle.cx_node.specs.Serving.{records_in_files}
 use Rattle.cx_seat.specs.Stores.{files_of, is_two}
 use Rattle.cx_node.proofs.Asked.{binds_kept, binds_printed, linked_binds, linked_nothing, linked_then}
 use Rattle.cx_node.proofs.ClosedStores.{ran_still, ran_stores, stops_rises, stops_still, stops_stores, told_whole}
@@ -219,10 +222,12 @@ filled_any (a ∷ rest) (suc n) e = either (is_filled a) (list_any is_filled res
 
 -- no plain run leaves out a step
 abbrev pub NoneFilled : Option ℕ → Cluster → Type 0
-NoneFilled tend c = (takes : TakeResults) (hs : List Hosted) → list_any is_filled (node_run tend c takes (course_of false hs)).actions ≡ false
+NoneFilled tend c =
+    (takes : TakeResults) (hs : List Hosted) → list_any is_filled (node_run tend c takes (course_of false hs)).actions ≡ false
 
 -- one that leaves out a step records
-filled_records : (tend : Option ℕ) (c : Cluster) (header : Option (List ℕ)) (takes : TakeResults) (hs : List Hosted) (n : ℕ) → NoneFilled tend c
+filled_records : (tend : Option ℕ) (c : Cluster) (header : Option (List ℕ)) (takes : TakeResults) (hs : List Hosted) (n : ℕ)
+    → NoneFilled tend c
     → slice_get (map Printed (record_head header) ++ (node_run tend c takes (course_of (is_some header) hs)).actions) n ≡ Some Filled
     → is_some header ≡ true
 filled_records tend c (Some text) takes hs n plain next = refl
@@ -252,9 +257,8 @@ module _ {D : Type 0} (by : DiskGhosts D) (tend : Option ℕ) (header : Option (
     (scene guests (known_first (is_some header)) mid old.out) (scene after known new.link new.out)
     (failures mid_links old.writes) (failures new.links new.writes))
     (back : GivesBack by.seen by.faults (disks_in after) old.tells stored_mid stored_after faults new.stores)
-    (plain : NoneFilled tend c)
-    (recorded : (recovered : RoleId → List Record) → AreOpenedFrom by.seen by.faults c options events old.tells old.stored recovered roles guests
-    → is_some header ≡ true → (takes : TakeResults)
+    (plain : NoneFilled tend c) (recorded : (recovered : RoleId → List Record) → AreOpenedFrom by.seen by.faults c options events old.tells
+    old.stored recovered roles guests → is_some header ≡ true → (takes : TakeResults)
     → IsRecordedRun roles c recovered (run_of tend header c options events recovered roles takes).actions)
     (unused : is_some header ≡ true → old.tells ≡ true → (i : ℕ) (role : RoleId) → slice_get roles i ≡ Some role
     → is_store_used role (old.stored role) ≡ false) where
@@ -275,7 +279,8 @@ module _ {D : Type 0} (by : DiskGhosts D) (tend : Option ℕ) (header : Option (
   now = scene after known new.link new.out
 
   same : course_in before ≡ begun
-  same = ap (course_of (is_some header)) (hosts_opened by.seen by.faults c options events old.tells old.stored recovered.0 roles guests count recovered.2)
+  same = ap (course_of (is_some header))
+      (hosts_opened by.seen by.faults c options events old.tells old.stored recovered.0 roles guests count recovered.2)
 
   did_whole : (e : RunEnd) (runs : RunsBehind (gives by) tend c turns (record_head header) e before now)
       → DidNode (gives by) c (done_over runs.takes begun) before now
@@ -301,7 +306,8 @@ module _ {D : Type 0} (by : DiskGhosts D) (tend : Option ℕ) (header : Option (
 
   others : (me : RoleId) → IsUnhosted roles me → (new.stored me ≡ old.stored me) × (new.stores me ≡ old.stores me)
   others me none =
-      let stays = unhosted by c options events old.tells old.stored stored_mid stored_after faults new.stores roles guests after named back me none in
+      let stays =
+      unhosted by c options events old.tells old.stored stored_mid stored_after faults new.stores roles guests after named back me none in
       (holds me ∙ stays.0 ∙ unopened me none, stays.1 ∙ still me)
     where
       named : (i : ℕ) (h : Guest (RecordStore D)) → slice_get after i ≡ Some h → (me : RoleId)
@@ -347,14 +353,12 @@ module _ {D : Type 0} (by : DiskGhosts D) (tend : Option ℕ) (header : Option (
         takes,
         record {
           recovered_is = recovered.1;
-          told_whole =
-              told_whole by c options events old.tells old.stored stored_mid stored_after faults new.stores roles guests recovered.0 recovered.2 all count apart
-              (kept_in actions) after did.names did.kept;
+          told_whole = told_whole by c options events old.tells old.stored stored_mid stored_after faults new.stores roles guests
+              recovered.0 recovered.2 all count apart (kept_in actions) after did.names did.kept;
           taken = subst (λ (s : Course). AreTakesOf takes ((node_run tend c takes s).actions)) same runs.taken;
           did =
-              did_behind actions did.link did.printed
-              (ran_stores by c options events old.tells old.stored stored_mid stored_after faults new.stores roles guests recovered.0 recovered.2 all count apart
-              (kept_in actions) after did.names did.kept back);
+              did_behind actions did.link did.printed (ran_stores by c options events old.tells old.stored stored_mid stored_after faults
+              new.stores roles guests recovered.0 recovered.2 all count apart (kept_in actions) after did.names did.kept back);
           recorded = λ has. recorded recovered.0 recovered.2 has takes;
         },
         subst (λ (s : Course). IsEnd tend c turns s takes e) same runs.is_end,
@@ -419,9 +423,8 @@ module _ {D : Type 0} (by : DiskGhosts D) (tend : Option ℕ) (header : Option (
   front e runs =
       let p = did_part e runs in
       let actions = done_over runs.takes begun in
-      let part = cut actions p.count
-      (stops_stores by c options events old.tells old.stored stored_mid stored_after faults new.stores roles guests recovered.0 recovered.2 all count apart
-      (kept_in (take p.count actions)) p.mid p.did.names p.did.kept after back e
+      let part = cut actions p.count (stops_stores by c options events old.tells old.stored stored_mid stored_after faults new.stores roles
+      guests recovered.0 recovered.2 all count apart (kept_in (take p.count actions)) p.mid p.did.names p.did.kept after back e
       (slice_get actions p.count) p.stops) p.did.link p.did.printed in
       ended_at None runs.takes part.0 part.1 (underway_so e runs) tt
 
@@ -431,8 +434,8 @@ module _ {D : Type 0} (by : DiskGhosts D) (tend : Option ℕ) (header : Option (
   full runs =
       let p = did_part stop.RecordFull runs in
       let actions = done_over runs.takes begun in
-      let stores = uncut actions p.count Filled filled_differs p.stops.0
-      (stops_stores by c options events old.tells old.stored stored_mid stored_after faults new.stores roles guests recovered.0 recovered.2 all count apart
+      let stores = uncut actions p.count Filled filled_differs p.stops.0 (stops_stores by c options events old.tells old.stored stored_mid
+      stored_after faults new.stores roles guests recovered.0 recovered.2 all count apart
       (kept_in (take p.count actions)) p.mid p.did.names p.did.kept after back stop.RecordFull
       (slice_get actions p.count) p.stops) in (
         ended_at (Some Filled) runs.takes p.count (did_behind (take p.count actions) p.did.link p.did.printed stores)
@@ -447,8 +450,8 @@ module _ {D : Type 0} (by : DiskGhosts D) (tend : Option ℕ) (header : Option (
       let p = did_part stop.LinkFault runs in
       let actions = done_over runs.takes begun in
       let next = p.stops.0 in
-      let stores = uncut actions p.count (Took next.0) (took_differs next.0) next.1
-      (stops_stores by c options events old.tells old.stored stored_mid stored_after faults new.stores roles guests recovered.0 recovered.2 all count apart
+      let stores = uncut actions p.count (Took next.0) (took_differs next.0) next.1 (stops_stores by c options events old.tells old.stored
+      stored_mid stored_after faults new.stores roles guests recovered.0 recovered.2 all count apart
       (kept_in (take p.count actions)) p.mid p.did.names p.did.kept after back stop.LinkFault
       (slice_get actions p.count) p.stops) in (
         next.0,
@@ -467,16 +470,16 @@ module _ {D : Type 0} (by : DiskGhosts D) (tend : Option ℕ) (header : Option (
         runs.takes,
         k.0,
         p.stops.0,
-        parts p.count actions runs.takes refl p.did.link p.did.printed
-            (stops_stores by c options events old.tells old.stored stored_mid stored_after faults new.stores roles guests recovered.0 recovered.2 all count apart
+        parts p.count actions runs.takes refl p.did.link p.did.printed (stops_stores by c options events old.tells old.stored stored_mid
+            stored_after faults new.stores roles guests recovered.0 recovered.2 all count apart
             (kept_in (take p.count actions)) p.mid p.did.names p.did.kept after back (stop.StoreFault role)
             (slice_get actions p.count) p.stops),
         underway_so (stop.StoreFault role) runs,
         k.2 ∙ p.stops.1,
       )
     where
-      part_at : (takes : TakeResults) (m k : ℕ) → take k (map Bound roles ++ done_over takes begun) ≡ map Bound roles ++ take m (done_over takes begun)
-          → Did roles c (map Bound roles ++ take m (done_over takes begun)) old new
+      part_at : (takes : TakeResults) (m k : ℕ) → take k (map Bound roles ++ done_over takes begun)
+          ≡ map Bound roles ++ take m (done_over takes begun) → Did roles c (map Bound roles ++ take m (done_over takes begun)) old new
           → ServedPart roles tend header c options events recovered.0 takes k old new
       part_at takes m k e did = record {
         recovered_is = recovered.1;
@@ -489,7 +492,8 @@ module _ {D : Type 0} (by : DiskGhosts D) (tend : Option ℕ) (header : Option (
           → StoresTell (kept_in (take n actions))
           ⊎ ((k : StoreChange) × (slice_get actions n ≡ Some (Kept k)) × StoresTell (kept_in (take n actions) ++ k ∷ []))
           → ServedPart roles tend header c options events recovered.0 takes (behind (map Bound roles) (done_over takes begun) n).0 old new
-          ⊎ ServedPart roles tend header c options events recovered.0 takes (suc (behind (map Bound roles) (done_over takes begun) n).0) old new
+          ⊎ ServedPart roles tend header c options events recovered.0 takes
+          (suc (behind (map Bound roles) (done_over takes begun) n).0) old new
       parts n actions takes is linked printed (inl stores) =
           let did = did_behind (take n actions) linked printed stores in
           inl (part_at takes n (behind (map Bound roles) (done_over takes begun) n).0 (behind (map Bound roles) (done_over takes begun) n).1
@@ -521,8 +525,8 @@ module _ {D : Type 0} (by : DiskGhosts D) (tend : Option ℕ) (header : Option (
           let p = did_part (stop.StoreFault role) runs in
           let actions = done_over runs.takes begun in (
             early,
-            subst (λ n. Rises n (new.stores role)) (still role)
-                (stops_rises by c options events old.tells old.stored stored_mid stored_after faults new.stores roles guests recovered.0 recovered.2 all count apart
+            subst (λ n. Rises n (new.stores role)) (still role) (stops_rises by c options events old.tells old.stored stored_mid
+                stored_after faults new.stores roles guests recovered.0 recovered.2 all count apart
                 (kept_in (take p.count actions)) p.mid p.did.names p.did.kept after back role
                 (slice_get actions p.count) p.stops),
             inr (failed_change role runs),

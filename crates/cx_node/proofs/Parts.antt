@@ -147,8 +147,8 @@ module _ {K : Type 0} (gives : Changing K) (c : Cluster) where
       (sym none) (acts_nothing gives c a ready)
 
   -- a datagram came, or none
-  pub take_some : (n : ℕ) (d : Letter) (gs : List (Guest K)) (known : Option Recorded) (link mid : Option LinkHistory) (out : Option (List ℕ))
-      (r : Done) (b : Scene K) → AreReady c gs → Receives known link mid (Ok (come.Letter n d))
+  pub take_some : (n : ℕ) (d : Letter) (gs : List (Guest K)) (known : Option Recorded) (link mid : Option LinkHistory)
+      (out : Option (List ℕ)) (r : Done) (b : Scene K) → AreReady c gs → Receives known link mid (Ok (come.Letter n d))
       → Acts gives c [] (at_place (hosted_place d.to (hosted_in gs)) (Give n (input.Take d)) (course gs known)) r
       (scene gs known mid out) b
       → ActsOnce gives c (λ what. comes what (course gs known)) r (scene gs known link out) b

@@ -26,7 +26,8 @@ use Rattle.cx_node.specs.declared.input.Refusal.TheVariants as refusal
 
 -- what one is refused for, the other is
 abbrev RefusedToo : Bool → List RoleId → NodeInput → NodeInput → Type 0
-RefusedToo recording roles heard all = (why : Refusal) → refused_of recording roles heard ≡ Some why → refused_of recording roles all ≡ Some why
+RefusedToo recording roles heard all =
+    (why : Refusal) → refused_of recording roles heard ≡ Some why → refused_of recording roles all ≡ Some why
 
 bad_line_stays : (s all : ParsedLines) → SpelledOn s all → (bad : Option ℕ) → s.bad ≡ bad → (why : Refusal)
     → bad_line_of s.bad ≡ Some why → bad_line_of all.bad ≡ Some why
@@ -39,8 +40,8 @@ spelled_stays : (named : Bool) (s all : ParsedLines) → SpelledOn s all → (wh
 spelled_stays true s all on why is = bad_line_stays s all on s.bad refl why is
 spelled_stays false s all on why is = is
 
-port_stays : (recording : Bool) (roles : List RoleId) (header : List ℕ) (c : Cluster) (port : Option ℕ) (ls : List (List ℕ)) (last more : List ℕ)
-    → AreFree ls → IsFree last
+port_stays : (recording : Bool) (roles : List RoleId) (header : List ℕ) (c : Cluster) (port : Option ℕ) (ls : List (List ℕ))
+    (last more : List ℕ) → AreFree ls → IsFree last
     → RefusedToo recording roles (with_port port header c (lines_text ls ++ overlong 1024 last))
     (with_port port header c (lines_text ls ++ (last ++ more)))
 port_stays recording roles header c None ls last more free last_free = λ why is. is
@@ -48,22 +49,24 @@ port_stays recording roles header c (Some port) ls last more free last_free =
     λ why is. spelled_stays (may_host recording c roles) _ _
     (requests_on c ls last more free last_free) why is
 
-behind_stays : (recording : Bool) (roles : List RoleId) (header : List ℕ) (said : Result Cluster ClusterFault) (ls : List (List ℕ)) (last more : List ℕ)
-    → AreFree ls → IsFree last
-    → RefusedToo recording roles (behind said header (lines_text ls ++ overlong 1024 last))
+behind_stays : (recording : Bool) (roles : List RoleId) (header : List ℕ) (said : Result Cluster ClusterFault) (ls : List (List ℕ))
+    (last more : List ℕ) → AreFree ls → IsFree last → RefusedToo recording roles (behind said header (lines_text ls ++ overlong 1024 last))
     (behind said header (lines_text ls ++ (last ++ more)))
 behind_stays recording roles header (Err fault) ls last more free last_free = λ why is. is
-behind_stays recording roles header (Ok c) ls last more free last_free = port_stays recording roles header c c.base_port ls last more free last_free
+behind_stays recording roles header (Ok c) ls last more free last_free =
+    port_stays recording roles header c c.base_port ls last more free last_free
 
 -- what is heard of a header in the bytes that count, with those after it
 abbrev heard_in : Cut → Bool → NodeInput
 heard_in cut long = of_header header_says cut (if long then BadHeader else Nothing)
 
-refused_stays : (recording : Bool) (roles : List RoleId) (bytes more : List ℕ) → RefusedToo recording roles (lines bytes) (input_of (bytes ++ more))
+refused_stays : (recording : Bool) (roles : List RoleId) (bytes more : List ℕ)
+    → RefusedToo recording roles (lines bytes) (input_of (bytes ++ more))
 unfolding begun_input whole_input
 refused_stays recording roles bytes more =
     header_goes_on (λ cut long all. RefusedToo recording roles (heard_in cut long) (of_header header_says all BadHeader)) (record {
-      found = λ long header ls last more free last_free. behind_stays recording roles header (header_cluster header) ls last more free last_free;
+      found = λ long header ls last more free last_free.
+          behind_stays recording roles header (header_cluster header) ls last more free last_free;
       long = λ why is. is;
       open_yet = λ all why is. cc;
     }) bytes more
@@ -78,8 +81,8 @@ spelled_length true s n short good = by_line s.bad refl good
     by_line (Some line) is good = cc
 spelled_length false s n short good = cc
 
-port_length : (recording : Bool) (roles : List RoleId) (header : List ℕ) (c : Cluster) (port : Option ℕ) (ls : List (List ℕ)) (last : List ℕ) → AreFree ls
-    → IsFree last
+port_length : (recording : Bool) (roles : List RoleId) (header : List ℕ) (c : Cluster) (port : Option ℕ) (ls : List (List ℕ))
+    (last : List ℕ) → AreFree ls → IsFree last
     → refused_of recording roles (with_port port header c (lines_text ls ++ overlong 1024 last)) ≡ None
     → length (lines_text ls) + length last ≤ 67239935
 port_length recording roles header c None ls last free last_free good = cc
@@ -88,18 +91,20 @@ port_length recording roles header c (Some port) ls last free last_free good =
     (requests_of c (lines_text ls ++ overlong 1024 last)) (length (lines_text ls) + length last)
     (requests_length c ls last free last_free) good
 
-behind_length : (recording : Bool) (roles : List RoleId) (header : List ℕ) (said : Result Cluster ClusterFault) (ls : List (List ℕ)) (last : List ℕ)
-    → AreFree ls → IsFree last
+behind_length : (recording : Bool) (roles : List RoleId) (header : List ℕ) (said : Result Cluster ClusterFault) (ls : List (List ℕ))
+    (last : List ℕ) → AreFree ls → IsFree last
     → refused_of recording roles (behind said header (lines_text ls ++ overlong 1024 last)) ≡ None
     → length (lines_text ls) + length last ≤ 67239935
 behind_length recording roles header (Err fault) ls last free last_free good = cc
-behind_length recording roles header (Ok c) ls last free last_free good = port_length recording roles header c c.base_port ls last free last_free good
+behind_length recording roles header (Ok c) ls last free last_free good =
+    port_length recording roles header c c.base_port ls last free last_free good
 
 abbrev IsSome : Option Refusal → Type 0
 IsSome None = ⊥
 IsSome (Some why) = Unit {0}
 
-taken_length : (recording : Bool) (roles : List RoleId) (bytes : List ℕ) → refused_of recording roles (lines bytes) ≡ None → length bytes ≤ 68000000
+taken_length : (recording : Bool) (roles : List RoleId) (bytes : List ℕ) → refused_of recording roles (lines bytes) ≡ None
+    → length bytes ≤ 68000000
 unfolding begun_input
 taken_length recording roles bytes good =
     input_length (λ cut long. refused_of recording roles (heard_in cut long) ≡ None) (record {

@@ -1,5 +1,6 @@
 -- What is said of an input that is taken: its cluster has a port, and each client's requests are a script.
-use Rattle.std.proofs.Common.{◌≡◌, ◌||◌, not, ℕ, Bool, true, false, List, refl, sym, ap, ◌∙◌, subst, if◌then◌else◌, Option, Some, None, Result, Ok, Err}
+use Rattle.std.proofs.Common.{◌≡◌, ◌||◌, not, ℕ, Bool, true, false, List, refl, sym, ap, ◌∙◌, subst, if◌then◌else◌, Option, Some, None}
+use Rattle.std.proofs.Common.{Result, Ok, Err}
 use Rattle.std.specs.Prelude.{IfOk, IsTrue, is_some}
 use Rattle.std.specs.List.{All, list_all}
 use Rattle.cx_base.specs.declared.cluster.Cluster.{Cluster}

@@ -1,5 +1,6 @@
 -- Each order that a tended node gives is one that the leader takes.
-use Rattle.std.proofs.Common.{◌≡◌, ◌⊎◌, ◌+◌, ◌-◌, ◌≤◌, ◌/◌, ◌%◌, ◌==◌, ◌&&◌, not, nat_lt, min, ℕ, zero, suc, Bool, true, false, Option, None, Some, if◌then◌else◌, inl, inr, arith, refl, sym, subst}
+use Rattle.std.proofs.Common.{◌≡◌, ◌⊎◌, ◌+◌, ◌-◌, ◌≤◌, ◌/◌, ◌%◌, ◌==◌, ◌&&◌, not, nat_lt, min, ℕ, zero, suc, Bool, true, false, Option}
+use Rattle.std.proofs.Common.{None, Some, if◌then◌else◌, inl, inr, arith, refl, sym, subst}
 use Rattle.std.specs.Prelude.{is_some}
 use Rattle.std.specs.List.{list_all}
 use Rattle.std.specs.Cmp.Derive.{both_true}
@@ -16,7 +17,8 @@ use Rattle.cx_base.specs.Lists.{numbers}
 use Rattle.cx_base.specs.Round.{change_after, lead_after}
 use Rattle.cx_field.specs.declared.parts.Entry.{Entry}
 use Rattle.cx_model.specs.Collection.{is_off, is_retired}
-use Rattle.cx_model.specs.Leader.{LeaderDurable, LeaderVolatile, begin_in, change_row, collect_in, collect_row, is_idle, is_leading, is_settled, lead_row, round_of}
+use Rattle.cx_model.specs.Leader.{LeaderDurable, LeaderVolatile, begin_in, change_row, collect_in, collect_row, is_idle, is_leading}
+use Rattle.cx_model.specs.Leader.{is_settled, lead_row, round_of}
 use Rattle.cx_model.specs.Names.{names_grid}
 use Rattle.cx_model.specs.Outcome.{only_word}
 use Rattle.cx_leader.specs.Tending.{can_collect, has_heard, has_open, is_spent}
@@ -37,7 +39,8 @@ all_within : (n i a : ℕ) → i + n ≤ a → list_all (λ id. nat_lt id a) (nu
 all_within zero i a h = refl
 all_within (suc n) i a h = let rest : (i + 1) + n ≤ a = omega (arith, h) in both_true (lower i n a h) (all_within n (i + 1) a rest)
 
-either_named : (c : Cluster) (t : Bool) (x y : Shape) → names_grid c x ≡ true → names_grid c y ≡ true → names_grid c (if t then x else y) ≡ true
+either_named : (c : Cluster) (t : Bool) (x y : Shape) → names_grid c x ≡ true → names_grid c y ≡ true
+    → names_grid c (if t then x else y) ≡ true
 either_named c true x y p q = p
 either_named c false x y p q = q
 
@@ -46,7 +49,8 @@ grid_named c =
     let n = min c.acceptors 16 in
     let most : 0 + n ≤ c.acceptors = fits c.acceptors in
     let all = all_within n 0 c.acceptors most in
-    either_named c (n % 2 == 0) (record { rows = 2; cols = n / 2; members = numbers 0 n }) (record { rows = 1; cols = n; members = numbers 0 n }) all all
+    either_named c (n % 2 == 0) (record { rows = 2; cols = n / 2; members = numbers 0 n })
+    (record { rows = 1; cols = n; members = numbers 0 n }) all all
   where
     fits : (a : ℕ) → 0 + min a 16 ≤ a
     fits a = grind arith
@@ -61,34 +65,43 @@ leads : (c : Cluster) (me : RoleId) (d : LeaderDurable) (v : LeaderVolatile) →
 leads c me d v =
     let g = grid_of c in
     let next = lead_after (round_of d.own) v.seen me.index in
-    subst (λ (t : Bool). begins (if t then begin_in c me v g next else only_word why.Stranger v).why ≡ true) (sym (grid_named c)) (begun c me v g next)
+    subst (λ (t : Bool). begins (if t then begin_in c me v g next else only_word why.Stranger v).why ≡ true) (sym (grid_named c))
+    (begun c me v g next)
 
-changes : (c : Cluster) (me : RoleId) (d : LeaderDurable) (v : LeaderVolatile) → is_leading v.mode ≡ true → begins (change_row c me d v (grid_of c)).why ≡ true
+changes : (c : Cluster) (me : RoleId) (d : LeaderDurable) (v : LeaderVolatile) → is_leading v.mode ≡ true
+    → begins (change_row c me d v (grid_of c)).why ≡ true
 changes c me d v leading =
     let g = grid_of c in
     let next = change_after (round_of d.own) in
-    subst (λ (t : Bool). begins (if not t then only_word why.Stranger v else if not (is_leading v.mode) then only_word why.Idle v else begin_in c me v g next).why ≡ true) (sym (grid_named c))
-    (subst (λ (t : Bool). begins (if not t then only_word why.Idle v else begin_in c me v g next).why ≡ true) (sym leading) (begun c me v g next))
+    subst (λ (t : Bool). begins (if not t then only_word why.Stranger v else if not (is_leading v.mode) then only_word why.Idle v
+    else begin_in c me v g next).why ≡ true) (sym (grid_named c))
+    (subst (λ (t : Bool). begins (if not t then only_word why.Idle v else begin_in c me v g next).why ≡ true) (sym leading)
+    (begun c me v g next))
 
-retiring : (c : Cluster) (me : RoleId) (v : LeaderVolatile) (own : Option Entry) → is_some own ≡ true → is_off v.collection.stage ≡ true → is_settled v ≡ true → retires (collect_in c me v own).why ≡ true
+retiring : (c : Cluster) (me : RoleId) (v : LeaderVolatile) (own : Option Entry) → is_some own ≡ true → is_off v.collection.stage ≡ true
+    → is_settled v ≡ true → retires (collect_in c me v own).why ≡ true
 retiring c me v None has off settled = cc
 retiring c me v (Some own) has off settled = rw (off, settled) refl
 
-collects : (c : Cluster) (me : RoleId) (d : LeaderDurable) (v : LeaderVolatile) → (is_leading v.mode ≡ true → is_some d.own ≡ true) → can_collect v ≡ true → retires (collect_row c me d v).why ≡ true
+collects : (c : Cluster) (me : RoleId) (d : LeaderDurable) (v : LeaderVolatile) → (is_leading v.mode ≡ true → is_some d.own ≡ true)
+    → can_collect v ≡ true → retires (collect_row c me d v).why ≡ true
 collects c me d v has can =
     let p = both (is_leading v.mode && is_off v.collection.stage) (is_settled v) can in
     let q = both (is_leading v.mode) (is_off v.collection.stage) p.0 in
-    subst (λ (t : Bool). retires (if t then collect_in c me v d.own else only_word why.Idle v).why ≡ true) (sym q.0) (retiring c me v d.own (has q.0) q.1 p.1)
+    subst (λ (t : Bool). retires (if t then collect_in c me v d.own else only_word why.Idle v).why ≡ true) (sym q.0)
+    (retiring c me v d.own (has q.0) q.1 p.1)
 
 -- a spent leader leads, and has retired the earlier rounds
 spent : (v : LeaderVolatile) → is_spent v ≡ true → (is_leading v.mode ≡ true) × (is_retired v.collection.stage ≡ true)
 spent v e =
-    let p = both (is_leading v.mode && is_retired v.collection.stage && has_open v) (list_all (λ s. is_in s v.chosen) (numbers v.cw (v.next - v.cw))) e in
+    let p = both (is_leading v.mode && is_retired v.collection.stage && has_open v)
+    (list_all (λ s. is_in s v.chosen) (numbers v.cw (v.next - v.cw))) e in
     let q = both (is_leading v.mode && is_retired v.collection.stage) (has_open v) p.0 in
     both (is_leading v.mode) (is_retired v.collection.stage) q.0
 
 -- which order is given
-asked : (may due can : Bool) (g : Shape) (o : Order) → (if may then Some (order.Lead g) else if due then Some (order.Change g) else if can then Some order.Collect else None) ≡ Some o
+asked : (may due can : Bool) (g : Shape) (o : Order)
+    → (if may then Some (order.Lead g) else if due then Some (order.Change g) else if can then Some order.Collect else None) ≡ Some o
     → ((may ≡ true) × (order.Lead g ≡ o)) ⊎ (((due ≡ true) × (order.Change g ≡ o)) ⊎ ((can ≡ true) × (order.Collect ≡ o)))
 asked true due can g o e = inl (refl, same_Some (order.Lead g) o e)
 asked false true can g o e = inr (inl (refl, same_Some (order.Change g) o e))
@@ -102,9 +115,15 @@ no_vain l k o has e =
     let v = l.volatile in
     let s = standing_of l in
     elim (asked s.may_lead (is_time k.stuck && s.is_spent) s.can_collect (grid_of c) o e) [
-      | inl led ↦ subst (λ (x : Order). IsApt l x) led.1 (record { taken = leads c l.me l.durable v; leads = λ g same. (both (is_idle v.mode) (has_heard c v) led.0).0; changes = λ g same. cc })
+      | inl led ↦ subst (λ (x : Order). IsApt l x) led.1 (record {
+        taken = leads c l.me l.durable v;
+        leads = λ g same. (both (is_idle v.mode) (has_heard c v) led.0).0;
+        changes = λ g same. cc;
+      })
       | inr (inl changed) ↦
           let is = spent v (both (is_time k.stuck) (is_spent v) changed.0).1 in
-          subst (λ (x : Order). IsApt l x) changed.1 (record { taken = changes c l.me l.durable v is.0; leads = λ g same. cc; changes = λ g same. is.1 })
-      | inr (inr collected) ↦ subst (λ (x : Order). IsApt l x) collected.1 (record { taken = collects c l.me l.durable v has collected.0; leads = λ g same. cc; changes = λ g same. cc })
+          subst (λ (x : Order). IsApt l x) changed.1
+          (record { taken = changes c l.me l.durable v is.0; leads = λ g same. cc; changes = λ g same. is.1 })
+      | inr (inr collected) ↦ subst (λ (x : Order). IsApt l x) collected.1
+          (record { taken = collects c l.me l.durable v has collected.0; leads = λ g same. cc; changes = λ g same. cc })
     ]

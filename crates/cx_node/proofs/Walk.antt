@@ -1,5 +1,6 @@
 -- What every step and every take of a run keeps holds behind the run.
-use Rattle.std.proofs.Common.{◌≡◌, ◌+◌, ◌/◌, ◌%◌, ◌==◌, ◌&&◌, ◌||◌, not, ℕ, zero, suc, Bool, true, false, List, [], ◌∷◌, ◌++◌, length, Option, None, Some}
+use Rattle.std.proofs.Common.{◌≡◌, ◌+◌, ◌/◌, ◌%◌, ◌==◌, ◌&&◌, ◌||◌, not, ℕ, zero, suc, Bool, true, false, List, [], ◌∷◌, ◌++◌, length}
+use Rattle.std.proofs.Common.{Option, None, Some}
 use Rattle.std.proofs.Common.{refl, sym, subst, append-nil, append_assoc, if◌then◌else◌, is_some, nat_lt}
 use Rattle.std.specs.Prelude.{count_by, slice_get}
 use Rattle.std.specs.Option.{option_map_or}
@@ -14,8 +15,13 @@ use Rattle.cx_base.specs.declared.role.RoleId.{RoleId}
 use Rattle.cx_course.specs.Action.{Action, Took}
 use Rattle.cx_course.specs.Course.{Course, Moved, does_at, stays, then_do, took}
 use Rattle.cx_course.specs.Hosted.{Hosted}
-use Rattle.cx_course.specs.Run.{TakeResults, all_do, at_place, brings, brought, comes, first_do, grid_of, idle_at, is_client, lead_at, ordered, hosted_place, prepared, snaps, ticked, node_turn, turns_from, untended_run}
-use Rattle.cx_course.specs.Tending.{Care, Tended, all_completed, asks_again, awaits_votes_at, beat, beat_over, brings_heeded, clients_noted, clients_tended, collected, care_after_turn, first_leader, gets, heeded, held_by_role, in_turn, is_beat, is_of_kind, is_overtaken, is_so, kind_ticks, leader_asked, leader_cared, leader_tended, next_pass, node_run, others_tick, passes, paused, reported, standing_of, tend_comes, tend_ordered, tend_prepared, tended_turn, those_tick, ticks_behind, ticks_if, turn_ended, untended, within}
+use Rattle.cx_course.specs.Run.{TakeResults, all_do, at_place, brings, brought, comes, first_do, grid_of, idle_at, is_client, lead_at}
+use Rattle.cx_course.specs.Run.{ordered, hosted_place, prepared, snaps, ticked, node_turn, turns_from, untended_run}
+use Rattle.cx_course.specs.Tending.{Care, Tended, all_completed, asks_again, awaits_votes_at, beat, beat_over, brings_heeded, clients_noted}
+use Rattle.cx_course.specs.Tending.{clients_tended, collected, care_after_turn, first_leader, gets, heeded, held_by_role, in_turn, is_beat}
+use Rattle.cx_course.specs.Tending.{is_of_kind, is_overtaken, is_so, kind_ticks, leader_asked, leader_cared, leader_tended, next_pass}
+use Rattle.cx_course.specs.Tending.{node_run, others_tick, passes, paused, reported, standing_of, tend_comes, tend_ordered, tend_prepared}
+use Rattle.cx_course.specs.Tending.{tended_turn, those_tick, ticks_behind, ticks_if, turn_ended, untended, within}
 use Rattle.cx_course.specs.declared.doing.Doing.{Doing}
 use Rattle.cx_course.specs.declared.doing.Doing.TheVariants.{Begin, Give, Snap}
 use Rattle.cx_leader.specs.Tending.{can_collect, is_new_leader}
@@ -195,9 +201,8 @@ module _ (Holds : Course → List Action → Type 0) (preserves : IsPreserved Ho
 
   tend_order : (c : Cluster) (n : ℕ) (s : Course) (done : List Action) → Holds s done → After done (tend_ordered c n s)
   unfolding tend_ordered
-  tend_order c n s done h =
-      either ((n == 1) && not (option_map_or (λ (l : Running LeaderDurable LeaderVolatile). is_new_leader l.durable) (first_leader s.hosted) false))
-      done (stays s) (ordered c n s) (nothing s done h) (order_one c n s done h)
+  tend_order c n s done h = either ((n == 1) && not (option_map_or (λ (l : Running LeaderDurable LeaderVolatile). is_new_leader l.durable)
+      (first_leader s.hosted) false)) done (stays s) (ordered c n s) (nothing s done h) (order_one c n s done h)
 
   tend_prepare : (c : Cluster) (n : ℕ) (s : Course) (done : List Action) → Holds s done → After done (tend_prepared c n s)
   unfolding tend_prepared
@@ -227,12 +232,14 @@ module _ (Holds : Course → List Action → Type 0) (preserves : IsPreserved Ho
       let a = at_place (hosted_place to s.hosted) (Give x.number (input.Take x.letter)) s in
       let from = x.letter.from in
       let b = reported from to was a.next in
-      then_one done a (λ after. then_do (reported from to was after) (λ last. if same_role to (role kind.Leader 0) then collected last else stays last))
+      then_one done a
+      (λ after. then_do (reported from to was after) (λ last. if same_role to (role kind.Leader 0) then collected last else stays last))
       (bring bytes (Some x) s done is h)
       (λ g. then_one (done ++ a.actions) b (λ last. if same_role to (role kind.Leader 0) then collected last else stays last)
       (report from to was a.next (done ++ a.actions) g)
       (λ k. let so_far = (done ++ a.actions) ++ b.actions in
-      either (same_role to (role kind.Leader 0)) so_far (collected b.next) (stays b.next) (collect b.next so_far k) (nothing b.next so_far k)))
+      either (same_role to (role kind.Leader 0)) so_far (collected b.next) (stays b.next) (collect b.next so_far k)
+      (nothing b.next so_far k)))
 
   bring_heeded : (bytes : List ℕ) (o : Option Numbered) (s : Course) (done : List Action) → brought s.recorded bytes ≡ o → Holds s done
       → After done (brings_heeded o s)
@@ -251,8 +258,8 @@ module _ (Holds : Course → List Action → Type 0) (preserves : IsPreserved Ho
   pause k came s done h =
       let waited = (k.calm == 7) && not came in
       either (k.came && not came) done (kind_ticks kind.Batcher s) (if waited then those_tick (λ i x. awaits_votes_at x) s else stays s)
-      (tick_kind kind.Batcher s done h)
-      (either waited done (those_tick (λ i x. awaits_votes_at x) s) (stays s) (tick_those (λ i x. awaits_votes_at x) s done h) (nothing s done h))
+      (tick_kind kind.Batcher s done h) (either waited done (those_tick (λ i x. awaits_votes_at x) s) (stays s)
+      (tick_those (λ i x. awaits_votes_at x) s done h) (nothing s done h))
 
   tick_others : (s : Course) (done : List Action) → Holds s done → After done (others_tick s)
   unfolding others_tick
@@ -304,9 +311,8 @@ module _ (Holds : Course → List Action → Type 0) (preserves : IsPreserved Ho
       let a = within (tend_prepared c n) t in
       let b = within (tend_comes what) a.next in
       let d = within (paused b.next.care (is_some what)) b.next in
-      then_tended done a
-      (λ x. then_do (within (tend_comes what) x) (λ y. then_do (within (paused y.care (is_some what)) y) (λ z. turn_ended c m (is_some what) z)))
-      (tend_prepare c n t.course done h)
+      then_tended done a (λ x. then_do (within (tend_comes what) x)
+      (λ y. then_do (within (paused y.care (is_some what)) y) (λ z. turn_ended c m (is_some what) z))) (tend_prepare c n t.course done h)
       (λ g. then_tended (done ++ a.actions) b
       (λ y. then_do (within (paused y.care (is_some what)) y) (λ z. turn_ended c m (is_some what) z))
       (tend_come what a.next.course (done ++ a.actions) g)

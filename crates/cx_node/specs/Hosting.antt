@@ -1,5 +1,6 @@
 -- What binding, running and giving back come to, after an input that was accepted.
-use Rattle.std.specs.Prelude.{◌≡◌, ◌⊎◌, ℕ, suc, Bool, true, false, List, ◌++◌, Option, None, Some, is_some, Result, Ok, Err, IfOk, IfErr, IfSome, if◌then◌else◌}
+use Rattle.std.specs.Prelude.{◌≡◌, ◌⊎◌, ℕ, suc, Bool, true, false, List, ◌++◌, Option, None, Some, is_some, Result, Ok, Err, IfOk, IfErr}
+use Rattle.std.specs.Prelude.{IfSome, if◌then◌else◌}
 use Rattle.std.specs.Prelude.{map, option_map, slice_get, take}
 use Rattle.cx_base.specs.declared.cluster.Cluster.{Cluster}
 use Rattle.cx_base.specs.declared.event.Event.{Event}
@@ -103,13 +104,15 @@ pub record Ran {K : Type 0} (gives : Changing K) (tend : Option ℕ) (c : Cluste
   pub unlinked : (answer ≡ Err stop.LinkFault → ⊥) → after.link ≡ before.link
 
 -- the whole run was made, to this end
-abbrev pub HostEnds : List RoleId → Option ℕ → Option (List ℕ) → Cluster → ClientOptions → List Event → ℕ → RunEnd → Outside → Outside → Type 0
+abbrev pub HostEnds : List RoleId → Option ℕ → Option (List ℕ) → Cluster → ClientOptions → List Event → ℕ → RunEnd → Outside
+    → Outside → Type 0
 HostEnds roles tend header c options events turns e old new =
     (recovered : RoleId → List Record) × (takes : TakeResults) × Served roles tend header c options events recovered takes old new
     × IsEnd tend c turns (begun_with header c options events recovered roles) takes e
 
 -- the first of its actions were done; this one was next, if that is known
-abbrev pub HostEndsAt : Option Action → List RoleId → Option ℕ → Option (List ℕ) → Cluster → ClientOptions → List Event → ℕ → Outside → Outside → Type 0
+abbrev pub HostEndsAt : Option Action → List RoleId → Option ℕ → Option (List ℕ) → Cluster → ClientOptions → List Event → ℕ → Outside
+    → Outside → Type 0
 HostEndsAt next roles tend header c options events turns old new =
     (recovered : RoleId → List Record) × (takes : TakeResults) × (count : ℕ)
     × ServedPart roles tend header c options events recovered takes count old new
@@ -124,7 +127,8 @@ abbrev pub HostBinding : List RoleId → Cluster → Outside → Outside → Typ
 HostBinding roles c old new = (bound : ℕ) × DidOutside roles c (map Bound (take bound roles)) old new
 
 -- all before a change of this role's store was done, and nothing after; the change itself was made or not
-abbrev pub HostEndsAtChange : RoleId → List RoleId → Option ℕ → Option (List ℕ) → Cluster → ClientOptions → List Event → ℕ → Outside → Outside → Type 0
+abbrev pub HostEndsAtChange : RoleId → List RoleId → Option ℕ → Option (List ℕ) → Cluster → ClientOptions → List Event → ℕ → Outside
+    → Outside → Type 0
 HostEndsAtChange role roles tend header c options events turns old new =
     (recovered : RoleId → List Record) × (takes : TakeResults) × (count : ℕ) × (change : KeeperChange)
     × (ServedPart roles tend header c options events recovered takes count old new
@@ -134,7 +138,8 @@ HostEndsAtChange role roles tend header c options events turns old new =
     ≡ Some (Kept (record { role = role; change = change })))
 
 -- what was done, and why, for each answer; hosting reads nothing
-abbrev pub HostDid : List RoleId → Option ℕ → Option (List ℕ) → Cluster → ClientOptions → List Event → ℕ → Outside → Outside → Status → Type 0
+abbrev pub HostDid : List RoleId → Option ℕ → Option (List ℕ) → Cluster → ClientOptions → List Event → ℕ → Outside → Outside
+    → Status → Type 0
 HostDid roles tend header c options events turns old new status.Done =
     HostEnds roles tend header c options events turns end.Done old new
 HostDid roles tend header c options events turns old new status.Turns =
@@ -174,8 +179,8 @@ HasOpened other = HasRun other
 
 -- what hosting answered; a failed write or take, and a store that failed, is always reported; each store that was opened is its
 -- role's own, and roles of a node that records run only from stores without records
-pub record HostAnswered (roles : List RoleId) (tend : Option ℕ) (header : Option (List ℕ)) (c : Cluster) (options : ClientOptions) (events : List Event)
-    (turns : ℕ) (old new : Outside) (s : Status) : Type 0 where
+pub record HostAnswered (roles : List RoleId) (tend : Option ℕ) (header : Option (List ℕ)) (c : Cluster) (options : ClientOptions)
+    (events : List Event) (turns : ℕ) (old new : Outside) (s : Status) : Type 0 where
   pub did : HostDid roles tend header c options events turns old new s
   pub written : (s ≡ status.WriteFault → ⊥) → new.writes ≡ old.writes
   pub linked : (s ≡ status.LinkFault → ⊥) → new.links ≡ old.links

@@ -1,10 +1,12 @@
 -- What the input of a node says: its header's cluster, and the requests of the lines after it.
-use Rattle.std.specs.Prelude.{◌≡◌, ◌⊎◌, ℕ, Bool, true, false, not, ◌&&◌, ◌||◌, List, [], ◌∷◌, map, Option, None, Some, Result, Ok, Err, if◌then◌else◌}
+use Rattle.std.specs.Prelude.{◌≡◌, ◌⊎◌, ℕ, Bool, true, false, not, ◌&&◌, ◌||◌, List, [], ◌∷◌, map, Option, None, Some, Result, Ok, Err}
+use Rattle.std.specs.Prelude.{if◌then◌else◌}
 use Rattle.std.specs.Io.KnownBytes.{Consumes}
 use Rattle.std.specs.List.{flat_map, list_all, list_any}
 use Rattle.cx_base.specs.declared.cluster.Cluster.{Cluster}
 use Rattle.cx_base.specs.declared.role.Kind.{Kind}
-use Rattle.cx_base.specs.declared.role.Kind.TheVariants.{Client, Batcher, Leader, Proxy, Acceptor, Matchmaker, Replica, Unbatcher, Reader, Replacer}
+use Rattle.cx_base.specs.declared.role.Kind.TheVariants.{Client, Batcher, Leader, Proxy, Acceptor, Matchmaker, Replica, Unbatcher, Reader}
+use Rattle.cx_base.specs.declared.role.Kind.TheVariants.{Replacer}
 use Rattle.cx_base.specs.declared.role.RoleId.{RoleId}
 use Rattle.cx_base.specs.Cluster.{count_of}
 use Rattle.cx_base.specs.Lists.{below}
@@ -87,7 +89,8 @@ IsRefusal said refusal.BadWords = said ≡ Some refusal.BadWords
 -- what is answered to bytes that say this, of a whole input or not: what they say, the first refusal, or that more
 -- was to come
 abbrev pub IsInputAnswer : Bool → Bool → List RoleId → NodeInput → Result Accepted Refusal → Type 0
-IsInputAnswer ended recording roles heard (Ok a) = (heard ≡ Lines a.header a.cluster a.schedule) × (refused_of recording roles heard ≡ None) × (ended ≡ true)
+IsInputAnswer ended recording roles heard (Ok a) =
+    (heard ≡ Lines a.header a.cluster a.schedule) × (refused_of recording roles heard ≡ None) × (ended ≡ true)
 IsInputAnswer ended recording roles heard (Err refusal.NoMemory) = Unit {0}
 IsInputAnswer ended recording roles heard (Err refusal.ReadFault) = (refused_of recording roles heard ≡ None) × (ended ≡ false)
 IsInputAnswer ended recording roles heard (Err (refusal.BadInput line)) = refused_of recording roles heard ≡ Some (refusal.BadInput line)

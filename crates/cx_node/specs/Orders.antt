@@ -48,4 +48,5 @@ NoVainOrder =
 -- anybody else sends it ticks as its reports are due, and not more often.
 pub record AsksOn : Type 0 where
   pub lacked : (from : RoleId) (before now : ℕ) → is_a kind.Replica from ≡ true → before < now → ticks_behind from before now ≡ true
-  pub others : (from : RoleId) (before now : ℕ) → is_a kind.Replica from ≡ false → ticks_behind from before now ≡ nat_lt (before / 8) (now / 8)
+  pub others : (from : RoleId) (before now : ℕ) → is_a kind.Replica from ≡ false
+      → ticks_behind from before now ≡ nat_lt (before / 8) (now / 8)

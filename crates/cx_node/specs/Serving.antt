@@ -1,5 +1,6 @@
 -- The result of serving.
-use Rattle.std.specs.Prelude.{◌≡◌, ◌⊎◌, ◌<◌, ℕ, suc, Bool, true, false, List, [], ◌++◌, codes, is_some, length, map, take, Option, None, Some, IfSome, slice_get}
+use Rattle.std.specs.Prelude.{◌≡◌, ◌⊎◌, ◌<◌, ℕ, suc, Bool, true, false, List, [], ◌++◌, codes, is_some, length, map, take, Option, None}
+use Rattle.std.specs.Prelude.{Some, IfSome, slice_get}
 use Rattle.std.specs.Io.KnownBytes.{Appends, IsAtEnd}
 use Rattle.cx_base.specs.declared.cluster.Cluster.{Cluster}
 use Rattle.cx_base.specs.declared.event.Event.{Event}
@@ -114,8 +115,8 @@ record_head None = []
 record_head (Some header) = header ++ codes "---\n"
 
 -- All that is done to the end of a run: each role is bound to its port, a record is begun, and then come the actions of the run.
-abbrev pub whole_run : Option ℕ → Option (List ℕ) → Cluster → ClientOptions → List Event → (RoleId → List Record) → List RoleId → TakeResults
-    → List Action
+abbrev pub whole_run : Option ℕ → Option (List ℕ) → Cluster → ClientOptions → List Event → (RoleId → List Record) → List RoleId
+    → TakeResults → List Action
 whole_run tend header c options events recovered roles takes =
     map Bound roles ++ (map Printed (record_head header) ++ (run_of tend header c options events recovered roles takes).actions)
 
@@ -140,8 +141,8 @@ pub record IsRecordedRun (roles : List RoleId) (c : Cluster) (recovered : RoleId
   pub in_flight : EachKeptIsNext c actions
 
 -- A whole run was done: over what the takes of the link gave, and from the records that the stores had.
-pub record Served (roles : List RoleId) (tend : Option ℕ) (header : Option (List ℕ)) (c : Cluster) (options : ClientOptions) (events : List Event)
-    (recovered : RoleId → List Record) (takes : TakeResults) (old new : Outside) : Type 0 where
+pub record Served (roles : List RoleId) (tend : Option ℕ) (header : Option (List ℕ)) (c : Cluster) (options : ClientOptions)
+    (events : List Event) (recovered : RoleId → List Record) (takes : TakeResults) (old new : Outside) : Type 0 where
   pub recovered_is : AreDepotRecords old recovered
   pub told_whole : old.tells ≡ true → (i : ℕ) (me : RoleId) → slice_get roles i ≡ Some me → is_durable me.kind ≡ true
       → files_records (Some (old.stored me)) ≡ recovered me
@@ -173,12 +174,12 @@ Ends roles tend window recording turns e old new =
 
 -- the input was accepted, and the first actions of its run were done; this one was next, if that is known
 abbrev pub EndsAt : Option Action → List RoleId → Option ℕ → ℕ → Bool → ℕ → Outside → Outside → Type 0
-EndsAt next roles tend window recording turns old new =
-    (header : Option (List ℕ)) × (c : Cluster) × (events : List Event) × (recovered : RoleId → List Record) × (takes : TakeResults) × (count : ℕ)
+EndsAt next roles tend window recording turns old new = (header : Option (List ℕ)) × (c : Cluster) × (events : List Event)
+    × (recovered : RoleId → List Record) × (takes : TakeResults) × (count : ℕ)
     × InputSays recording roles old.left header c events × AllRead old new
     × ServedPart roles tend header c (options_of tend window) events recovered takes count old new
-    × IsUnderway tend c turns (begun_with header c (options_of tend window) events recovered roles) takes
-    × IfSome next (λ (action : Action). slice_get (whole_run tend header c (options_of tend window) events recovered roles takes) count ≡ Some action)
+    × IsUnderway tend c turns (begun_with header c (options_of tend window) events recovered roles) takes × IfSome next
+    (λ (action : Action). slice_get (whole_run tend header c (options_of tend window) events recovered roles takes) count ≡ Some action)
 
 -- the input was accepted, and the first actions of its run were done
 abbrev pub EndsEarly : List RoleId → Option ℕ → ℕ → Bool → ℕ → Outside → Outside → Type 0
@@ -192,8 +193,8 @@ EndsBinding roles recording old new =
 
 -- The input was accepted, and all before a change of this role's store was done, and nothing after; the change itself was made or not.
 abbrev pub EndsAtChange : RoleId → List RoleId → Option ℕ → ℕ → Bool → ℕ → Outside → Outside → Type 0
-EndsAtChange role roles tend window recording turns old new =
-    (header : Option (List ℕ)) × (c : Cluster) × (events : List Event) × (recovered : RoleId → List Record) × (takes : TakeResults) × (count : ℕ)
+EndsAtChange role roles tend window recording turns old new = (header : Option (List ℕ)) × (c : Cluster) × (events : List Event)
+    × (recovered : RoleId → List Record) × (takes : TakeResults) × (count : ℕ)
     × (change : KeeperChange) × InputSays recording roles old.left header c events × AllRead old new
     × (ServedPart roles tend header c (options_of tend window) events recovered takes count old new
     ⊎ ServedPart roles tend header c (options_of tend window) events recovered takes (suc count) old new)

@@ -17,7 +17,8 @@ use Rattle.cx_letter.specs.declared.message.Msg.TheVariants as msg
 use Rattle.cx_course.specs.Action.{sent_in}
 use Rattle.cx_course.specs.Hosted.{Hosted, ClientAt, ProxyAt, ReplicaAt}
 use Rattle.cx_course.specs.Course.{Course, Moved, course_of, stays}
-use Rattle.cx_course.specs.Tending.{Care, Tended, asks_again, collected, care_after_turn, first_leader, heeded, is_beat, is_time, leader_tended, next_pass, no_care, paused, reported, tend_ordered, untended}
+use Rattle.cx_course.specs.Tending.{Care, Tended, asks_again, collected, care_after_turn, first_leader, heeded, is_beat, is_time}
+use Rattle.cx_course.specs.Tending.{leader_tended, next_pass, no_care, paused, reported, tend_ordered, untended}
 use Rattle.cx_record.specs.Numbers.{numbered}
 
 -- n takes gave nothing
@@ -33,7 +34,8 @@ busy (suc n) k = care_after_turn true (busy n k)
 abbrev pub fresh : Care
 fresh = no_care []
 
--- 64 takes that gave nothing make a beat, and 63 none; the first after one that gave something doesn't count; and as many turns as the limit make one
+-- 64 takes that gave nothing make a beat, and 63 none; the first after one that gave something doesn't count; and as many turns as the
+-- limit make one
 pub record Beats : Type 0 where
   pub quiet_64 : is_beat 1024 (quiet 64 fresh) ≡ true
   pub quiet_63 : is_beat 1024 (quiet 63 fresh) ≡ false
@@ -44,8 +46,13 @@ pub record Beats : Type 0 where
 
 -- replica 0 of a cluster with one role of each kind, with n slots
 abbrev pub replica_with : ℕ → Hosted
-replica_with n =
-    ReplicaAt (record { cluster = one_of_each; me = role Replica 0; live = true; durable = record (replica_rules.empty) { log = replicate n Noop }; volatile = replica_rules.fresh one_of_each })
+replica_with n = ReplicaAt (record {
+  cluster = one_of_each;
+  me = role Replica 0;
+  live = true;
+  durable = record (replica_rules.empty) { log = replicate n Noop };
+  volatile = replica_rules.fresh one_of_each;
+})
 
 -- it alone, in a node that doesn't record
 abbrev pub alone_with : ℕ → Course
@@ -53,9 +60,11 @@ alone_with n = course_of false (replica_with n ∷ [])
 
 -- a replica reports each further multiple of 8 slots
 pub record Reports : Type 0 where
-  pub at_8 : sent_in ((reported (role Proxy 0) (role Replica 0) 7 (alone_with 8)).actions) ≡ letter (role Replica 0) (role Leader 0) (msg.Held 8) ∷ []
+  pub at_8 : sent_in ((reported (role Proxy 0) (role Replica 0) 7 (alone_with 8)).actions)
+      ≡ letter (role Replica 0) (role Leader 0) (msg.Held 8) ∷ []
   pub at_15 : sent_in ((reported (role Proxy 0) (role Replica 0) 8 (alone_with 15)).actions) ≡ []
-  pub at_17 : sent_in ((reported (role Proxy 0) (role Replica 0) 15 (alone_with 17)).actions) ≡ letter (role Replica 0) (role Leader 0) (msg.Held 17) ∷ []
+  pub at_17 : sent_in ((reported (role Proxy 0) (role Replica 0) 15 (alone_with 17)).actions)
+      ≡ letter (role Replica 0) (role Leader 0) (msg.Held 17) ∷ []
 
 -- three replicas
 abbrev pub three_replicas : Cluster
@@ -95,8 +104,13 @@ unvoted = pending_of (record { r = 1; id = 0; s = 0 }) (make_grid 1 1 (0 ∷ [])
 -- a proxy leader with it, alone in its node
 abbrev pub waiting_proxy : Course
 waiting_proxy =
-    course_of false
-    (ProxyAt (record { cluster = one_of_each; me = role Proxy 0; live = true; durable = tt; volatile = record { known = 0; pending = unvoted ∷ [] } }) ∷ [])
+    course_of false (ProxyAt (record {
+      cluster = one_of_each;
+      me = role Proxy 0;
+      live = true;
+      durable = tt;
+      volatile = record { known = 0; pending = unvoted ∷ [] };
+    }) ∷ [])
 
 -- the same once the value is known to be chosen
 abbrev pub announced_proxy : Course
@@ -148,8 +162,15 @@ pub record Waits : Type 0 where
 
 -- a client that has completed n requests, and waits for the answer to a read
 abbrev pub client_with : ℕ → ℕ → Hosted
-client_with index n =
-    ClientAt (record { cluster = one_of_each; me = role Client index; script = replicate (suc n) (event.Read index 1 0 0 0 []); done = n; window = 1; heard = 0; shift = None })
+client_with index n = ClientAt (record {
+  cluster = one_of_each;
+  me = role Client index;
+  script = replicate (suc n) (event.Read index 1 0 0 0 []);
+  done = n;
+  window = 1;
+  heard = 0;
+  shift = None;
+})
 
 -- the read that it sends
 abbrev pub read_sent_by : ℕ → Letter

@@ -35,7 +35,8 @@ fn ask<K: Renew>(
         (does (hosted_of seat.old) what.now).kept seat.old seat.new) }
     ensures sends { OnOk result (outbox.new.list ≡ (does (hosted_of seat.old) what.now).sends) }
     ensures text { OnOk result (text.new.items ≡ (does (hosted_of seat.old) what.now).text) }
-    ensures rests { result ≡ Err stop.NoMemory → KeeperRests (changing K.append_gives K.renew_gives) seat.old seat.new }
+    ensures rests { result ≡ Err stop.NoMemory
+        → KeeperRests (changing K.append_gives K.renew_gives) seat.old seat.new }
     ensures failed { (role : RoleId) → result ≡ Err (stop.StoreFault role)
         → (who seat.old ≡ role)
         × KeeperFails (changing K.append_gives K.renew_gives)
@@ -72,7 +73,8 @@ fn ask_noting<K: Renew>(
         (does (hosted_of seat.old) what.now).kept seat.old seat.new) }
     ensures sends { OnOk result (outbox.new.list ≡ (does (hosted_of seat.old) what.now).sends) }
     ensures text { OnOk result (text.new.items ≡ (does (hosted_of seat.old) what.now).text) }
-    ensures rests { result ≡ Err stop.NoMemory → KeeperRests (changing K.append_gives K.renew_gives) seat.old seat.new }
+    ensures rests { result ≡ Err stop.NoMemory
+        → KeeperRests (changing K.append_gives K.renew_gives) seat.old seat.new }
     ensures full { result ≡ Err stop.RecordFull
         → (has_room_for (Some recorder.now) (step_events (hosted_of seat.old) what.now) ≡ false)
         × KeeperRests (changing K.append_gives K.renew_gives) seat.old seat.new }
@@ -116,7 +118,8 @@ fn ask_if<K: Renew>(
         (does (hosted_of seat.old) what.now).kept seat.old seat.new) }
     ensures sends { OnOk result (outbox.new.list ≡ (does (hosted_of seat.old) what.now).sends) }
     ensures text { OnOk result (text.new.items ≡ (does (hosted_of seat.old) what.now).text) }
-    ensures rests { result ≡ Err stop.NoMemory → KeeperRests (changing K.append_gives K.renew_gives) seat.old seat.new }
+    ensures rests { result ≡ Err stop.NoMemory
+        → KeeperRests (changing K.append_gives K.renew_gives) seat.old seat.new }
     ensures full { result ≡ Err stop.RecordFull
         → (has_room_for recorder.now (step_events (hosted_of seat.old) what.now) ≡ false)
         × KeeperRests (changing K.append_gives K.renew_gives) seat.old seat.new }
@@ -161,8 +164,10 @@ impl<K: Renew + Drop> Node<K> {
         requires ready { AreReady self.old.cluster self.old.guests }
         ensures acts { ActsPart (changing K.append_gives K.renew_gives) self.old.cluster
             (does_at place what.now) result
-            (scene_of L.Link W.Sink self.old link.old out.old) (scene_of L.Link W.Sink self.new link.new out.new) }
-        ensures blames { Blames result (failed L.Link W.Sink link.old out.old) (failed L.Link W.Sink link.new out.new) }
+            (scene_of L.Link W.Sink self.old link.old out.old)
+            (scene_of L.Link W.Sink self.new link.new out.new) }
+        ensures blames { Blames result (failed L.Link W.Sink link.old out.old)
+            (failed L.Link W.Sink link.new out.new) }
         ensures cluster { self.new.cluster ≡ self.old.cluster }
     {
         ask_if(
@@ -198,8 +203,10 @@ impl<K: Renew + Drop> Node<K> {
         requires ready { AreReady self.old.cluster self.old.guests }
         ensures acts { ActsPart (changing K.append_gives K.renew_gives) self.old.cluster
             (all_do what.now) result
-            (scene_of L.Link W.Sink self.old link.old out.old) (scene_of L.Link W.Sink self.new link.new out.new) }
-        ensures blames { Blames result (failed L.Link W.Sink link.old out.old) (failed L.Link W.Sink link.new out.new) }
+            (scene_of L.Link W.Sink self.old link.old out.old)
+            (scene_of L.Link W.Sink self.new link.new out.new) }
+        ensures blames { Blames result (failed L.Link W.Sink link.old out.old)
+            (failed L.Link W.Sink link.new out.new) }
         ensures cluster { self.new.cluster ≡ self.old.cluster }
     {
         let count = self.seats.len();
@@ -227,8 +234,10 @@ impl<K: Renew + Drop> Node<K> {
         requires ready { AreReady self.old.cluster self.old.guests }
         ensures acts { ActsPart (changing K.append_gives K.renew_gives) self.old.cluster
             (λ s. at_place (hosted_place role s.hosted) what.now s) result
-            (scene_of L.Link W.Sink self.old link.old out.old) (scene_of L.Link W.Sink self.new link.new out.new) }
-        ensures blames { Blames result (failed L.Link W.Sink link.old out.old) (failed L.Link W.Sink link.new out.new) }
+            (scene_of L.Link W.Sink self.old link.old out.old)
+            (scene_of L.Link W.Sink self.new link.new out.new) }
+        ensures blames { Blames result (failed L.Link W.Sink link.old out.old)
+            (failed L.Link W.Sink link.new out.new) }
         ensures cluster { self.new.cluster ≡ self.old.cluster }
     {
         match self.find(role) {

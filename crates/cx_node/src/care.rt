@@ -120,7 +120,8 @@ fn served(
     now: &[u64],
     queue: &[usize],
 ) -> Result<Vec<usize>, NoMemory>
-    ensures { IfOk result (λ list. list.items ≡ filter (λ i. not (is_still before.now now.now i)) queue.now) }
+    ensures { IfOk result
+        (λ list. list.items ≡ filter (λ i. not (is_still before.now now.now i)) queue.now) }
 {
     let list = queue
         .iter()

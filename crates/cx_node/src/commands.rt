@@ -51,7 +51,8 @@ fn is_meant<K: Renew>(whom: Whom, care: &Care, place: usize, seat: &Seat<K>) -> 
 // Whether there is a role at this place, and it is meant to tick.
 fn is_meant_at<K: Renew>(whom: Whom, care: &Care, place: usize, seats: &[Seat<K>]) -> bool
     ensures { result
-        ≡ is_so (is_meant whom care.now.counts place) (option_map hosted_of (slice_get seats.now place)) }
+        ≡ is_so (is_meant whom care.now.counts place)
+        (option_map hosted_of (slice_get seats.now place)) }
 {
     match seats.get(place) {
         Some(seat) => is_meant(whom, care, place, seat),
@@ -73,7 +74,8 @@ impl<K: Renew + Drop> Node<K> {
     // Whether a replica that held this many slots ticks behind a datagram: it holds a further multiple of 8, or got what it lacked
     // from another replica.
     fn reports(&self, from: RoleId, role: RoleId, before: u64) -> bool
-        ensures { result ≡ ticks_behind from before (held_by_role role (hosted_in self.now.guests)) }
+        ensures { result
+            ≡ ticks_behind from before (held_by_role role (hosted_in self.now.guests)) }
     {
         let held = self.held_by(role);
         before / REPORTED < held / REPORTED || from.kind == Kind::Replica && before < held
@@ -81,7 +83,8 @@ impl<K: Renew + Drop> Node<K> {
 
     // Whether leader 0 is hosted, and never began a round.
     fn has_new_leader(&self) -> bool
-        ensures { result ≡ is_leader_so (λ l. is_new_leader l.durable) (first_leader (hosted_in self.now.guests)) }
+        ensures { result ≡ is_leader_so (λ l. is_new_leader l.durable)
+            (first_leader (hosted_in self.now.guests)) }
     {
         let Some(place) = self.find(first_name()) else {
             return false;
@@ -91,7 +94,8 @@ impl<K: Renew + Drop> Node<K> {
 
     // Whether leader 0 is hosted, and an order to collect would begin.
     fn can_collect(&self) -> bool
-        ensures { result ≡ is_leader_so (λ l. can_collect l.volatile) (first_leader (hosted_in self.now.guests)) }
+        ensures { result ≡ is_leader_so (λ l. can_collect l.volatile)
+            (first_leader (hosted_in self.now.guests)) }
     {
         let Some(place) = self.find(first_name()) else {
             return false;
@@ -112,7 +116,8 @@ impl<K: Renew + Drop> Node<K> {
     // Whether leader 0 isn't ordered at this turn, since it has had a round.
     fn has_begun(&self, n: u32) -> bool
         ensures { result
-            ≡ ((n == 1) && not (is_leader_so (λ l. is_new_leader l.durable) (first_leader (hosted_in self.now.guests)))) }
+            ≡ ((n == 1) && not (is_leader_so (λ l. is_new_leader l.durable)
+            (first_leader (hosted_in self.now.guests)))) }
     {
         n == 1 && !self.has_new_leader()
     }
@@ -125,9 +130,12 @@ impl<K: Renew + Drop> Node<K> {
         out: &mut W,
     ) -> Result<(), Stop>
         requires ready { AreReady self.old.cluster self.old.guests }
-        ensures acts { ActsPart (changing K.append_gives K.renew_gives) self.old.cluster (gets order) result
-            (scene_of L.Link W.Sink self.old link.old out.old) (scene_of L.Link W.Sink self.new link.new out.new) }
-        ensures blames { Blames result (failed L.Link W.Sink link.old out.old) (failed L.Link W.Sink link.new out.new) }
+        ensures acts { ActsPart (changing K.append_gives K.renew_gives) self.old.cluster
+            (gets order) result
+            (scene_of L.Link W.Sink self.old link.old out.old)
+            (scene_of L.Link W.Sink self.new link.new out.new) }
+        ensures blames { Blames result (failed L.Link W.Sink link.old out.old)
+            (failed L.Link W.Sink link.new out.new) }
         ensures cluster { self.new.cluster ≡ self.old.cluster }
     {
         match order {
@@ -156,8 +164,10 @@ impl<K: Renew + Drop> Node<K> {
         requires ready { AreReady self.old.cluster self.old.guests }
         ensures acts { ActsPart (changing K.append_gives K.renew_gives) self.old.cluster
             (ticks_if (is_meant whom care.now.counts) place) result
-            (scene_of L.Link W.Sink self.old link.old out.old) (scene_of L.Link W.Sink self.new link.new out.new) }
-        ensures blames { Blames result (failed L.Link W.Sink link.old out.old) (failed L.Link W.Sink link.new out.new) }
+            (scene_of L.Link W.Sink self.old link.old out.old)
+            (scene_of L.Link W.Sink self.new link.new out.new) }
+        ensures blames { Blames result (failed L.Link W.Sink link.old out.old)
+            (failed L.Link W.Sink link.new out.new) }
         ensures cluster { self.new.cluster ≡ self.old.cluster }
     {
         if is_meant_at(whom, care, place, &self.seats) {
@@ -182,8 +192,10 @@ impl<K: Renew + Drop> Node<K> {
         requires ready { AreReady self.old.cluster self.old.guests }
         ensures acts { ActsPart (changing K.append_gives K.renew_gives) self.old.cluster
             (in_turn (is_meant whom care.now.counts) places.now) result
-            (scene_of L.Link W.Sink self.old link.old out.old) (scene_of L.Link W.Sink self.new link.new out.new) }
-        ensures blames { Blames result (failed L.Link W.Sink link.old out.old) (failed L.Link W.Sink link.new out.new) }
+            (scene_of L.Link W.Sink self.old link.old out.old)
+            (scene_of L.Link W.Sink self.new link.new out.new) }
+        ensures blames { Blames result (failed L.Link W.Sink link.old out.old)
+            (failed L.Link W.Sink link.new out.new) }
         ensures cluster { self.new.cluster ≡ self.old.cluster }
     {
         for place in places {
@@ -203,8 +215,10 @@ impl<K: Renew + Drop> Node<K> {
         requires ready { AreReady self.old.cluster self.old.guests }
         ensures acts { ActsPart (changing K.append_gives K.renew_gives) self.old.cluster
             (those_tick (is_meant whom care.now.counts)) result
-            (scene_of L.Link W.Sink self.old link.old out.old) (scene_of L.Link W.Sink self.new link.new out.new) }
-        ensures blames { Blames result (failed L.Link W.Sink link.old out.old) (failed L.Link W.Sink link.new out.new) }
+            (scene_of L.Link W.Sink self.old link.old out.old)
+            (scene_of L.Link W.Sink self.new link.new out.new) }
+        ensures blames { Blames result (failed L.Link W.Sink link.old out.old)
+            (failed L.Link W.Sink link.new out.new) }
         ensures cluster { self.new.cluster ≡ self.old.cluster }
     {
         let count = self.seats.len();
@@ -224,8 +238,10 @@ impl<K: Renew + Drop> Node<K> {
         requires ready { AreReady self.old.cluster self.old.guests }
         ensures acts { ActsPart (changing K.append_gives K.renew_gives) self.old.cluster
             (tend_ordered self.old.cluster n) result
-            (scene_of L.Link W.Sink self.old link.old out.old) (scene_of L.Link W.Sink self.new link.new out.new) }
-        ensures blames { Blames result (failed L.Link W.Sink link.old out.old) (failed L.Link W.Sink link.new out.new) }
+            (scene_of L.Link W.Sink self.old link.old out.old)
+            (scene_of L.Link W.Sink self.new link.new out.new) }
+        ensures blames { Blames result (failed L.Link W.Sink link.old out.old)
+            (failed L.Link W.Sink link.new out.new) }
         ensures cluster { self.new.cluster ≡ self.old.cluster }
     {
         if self.has_begun(n) {
@@ -244,8 +260,10 @@ impl<K: Renew + Drop> Node<K> {
         requires ready { AreReady self.old.cluster self.old.guests }
         ensures acts { ActsPart (changing K.append_gives K.renew_gives) self.old.cluster
             (tend_prepared self.old.cluster n) result
-            (scene_of L.Link W.Sink self.old link.old out.old) (scene_of L.Link W.Sink self.new link.new out.new) }
-        ensures blames { Blames result (failed L.Link W.Sink link.old out.old) (failed L.Link W.Sink link.new out.new) }
+            (scene_of L.Link W.Sink self.old link.old out.old)
+            (scene_of L.Link W.Sink self.new link.new out.new) }
+        ensures blames { Blames result (failed L.Link W.Sink link.old out.old)
+            (failed L.Link W.Sink link.new out.new) }
         ensures cluster { self.new.cluster ≡ self.old.cluster }
     {
         self.tend_order(n, link, out)?;
@@ -264,8 +282,10 @@ impl<K: Renew + Drop> Node<K> {
         requires ready { AreReady self.old.cluster self.old.guests }
         ensures acts { ActsPart (changing K.append_gives K.renew_gives) self.old.cluster
             (reported from role before) result
-            (scene_of L.Link W.Sink self.old link.old out.old) (scene_of L.Link W.Sink self.new link.new out.new) }
-        ensures blames { Blames result (failed L.Link W.Sink link.old out.old) (failed L.Link W.Sink link.new out.new) }
+            (scene_of L.Link W.Sink self.old link.old out.old)
+            (scene_of L.Link W.Sink self.new link.new out.new) }
+        ensures blames { Blames result (failed L.Link W.Sink link.old out.old)
+            (failed L.Link W.Sink link.new out.new) }
         ensures cluster { self.new.cluster ≡ self.old.cluster }
     {
         if self.reports(from, role, before) {
@@ -281,9 +301,12 @@ impl<K: Renew + Drop> Node<K> {
     // Leader 0 is ordered to collect, where that would begin.
     fn collect<L: Link, W: Sink>(&mut self, link: &mut L, out: &mut W) -> Result<(), Stop>
         requires ready { AreReady self.old.cluster self.old.guests }
-        ensures acts { ActsPart (changing K.append_gives K.renew_gives) self.old.cluster collected result
-            (scene_of L.Link W.Sink self.old link.old out.old) (scene_of L.Link W.Sink self.new link.new out.new) }
-        ensures blames { Blames result (failed L.Link W.Sink link.old out.old) (failed L.Link W.Sink link.new out.new) }
+        ensures acts { ActsPart (changing K.append_gives K.renew_gives) self.old.cluster
+            collected result
+            (scene_of L.Link W.Sink self.old link.old out.old)
+            (scene_of L.Link W.Sink self.new link.new out.new) }
+        ensures blames { Blames result (failed L.Link W.Sink link.old out.old)
+            (failed L.Link W.Sink link.new out.new) }
         ensures cluster { self.new.cluster ≡ self.old.cluster }
     {
         if self.can_collect() {
@@ -302,8 +325,10 @@ impl<K: Renew + Drop> Node<K> {
         requires ready { AreReady self.old.cluster self.old.guests }
         ensures acts { ActsPart (changing K.append_gives K.renew_gives) self.old.cluster
             (λ s. if same_role to (role kind.Leader 0) then collected s else stays s) result
-            (scene_of L.Link W.Sink self.old link.old out.old) (scene_of L.Link W.Sink self.new link.new out.new) }
-        ensures blames { Blames result (failed L.Link W.Sink link.old out.old) (failed L.Link W.Sink link.new out.new) }
+            (scene_of L.Link W.Sink self.old link.old out.old)
+            (scene_of L.Link W.Sink self.new link.new out.new) }
+        ensures blames { Blames result (failed L.Link W.Sink link.old out.old)
+            (failed L.Link W.Sink link.new out.new) }
         ensures cluster { self.new.cluster ≡ self.old.cluster }
     {
         if to.is(first_name()) {

@@ -48,7 +48,8 @@ fn is_among(role: RoleId, roles: &[RoleId]) -> bool
 // Whether all roles of a kind are among these.
 #[tactic(auto, using(cx_grid::proofs::Crossing::numbers_more))]
 fn has_kind(cluster: &Cluster, kind: Kind, roles: &[RoleId]) -> bool
-    ensures { result ≡ list_all (λ i. list_any (same_role (role kind i)) roles.now) (below (count_of cluster.now kind)) }
+    ensures { result ≡ list_all (λ i. list_any (same_role (role kind i)) roles.now)
+        (below (count_of cluster.now kind)) }
 {
     let count = count_of(cluster, kind);
     for index in 0..count {
@@ -61,7 +62,8 @@ fn has_kind(cluster: &Cluster, kind: Kind, roles: &[RoleId]) -> bool
 
 // Whether all roles of these kinds are.
 fn have_kinds(cluster: &Cluster, kinds: &[Kind], roles: &[RoleId]) -> bool
-    ensures { result ≡ list_all (λ (k : Kind). list_all (λ i. list_any (same_role (role k i)) roles.now)
+    ensures { result
+        ≡ list_all (λ (k : Kind). list_all (λ i. list_any (same_role (role k i)) roles.now)
         (below (count_of cluster.now k))) kinds.now }
 {
     for kind in kinds {

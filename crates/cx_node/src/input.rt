@@ -69,7 +69,8 @@ fn with_port(
     cluster: Cluster,
     rest: &[u8],
 ) -> Result<NodeInput, NoMemory>
-    ensures { IfOk result (λ heard. heard ≡ with_port cluster.base_port header.items cluster rest.now) }
+    ensures { IfOk result
+        (λ heard. heard ≡ with_port cluster.base_port header.items cluster rest.now) }
 {
     if cluster.base_port.is_none() {
         return Ok(NodeInput::BadHeader);
@@ -84,7 +85,8 @@ fn with_port(
 
 // What a header's text and the bytes after it say.
 fn behind(alloc: Global, header: Vec<u8>, rest: &[u8]) -> Result<NodeInput, NoMemory>
-    ensures { IfOk result (λ heard. heard ≡ behind (header_cluster header.items) header.items rest.now) }
+    ensures { IfOk result
+        (λ heard. heard ≡ behind (header_cluster header.items) header.items rest.now) }
 {
     match read(alloc, &header) {
         Ok(cluster) => with_port(alloc, header, cluster, rest),
@@ -145,7 +147,8 @@ fn refused(
     cluster: &Cluster,
     schedule: &Schedule,
 ) -> Option<Refusal>
-    ensures { (header : List ℕ) → result ≡ refused_of recording roles.now (Lines header cluster.now schedule.now) }
+    ensures { (header : List ℕ)
+        → result ≡ refused_of recording roles.now (Lines header cluster.now schedule.now) }
 {
     if may_host(recording, cluster, roles) {
         bad_line(schedule.bad())
@@ -213,25 +216,30 @@ pub fn listen<S: Source>(
         (λ all. input_of all ≡ Lines a.header a.cluster a.schedule)) }
     ensures taken { IfOk result (λ a. a.schedule.bad ≡ None) }
     ensures hosts { IfOk result (λ a. may_host recording a.cluster roles.now ≡ true) }
-    ensures named { IfOk result (λ a. IsTrue (list_all (λ (r : RoleId). names_role a.cluster r) roles.now)) }
+    ensures named { IfOk result
+        (λ a. IsTrue (list_all (λ (r : RoleId). names_role a.cluster r) roles.now)) }
     ensures port { IfOk result (λ a. IsTrue (is_some a.cluster.base_port)) }
-    ensures scripts { IfOk result (λ a. (client : ℕ) → IsScript a.cluster client (script_of client a.schedule.events)) }
+    ensures scripts { IfOk result
+        (λ a. (client : ℕ) → IsScript a.cluster client (script_of client a.schedule.events)) }
     ensures recordable { IfOk result (λ a. (client : ℕ)
         → All (IsRecordable a.cluster) (script_of client a.schedule.events)) }
     ensures at_end { IfOk result (λ _. IsAtEnd (S.left source.new)) }
     ensures all_read { IfOk result (λ _. S.faults source.new ≡ S.faults source.old) }
-    ensures bad_input { (line : ℕ) → result ≡ Err (refusal.BadInput line) → IfSome (S.left source.old)
+    ensures bad_input { (line : ℕ) → result ≡ Err (refusal.BadInput line)
+        → IfSome (S.left source.old)
         (λ all. refused_of recording roles.now (input_of all) ≡ Some (refusal.BadInput line)) }
     ensures bad_words { result ≡ Err refusal.BadWords → IfSome (S.left source.old)
         (λ all. refused_of recording roles.now (input_of all) ≡ Some refusal.BadWords) }
-    ensures read_fault { IsErrOf result Refusal.ReadFault → Rises (S.faults source.old) (S.faults source.new) }
+    ensures read_fault { IsErrOf result Refusal.ReadFault
+        → Rises (S.faults source.old) (S.faults source.new) }
     // A failed read is always reported, unless the whole lines before it are refused.
     ensures read_failed { (S.faults source.new ≡ S.faults source.old)
         ⊎ IfErr result (FailsRead recording roles.now (S.left source.old) (S.left source.new)) }
     ensures later { S.faults source.old ≤ S.faults source.new }
 
     // Where no read failed, the answer is what the whole input says, or that memory ran out.
-    ensures complete { (Rises (S.faults source.old) (S.faults source.new) → ⊥) → IfSome (S.left source.old)
+    ensures complete { (Rises (S.faults source.old) (S.faults source.new) → ⊥)
+        → IfSome (S.left source.old)
         (λ all. IfErr result (IsRefusal (refused_of recording roles.now (input_of all)))) }
 {
     match read_all(alloc, source, LIMIT) {

@@ -78,7 +78,8 @@ impl<K> Model for Node<K> {
 
     ghost Value = { NodeState K };
 
-    ghost view = { λ node. record { cluster = node.cluster; guests = node.seats.items; recorded = node.recorder } };
+    ghost view = { λ node.
+        record { cluster = node.cluster; guests = node.seats.items; recorded = node.recorder } };
 
     ghost invariant = { λ node. length node.buffer.items ≡ 32769 };
 }
@@ -161,9 +162,12 @@ impl<K: Renew + Drop> Node<K> {
         out: &mut W,
     ) -> Result<(), Stop>
         requires ready { AreReady self.old.cluster self.old.guests }
-        ensures acts { ActsLong (changing K.append_gives K.renew_gives) tend self.old.cluster turns result
-            (scene_of L.Link W.Sink self.old link.old out.old) (scene_of L.Link W.Sink self.new link.new out.new) }
-        ensures blames { Blames result (failed L.Link W.Sink link.old out.old) (failed L.Link W.Sink link.new out.new) }
+        ensures acts { ActsLong (changing K.append_gives K.renew_gives) tend self.old.cluster
+            turns result
+            (scene_of L.Link W.Sink self.old link.old out.old)
+            (scene_of L.Link W.Sink self.new link.new out.new) }
+        ensures blames { Blames result (failed L.Link W.Sink link.old out.old)
+            (failed L.Link W.Sink link.new out.new) }
         ensures cluster { self.new.cluster ≡ self.old.cluster }
     {
         let mut care = self.first_care(tend)?;
@@ -193,16 +197,22 @@ impl<K: Renew + Drop> Node<K> {
         out: &mut W,
     ) -> Result<RunEnd, Stop>
         requires ready { AreReady self.old.cluster self.old.guests }
-        ensures done { IfOk result (λ end. Runs (changing K.append_gives K.renew_gives) tend self.old.cluster
-            turns end
-            (scene_of L.Link W.Sink self.old link.old out.old) (scene_of L.Link W.Sink self.new link.new out.new)) }
-        ensures part { IfErr result (λ e. RunsPart (changing K.append_gives K.renew_gives) e tend self.old.cluster
-            turns
-            (scene_of L.Link W.Sink self.old link.old out.old) (scene_of L.Link W.Sink self.new link.new out.new)) }
-        ensures written { result ≡ Err stop.WriteFault → Rises (W.faults out.old) (W.faults out.new) }
-        ensures unwritten { (result ≡ Err stop.WriteFault → ⊥) → W.faults out.new ≡ W.faults out.old }
-        ensures linked { result ≡ Err stop.LinkFault → Rises (L.faults link.old) (L.faults link.new) }
-        ensures unlinked { (result ≡ Err stop.LinkFault → ⊥) → L.faults link.new ≡ L.faults link.old }
+        ensures done { IfOk result
+            (λ end. Runs (changing K.append_gives K.renew_gives) tend self.old.cluster turns end
+            (scene_of L.Link W.Sink self.old link.old out.old)
+            (scene_of L.Link W.Sink self.new link.new out.new)) }
+        ensures part { IfErr result
+            (λ e. RunsPart (changing K.append_gives K.renew_gives) e tend self.old.cluster turns
+            (scene_of L.Link W.Sink self.old link.old out.old)
+            (scene_of L.Link W.Sink self.new link.new out.new)) }
+        ensures written { result ≡ Err stop.WriteFault
+            → Rises (W.faults out.old) (W.faults out.new) }
+        ensures unwritten { (result ≡ Err stop.WriteFault → ⊥)
+            → W.faults out.new ≡ W.faults out.old }
+        ensures linked { result ≡ Err stop.LinkFault
+            → Rises (L.faults link.old) (L.faults link.new) }
+        ensures unlinked { (result ≡ Err stop.LinkFault → ⊥)
+            → L.faults link.new ≡ L.faults link.old }
         ensures cluster { self.new.cluster ≡ self.old.cluster }
     {
         let hosts_client = self.has_client();

@@ -52,7 +52,8 @@ fn send_one<L: Link>(
     bytes: &mut Vec<u8>,
     link: &mut L,
 ) -> Result<(), NoMemory>
-    ensures sent { OnOk result (HasLinkSent cluster.now (letter.now ∷ []) (L.history link.old) (L.history link.new)) }
+    ensures sent { OnOk result
+        (HasLinkSent cluster.now (letter.now ∷ []) (L.history link.old) (L.history link.new)) }
     ensures nothing { OnErr result (L.history link.new ≡ L.history link.old) }
     ensures still { L.faults link.new ≡ L.faults link.old }
 {
@@ -85,8 +86,10 @@ pub fn send_all<L: Link>(
     bytes: &mut Vec<u8>,
     link: &mut L,
 ) -> Result<(), NoMemory>
-    ensures sent { OnOk result (HasLinkSent cluster.now letters.now (L.history link.old) (L.history link.new)) }
-    ensures part { OnErr result (HasLinkSentPart cluster.now letters.now (L.history link.old) (L.history link.new)) }
+    ensures sent { OnOk result
+        (HasLinkSent cluster.now letters.now (L.history link.old) (L.history link.new)) }
+    ensures part { OnErr result
+        (HasLinkSentPart cluster.now letters.now (L.history link.old) (L.history link.new)) }
     ensures noted { OnOk result (recorder.new ≡ option_map (noting letters.now) recorder.old) }
     ensures still { L.faults link.new ≡ L.faults link.old }
 {

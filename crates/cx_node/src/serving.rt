@@ -72,7 +72,8 @@ fn ended(end: Result<RunEnd, Stop>) -> Status
 
 // What a record begins with, where the node is to record: the header, and the line that ends it.
 fn record_head(alloc: Global, recording: bool, header: &[u8]) -> Result<Vec<u8>, NoMemory>
-    ensures { IfOk result (λ text. text.items ≡ record_head (recorded_header recording header.now)) }
+    ensures { IfOk result
+        (λ text. text.items ≡ record_head (recorded_header recording header.now)) }
 {
     let mut text = Vec::new(alloc);
     if recording {
@@ -96,11 +97,11 @@ fn run_seats<L: Link, D: Depot, W: Sink>(
 ) -> Status
     requires ready { AreReady cluster.now seats.items }
     requires lent { D.out depot.old ≡ lent_to seats.items }
-    ensures ran { (after : List (Guest (RecordStore D.Store))) × (known : Option Recorded) × (answer : Result RunEnd Stop)
-        × (result ≡ ended_status answer)
+    ensures ran { (after : List (Guest (RecordStore D.Store))) × (known : Option Recorded)
+        × (answer : Result RunEnd Stop) × (result ≡ ended_status answer)
         × Ran (store_gives D.Store.Disk) tend cluster.now turns [] answer
-        (scene_of L.Link W.Sink (hosting cluster.now seats.items (known_first recording)) link.old out.old)
-        (scene_of L.Link W.Sink (hosting cluster.now after known) link.new out.new)
+        (scene_of L.Link W.Sink (hosting cluster.now seats.items (known_first recording)) link.old
+        out.old) (scene_of L.Link W.Sink (hosting cluster.now after known) link.new out.new)
         (failed L.Link W.Sink link.old out.old) (failed L.Link W.Sink link.new out.new)
         × AreGivenBack D.Depot D.Store.Disk after depot.old depot.new }
     ensures tells_same { D.tells depot.new ≡ D.tells depot.old }
@@ -134,11 +135,11 @@ fn run_behind<L: Link, D: Depot, W: Sink>(
 ) -> Status
     requires ready { AreReady cluster.now seats.items }
     requires lent { D.out depot.old ≡ lent_to seats.items }
-    ensures ran { (after : List (Guest (RecordStore D.Store))) × (known : Option Recorded) × (answer : Result RunEnd Stop)
-        × (result ≡ ended_status answer)
+    ensures ran { (after : List (Guest (RecordStore D.Store))) × (known : Option Recorded)
+        × (answer : Result RunEnd Stop) × (result ≡ ended_status answer)
         × Ran (store_gives D.Store.Disk) tend cluster.now turns text.now answer
-        (scene_of L.Link W.Sink (hosting cluster.now seats.items (known_first recording)) link.old out.old)
-        (scene_of L.Link W.Sink (hosting cluster.now after known) link.new out.new)
+        (scene_of L.Link W.Sink (hosting cluster.now seats.items (known_first recording)) link.old
+        out.old) (scene_of L.Link W.Sink (hosting cluster.now after known) link.new out.new)
         (failed L.Link W.Sink link.old out.old) (failed L.Link W.Sink link.new out.new)
         × AreGivenBack D.Depot D.Store.Disk after depot.old depot.new }
     ensures tells_same { D.tells depot.new ≡ D.tells depot.old }
@@ -181,14 +182,16 @@ fn host<L: Link, D: Depot, W: Sink>(
     requires named { IsTrue (list_all (λ (r : RoleId). names_role cluster.now r) roles.now) }
     requires distinct { AreApart roles.now }
     requires scripts { (client : ℕ) → IsScript cluster.now client (script_of client events.now) }
-    requires recordable { (client : ℕ) → All (IsRecordable cluster.now) (script_of client events.now) }
+    requires recordable { (client : ℕ)
+        → All (IsRecordable cluster.now) (script_of client events.now) }
     requires some_window { 1 ≤ options.window }
     requires window { options.window ≤ 64 }
     requires lent { D.out depot.old ≡ [] }
     ensures answered { (left left_after : Option (List ℕ)) (reads reads_after : ℕ)
-        → HostAnswered roles.now tend (recorded_header recording header.now) cluster.now options events.now turns
-        (outside_read L.Link D.Depot W.Sink left reads link.old depot.old out.old)
-        (outside_read L.Link D.Depot W.Sink left_after reads_after link.new depot.new out.new) result }
+        → HostAnswered roles.now tend (recorded_header recording header.now) cluster.now options
+        events.now turns (outside_read L.Link D.Depot W.Sink left reads link.old depot.old out.old)
+        (outside_read L.Link D.Depot W.Sink left_after reads_after link.new depot.new
+        out.new) result }
     ensures given_back { D.out depot.new ≡ [] }
 {
     recorded_runs_follow();

@@ -37,7 +37,8 @@ fn count_clients<K: Renew>(seats: &[Seat<K>]) -> usize
 
 // How many requests the clients have completed, as far as the number fits.
 fn all_completed<K: Renew>(seats: &[Seat<K>]) -> u64
-    ensures { result ≡ min (sum_by (λ guest. completed (hosted_of guest)) seats.now) 18446744073709551615 }
+    ensures { result
+        ≡ min (sum_by (λ guest. completed (hosted_of guest)) seats.now) 18446744073709551615 }
 {
     let mut total = 0u64;
     for seat in seats {
@@ -48,7 +49,8 @@ fn all_completed<K: Renew>(seats: &[Seat<K>]) -> u64
 
 // How many requests each role has completed.
 fn completed_by<K: Renew>(alloc: Global, seats: &[Seat<K>]) -> Result<Vec<u64>, NoMemory>
-    ensures { IfOk result (λ counts. counts.items ≡ map (λ guest. completed (hosted_of guest)) seats.now) }
+    ensures { IfOk result
+        (λ counts. counts.items ≡ map (λ guest. completed (hosted_of guest)) seats.now) }
 {
     let counts = seats
         .iter()
@@ -88,8 +90,10 @@ impl<K: Renew + Drop> Node<K> {
         requires ready { AreReady self.old.cluster self.old.guests }
         ensures acts { ActsPart (changing K.append_gives K.renew_gives) self.old.cluster
             (heeded (numbered number datagram)) result
-            (scene_of L.Link W.Sink self.old link.old out.old) (scene_of L.Link W.Sink self.new link.new out.new) }
-        ensures blames { Blames result (failed L.Link W.Sink link.old out.old) (failed L.Link W.Sink link.new out.new) }
+            (scene_of L.Link W.Sink self.old link.old out.old)
+            (scene_of L.Link W.Sink self.new link.new out.new) }
+        ensures blames { Blames result (failed L.Link W.Sink link.old out.old)
+            (failed L.Link W.Sink link.new out.new) }
         ensures cluster { self.new.cluster ≡ self.old.cluster }
     {
         let from = datagram.from();
@@ -114,7 +118,8 @@ impl<K: Renew + Drop> Node<K> {
         ensures acts { (what : Option (List ℕ))
             × Acts (changing K.append_gives K.renew_gives) self.old.cluster (what ∷ [])
             (tend_comes what (course_at self.old)) (done_of result)
-            (scene_of L.Link W.Sink self.old link.old out.old) (scene_of L.Link W.Sink self.new link.new out.new)
+            (scene_of L.Link W.Sink self.old link.old out.old)
+            (scene_of L.Link W.Sink self.new link.new out.new)
             × IfOk result (λ came. came ≡ is_some what) }
         ensures blames { Blames (done_of result)
             (failed L.Link W.Sink link.old out.old) (failed L.Link W.Sink link.new out.new) }
@@ -142,8 +147,10 @@ impl<K: Renew + Drop> Node<K> {
         requires ready { AreReady self.old.cluster self.old.guests }
         ensures acts { ActsPart (changing K.append_gives K.renew_gives) self.old.cluster
             (paused care.now came) result
-            (scene_of L.Link W.Sink self.old link.old out.old) (scene_of L.Link W.Sink self.new link.new out.new) }
-        ensures blames { Blames result (failed L.Link W.Sink link.old out.old) (failed L.Link W.Sink link.new out.new) }
+            (scene_of L.Link W.Sink self.old link.old out.old)
+            (scene_of L.Link W.Sink self.new link.new out.new) }
+        ensures blames { Blames result (failed L.Link W.Sink link.old out.old)
+            (failed L.Link W.Sink link.new out.new) }
         ensures cluster { self.new.cluster ≡ self.old.cluster }
     {
         if care.has_paused(came) {
@@ -172,9 +179,12 @@ impl<K: Renew + Drop> Node<K> {
         requires ready { AreReady self.old.cluster self.old.guests }
         ensures acts { ActsTended (changing K.append_gives K.renew_gives) self.old.cluster
             (leader_part self.old.cluster) result care.old
-            (scene_of L.Link W.Sink self.old link.old out.old) (scene_of L.Link W.Sink self.new link.new out.new) }
-        ensures care { IsCareAfter (leader_part self.old.cluster) result care.old care.new (course_at self.old) }
-        ensures blames { Blames result (failed L.Link W.Sink link.old out.old) (failed L.Link W.Sink link.new out.new) }
+            (scene_of L.Link W.Sink self.old link.old out.old)
+            (scene_of L.Link W.Sink self.new link.new out.new) }
+        ensures care { IsCareAfter (leader_part self.old.cluster) result care.old care.new
+            (course_at self.old) }
+        ensures blames { Blames result (failed L.Link W.Sink link.old out.old)
+            (failed L.Link W.Sink link.new out.new) }
         ensures cluster { self.new.cluster ≡ self.old.cluster }
     {
         match self.standing() {
@@ -196,9 +206,11 @@ impl<K: Renew + Drop> Node<K> {
         requires ready { AreReady self.old.cluster self.old.guests }
         ensures acts { ActsTended (changing K.append_gives K.renew_gives) self.old.cluster
             next_pass result care.old
-            (scene_of L.Link W.Sink self.old link.old out.old) (scene_of L.Link W.Sink self.new link.new out.new) }
+            (scene_of L.Link W.Sink self.old link.old out.old)
+            (scene_of L.Link W.Sink self.new link.new out.new) }
         ensures care { IsCareAfter next_pass result care.old care.new (course_at self.old) }
-        ensures blames { Blames result (failed L.Link W.Sink link.old out.old) (failed L.Link W.Sink link.new out.new) }
+        ensures blames { Blames result (failed L.Link W.Sink link.old out.old)
+            (failed L.Link W.Sink link.new out.new) }
         ensures cluster { self.new.cluster ≡ self.old.cluster }
     {
         self.tick_in_turn(Whom::Overtaken, care, care.queue(), link, out)?;
@@ -217,9 +229,11 @@ impl<K: Renew + Drop> Node<K> {
         requires ready { AreReady self.old.cluster self.old.guests }
         ensures acts { ActsTended (changing K.append_gives K.renew_gives) self.old.cluster
             clients_tended result care.old
-            (scene_of L.Link W.Sink self.old link.old out.old) (scene_of L.Link W.Sink self.new link.new out.new) }
+            (scene_of L.Link W.Sink self.old link.old out.old)
+            (scene_of L.Link W.Sink self.new link.new out.new) }
         ensures care { IsCareAfter clients_tended result care.old care.new (course_at self.old) }
-        ensures blames { Blames result (failed L.Link W.Sink link.old out.old) (failed L.Link W.Sink link.new out.new) }
+        ensures blames { Blames result (failed L.Link W.Sink link.old out.old)
+            (failed L.Link W.Sink link.new out.new) }
         ensures cluster { self.new.cluster ≡ self.old.cluster }
     {
         let done = all_completed(&self.seats);
@@ -244,9 +258,11 @@ impl<K: Renew + Drop> Node<K> {
         requires ready { AreReady self.old.cluster self.old.guests }
         ensures acts { ActsTended (changing K.append_gives K.renew_gives) self.old.cluster
             clients_tended result care.old
-            (scene_of L.Link W.Sink self.old link.old out.old) (scene_of L.Link W.Sink self.new link.new out.new) }
+            (scene_of L.Link W.Sink self.old link.old out.old)
+            (scene_of L.Link W.Sink self.new link.new out.new) }
         ensures care { IsCareAfter clients_tended result care.old care.new (course_at self.old) }
-        ensures blames { Blames result (failed L.Link W.Sink link.old out.old) (failed L.Link W.Sink link.new out.new) }
+        ensures blames { Blames result (failed L.Link W.Sink link.old out.old)
+            (failed L.Link W.Sink link.new out.new) }
         ensures cluster { self.new.cluster ≡ self.old.cluster }
     {
         self.ask_clients(care, link, out)?;
@@ -264,9 +280,12 @@ impl<K: Renew + Drop> Node<K> {
         requires ready { AreReady self.old.cluster self.old.guests }
         ensures acts { ActsTended (changing K.append_gives K.renew_gives) self.old.cluster
             (beat self.old.cluster) result care.old
-            (scene_of L.Link W.Sink self.old link.old out.old) (scene_of L.Link W.Sink self.new link.new out.new) }
-        ensures care { IsCareAfter (beat self.old.cluster) result care.old care.new (course_at self.old) }
-        ensures blames { Blames result (failed L.Link W.Sink link.old out.old) (failed L.Link W.Sink link.new out.new) }
+            (scene_of L.Link W.Sink self.old link.old out.old)
+            (scene_of L.Link W.Sink self.new link.new out.new) }
+        ensures care { IsCareAfter (beat self.old.cluster) result care.old care.new
+            (course_at self.old) }
+        ensures blames { Blames result (failed L.Link W.Sink link.old out.old)
+            (failed L.Link W.Sink link.new out.new) }
         ensures cluster { self.new.cluster ≡ self.old.cluster }
     {
         self.tick_those(Whom::Others, care, link, out)?;
@@ -286,10 +305,12 @@ impl<K: Renew + Drop> Node<K> {
         requires ready { AreReady self.old.cluster self.old.guests }
         ensures acts { ActsTended (changing K.append_gives K.renew_gives) self.old.cluster
             (turn_ended self.old.cluster most came) result care.old
-            (scene_of L.Link W.Sink self.old link.old out.old) (scene_of L.Link W.Sink self.new link.new out.new) }
+            (scene_of L.Link W.Sink self.old link.old out.old)
+            (scene_of L.Link W.Sink self.new link.new out.new) }
         ensures care { IsCareAfter
             (turn_ended self.old.cluster most came) result care.old care.new (course_at self.old) }
-        ensures blames { Blames result (failed L.Link W.Sink link.old out.old) (failed L.Link W.Sink link.new out.new) }
+        ensures blames { Blames result (failed L.Link W.Sink link.old out.old)
+            (failed L.Link W.Sink link.new out.new) }
         ensures cluster { self.new.cluster ≡ self.old.cluster }
     {
         care.count(came);
@@ -312,8 +333,10 @@ impl<K: Renew + Drop> Node<K> {
         requires ready { AreReady self.old.cluster self.old.guests }
         ensures acts { ActsTurn (changing K.append_gives K.renew_gives) self.old.cluster
             (tended_turn self.old.cluster most n) result care.old care.new
-            (scene_of L.Link W.Sink self.old link.old out.old) (scene_of L.Link W.Sink self.new link.new out.new) }
-        ensures blames { Blames result (failed L.Link W.Sink link.old out.old) (failed L.Link W.Sink link.new out.new) }
+            (scene_of L.Link W.Sink self.old link.old out.old)
+            (scene_of L.Link W.Sink self.new link.new out.new) }
+        ensures blames { Blames result (failed L.Link W.Sink link.old out.old)
+            (failed L.Link W.Sink link.new out.new) }
         ensures cluster { self.new.cluster ≡ self.old.cluster }
     {
         self.tend_prepare(n, link, out)?;

@@ -126,8 +126,10 @@ impl<K: Renew + Drop> Node<K> {
         requires ready { AreReady self.old.cluster self.old.guests }
         ensures acts { ActsPart (changing K.append_gives K.renew_gives) self.old.cluster
             (λ s. lead_at self.old.cluster (hosted_place (role kind.Leader 0) s.hosted) s) result
-            (scene_of L.Link W.Sink self.old link.old out.old) (scene_of L.Link W.Sink self.new link.new out.new) }
-        ensures blames { Blames result (failed L.Link W.Sink link.old out.old) (failed L.Link W.Sink link.new out.new) }
+            (scene_of L.Link W.Sink self.old link.old out.old)
+            (scene_of L.Link W.Sink self.new link.new out.new) }
+        ensures blames { Blames result (failed L.Link W.Sink link.old out.old)
+            (failed L.Link W.Sink link.new out.new) }
         ensures cluster { self.new.cluster ≡ self.old.cluster }
     {
         let Some(place) = self.find(RoleId::new(Kind::Leader, 0)) else {
@@ -153,8 +155,10 @@ impl<K: Renew + Drop> Node<K> {
         requires ready { AreReady self.old.cluster self.old.guests }
         ensures acts { ActsPart (changing K.append_gives K.renew_gives) self.old.cluster
             (ordered self.old.cluster n) result
-            (scene_of L.Link W.Sink self.old link.old out.old) (scene_of L.Link W.Sink self.new link.new out.new) }
-        ensures blames { Blames result (failed L.Link W.Sink link.old out.old) (failed L.Link W.Sink link.new out.new) }
+            (scene_of L.Link W.Sink self.old link.old out.old)
+            (scene_of L.Link W.Sink self.new link.new out.new) }
+        ensures blames { Blames result (failed L.Link W.Sink link.old out.old)
+            (failed L.Link W.Sink link.new out.new) }
         ensures cluster { self.new.cluster ≡ self.old.cluster }
     {
         if is_order_turn(n) {
@@ -166,9 +170,12 @@ impl<K: Renew + Drop> Node<K> {
     // Replicas forget values that no other will ask them for.
     pub fn snap<L: Link, W: Sink>(&mut self, n: u32, link: &mut L, out: &mut W) -> Result<(), Stop>
         requires ready { AreReady self.old.cluster self.old.guests }
-        ensures acts { ActsPart (changing K.append_gives K.renew_gives) self.old.cluster (snaps n) result
-            (scene_of L.Link W.Sink self.old link.old out.old) (scene_of L.Link W.Sink self.new link.new out.new) }
-        ensures blames { Blames result (failed L.Link W.Sink link.old out.old) (failed L.Link W.Sink link.new out.new) }
+        ensures acts { ActsPart (changing K.append_gives K.renew_gives) self.old.cluster
+            (snaps n) result
+            (scene_of L.Link W.Sink self.old link.old out.old)
+            (scene_of L.Link W.Sink self.new link.new out.new) }
+        ensures blames { Blames result (failed L.Link W.Sink link.old out.old)
+            (failed L.Link W.Sink link.new out.new) }
         ensures cluster { self.new.cluster ≡ self.old.cluster }
     {
         if is_snap_turn(n) {
@@ -182,8 +189,10 @@ impl<K: Renew + Drop> Node<K> {
         requires ready { AreReady self.old.cluster self.old.guests }
         ensures acts { ActsPart (changing K.append_gives K.renew_gives) self.old.cluster
             (prepared self.old.cluster n) result
-            (scene_of L.Link W.Sink self.old link.old out.old) (scene_of L.Link W.Sink self.new link.new out.new) }
-        ensures blames { Blames result (failed L.Link W.Sink link.old out.old) (failed L.Link W.Sink link.new out.new) }
+            (scene_of L.Link W.Sink self.old link.old out.old)
+            (scene_of L.Link W.Sink self.new link.new out.new) }
+        ensures blames { Blames result (failed L.Link W.Sink link.old out.old)
+            (failed L.Link W.Sink link.new out.new) }
         ensures cluster { self.new.cluster ≡ self.old.cluster }
     {
         self.order(n, link, out)?;
@@ -193,9 +202,12 @@ impl<K: Renew + Drop> Node<K> {
     // The second part of a turn: one take of the link.
     fn take<L: Link, W: Sink>(&mut self, link: &mut L, out: &mut W) -> Result<(), Stop>
         requires ready { AreReady self.old.cluster self.old.guests }
-        ensures acts { ActsTaking (changing K.append_gives K.renew_gives) self.old.cluster comes result
-            (scene_of L.Link W.Sink self.old link.old out.old) (scene_of L.Link W.Sink self.new link.new out.new) }
-        ensures blames { Blames result (failed L.Link W.Sink link.old out.old) (failed L.Link W.Sink link.new out.new) }
+        ensures acts { ActsTaking (changing K.append_gives K.renew_gives) self.old.cluster
+            comes result
+            (scene_of L.Link W.Sink self.old link.old out.old)
+            (scene_of L.Link W.Sink self.new link.new out.new) }
+        ensures blames { Blames result (failed L.Link W.Sink link.old out.old)
+            (failed L.Link W.Sink link.new out.new) }
         ensures cluster { self.new.cluster ≡ self.old.cluster }
     {
         let come = receive(self.alloc, &self.recorder, &mut self.buffer, link)?;
@@ -220,9 +232,12 @@ impl<K: Renew + Drop> Node<K> {
     // The third part of the n-th turn.
     fn tick<L: Link, W: Sink>(&mut self, n: u32, link: &mut L, out: &mut W) -> Result<(), Stop>
         requires ready { AreReady self.old.cluster self.old.guests }
-        ensures acts { ActsPart (changing K.append_gives K.renew_gives) self.old.cluster (ticked n) result
-            (scene_of L.Link W.Sink self.old link.old out.old) (scene_of L.Link W.Sink self.new link.new out.new) }
-        ensures blames { Blames result (failed L.Link W.Sink link.old out.old) (failed L.Link W.Sink link.new out.new) }
+        ensures acts { ActsPart (changing K.append_gives K.renew_gives) self.old.cluster
+            (ticked n) result
+            (scene_of L.Link W.Sink self.old link.old out.old)
+            (scene_of L.Link W.Sink self.new link.new out.new) }
+        ensures blames { Blames result (failed L.Link W.Sink link.old out.old)
+            (failed L.Link W.Sink link.new out.new) }
         ensures cluster { self.new.cluster ≡ self.old.cluster }
     {
         if is_tick_turn(n) {
@@ -245,8 +260,10 @@ impl<K: Renew + Drop> Node<K> {
         requires ready { AreReady self.old.cluster self.old.guests }
         ensures acts { ActsTaking (changing K.append_gives K.renew_gives) self.old.cluster
             (node_turn self.old.cluster n) result
-            (scene_of L.Link W.Sink self.old link.old out.old) (scene_of L.Link W.Sink self.new link.new out.new) }
-        ensures blames { Blames result (failed L.Link W.Sink link.old out.old) (failed L.Link W.Sink link.new out.new) }
+            (scene_of L.Link W.Sink self.old link.old out.old)
+            (scene_of L.Link W.Sink self.new link.new out.new) }
+        ensures blames { Blames result (failed L.Link W.Sink link.old out.old)
+            (failed L.Link W.Sink link.new out.new) }
         ensures cluster { self.new.cluster ≡ self.old.cluster }
     {
         self.prepare(n, link, out)?;
@@ -266,8 +283,10 @@ impl<K: Renew + Drop> Node<K> {
         requires ready { AreReady self.old.cluster self.old.guests }
         ensures acts { ActsTurn (changing K.append_gives K.renew_gives) self.old.cluster
             (any_turn tend self.old.cluster n) result care.old care.new
-            (scene_of L.Link W.Sink self.old link.old out.old) (scene_of L.Link W.Sink self.new link.new out.new) }
-        ensures blames { Blames result (failed L.Link W.Sink link.old out.old) (failed L.Link W.Sink link.new out.new) }
+            (scene_of L.Link W.Sink self.old link.old out.old)
+            (scene_of L.Link W.Sink self.new link.new out.new) }
+        ensures blames { Blames result (failed L.Link W.Sink link.old out.old)
+            (failed L.Link W.Sink link.new out.new) }
         ensures cluster { self.new.cluster ≡ self.old.cluster }
     {
         match tend {

@@ -1,5 +1,6 @@
 -- Who was counted, and what the answers report.
-use Rattle.std.specs.Prelude.{◌≡◌, ◌<◌, ◌+◌, ◌^◌, ℕ, Bool, true, false, ◌==◌, ◌&&◌, ◌||◌, nat_lt, nat_le, List, [], ◌∷◌, ◌++◌, All, IsTrue, refl}
+use Rattle.std.specs.Prelude.{◌≡◌, ◌<◌, ◌+◌, ◌^◌, ℕ, Bool, true, false, ◌==◌, ◌&&◌, ◌||◌, nat_lt, nat_le, List, [], ◌∷◌, ◌++◌, All, IsTrue}
+use Rattle.std.specs.Prelude.{refl}
 use Rattle.std.specs.List.{list_all, list_any}
 use Rattle.std.proofs.Common.{ap, arith, sym, ◌∙◌, ⊎_elim}
 use Rattle.std.proofs.lemmas.Bool.{false≢true, and_parts, or_cases, ltb-true, leb-true, eqb-true}
@@ -27,7 +28,8 @@ use Rattle.cx_phase1.proofs.BestLaws.{best_more}
 -- ---- members are below 64
 
 -- a value that passes a test, where all pass another
-passes_both : {X : Type 0} (p q : X → Bool) (xs : List X) → list_all p xs ≡ true → list_any q xs ≡ true → (x : X) × (p x ≡ true) × (q x ≡ true)
+passes_both : {X : Type 0} (p q : X → Bool) (xs : List X) → list_all p xs ≡ true → list_any q xs ≡ true
+    → (x : X) × (p x ≡ true) × (q x ≡ true)
 passes_both p q [] all some = absurd (false≢true some)
 passes_both p q (x ∷ xs) all some =
     let a = and_parts (p x) (list_all p xs) all in
@@ -41,7 +43,8 @@ member_below_64 live a low is =
 
 -- ---- who is marked
 
-is_in-mark_by : (id n m : ℕ) (ms : List ℕ) (same less : Bool) → (n == m) ≡ same → nat_lt n m ≡ less → is_in id (with_mark n ms) ≡ ((n == id) || is_in id ms) → is_in id (with_mark n (m ∷ ms)) ≡ ((n == id) || is_in id (m ∷ ms))
+is_in-mark_by : (id n m : ℕ) (ms : List ℕ) (same less : Bool) → (n == m) ≡ same → nat_lt n m ≡ less
+    → is_in id (with_mark n ms) ≡ ((n == id) || is_in id ms) → is_in id (with_mark n (m ∷ ms)) ≡ ((n == id) || is_in id (m ∷ ms))
 is_in-mark_by id n m ms same less e l rest = grind (arith, nat_tests)
 
 pub is_in-with_mark : (id n : ℕ) (ms : List ℕ) → is_in id (with_mark n ms) ≡ ((n == id) || is_in id ms)
@@ -55,10 +58,13 @@ turned false true = refl
 turned false false = refl
 
 -- one more is counted
-pub marked_more : (marks : List ℕ) (promises : List Promised) (p : Promised) → ((id : ℕ) → is_in id marks ≡ has_promised id promises) → (id : ℕ) → is_in id (with_mark p.acceptor marks) ≡ has_promised id (promises ++ p ∷ [])
+pub marked_more : (marks : List ℕ) (promises : List Promised) (p : Promised) → ((id : ℕ) → is_in id marks ≡ has_promised id promises)
+    → (id : ℕ) → is_in id (with_mark p.acceptor marks) ≡ has_promised id (promises ++ p ∷ [])
 marked_more marks promises p is id =
-    let one : list_any (λ (x : Promised). x.acceptor == id) (promises ++ p ∷ []) ≡ (has_promised id promises || ((p.acceptor == id) || false)) = list_any-append (λ (x : Promised). x.acceptor == id) promises (p ∷ []) in
-    is_in-with_mark id p.acceptor marks ∙ ap (λ (b : Bool). (p.acceptor == id) || b) (is id) ∙ turned (p.acceptor == id) (has_promised id promises) ∙ sym one
+    let one : list_any (λ (x : Promised). x.acceptor == id) (promises ++ p ∷ []) ≡ (has_promised id promises
+    || ((p.acceptor == id) || false)) = list_any-append (λ (x : Promised). x.acceptor == id) promises (p ∷ []) in
+    is_in-with_mark id p.acceptor marks ∙ ap (λ (b : Bool). (p.acceptor == id) || b) (is id)
+    ∙ turned (p.acceptor == id) (has_promised id promises) ∙ sym one
 
 -- ---- whole rows depend on who is marked alone
 
@@ -66,7 +72,8 @@ whole-same : (ids a b : List ℕ) → ((id : ℕ) → is_in id a ≡ is_in id b)
 whole-same [] a b same = refl
 whole-same (id ∷ ids) a b same = rw (same id, whole-same ids a b same) refl
 
-row-same : (g : Shape) (rows a b : List ℕ) → ((id : ℕ) → is_in id a ≡ is_in id b) → list_any (λ r. is_whole (row_of g r) a) rows ≡ list_any (λ r. is_whole (row_of g r) b) rows
+row-same : (g : Shape) (rows a b : List ℕ) → ((id : ℕ) → is_in id a ≡ is_in id b)
+    → list_any (λ r. is_whole (row_of g r) a) rows ≡ list_any (λ r. is_whole (row_of g r) b) rows
 row-same g [] a b same = refl
 row-same g (r ∷ rows) a b same = rw (whole-same (row_of g r) a b same, row-same g rows a b same) refl
 
@@ -78,7 +85,8 @@ is_in-promised : (id : ℕ) (promises : List Promised) → has_promised id promi
 is_in-promised id [] = refl
 is_in-promised id (p ∷ promises) = ap (λ (b : Bool). (p.acceptor == id) || b) (is_in-promised id promises)
 
-pub rows-marked : (es : List Entry) (marks : List ℕ) (promises : List Promised) → ((id : ℕ) → is_in id marks ≡ has_promised id promises) → rows_whole es marks ≡ rows_whole es (promised_by promises)
+pub rows-marked : (es : List Entry) (marks : List ℕ) (promises : List Promised) → ((id : ℕ) → is_in id marks ≡ has_promised id promises)
+    → rows_whole es marks ≡ rows_whole es (promised_by promises)
 rows-marked es marks promises is = rows-same es marks (promised_by promises) (λ id. is id ∙ is_in-promised id promises)
 
 -- ---- what the answers report
@@ -110,11 +118,14 @@ promise_told p cw votes = record {
 
 -- ---- one more answer is counted
 
-pub sound_more : (live : List Entry) (promises : List Promised) (marks : List ℕ) (best : RingState Vote) (end : ℕ) (p : Promised) → IsSound live promises marks best end → IsPromiseInRange p
-    → IsSound live (promises ++ p ∷ []) (with_mark p.acceptor marks) (with_votes p.votes (raise_ring slot_of p.cw (record best { room = true }))) (end_told end p.votes)
+pub sound_more : (live : List Entry) (promises : List Promised) (marks : List ℕ) (best : RingState Vote) (end : ℕ) (p : Promised)
+    → IsSound live promises marks best end → IsPromiseInRange p
+    → IsSound live (promises ++ p ∷ []) (with_mark p.acceptor marks)
+    (with_votes p.votes (raise_ring slot_of p.cw (record best { room = true }))) (end_told end p.votes)
 sound_more live promises marks best end p is told = record {
   ids = is.ids;
   marked = marked_more marks promises p is.marked;
   told = All-push IsPromiseInRange promises p is.told told;
-  best = best_more promises p (record best { room = true }) end (record { first = is.best.first; votes = is.best.votes; end = is.best.end });
+  best =
+      best_more promises p (record best { room = true }) end (record { first = is.best.first; votes = is.best.votes; end = is.best.end });
 }

@@ -30,7 +30,8 @@ before-trans a b c h k = grind (arith, nat_tests)
 not_before-trans : (a b c : Round) → is_before a b ≡ false → is_before b c ≡ false → is_before a c ≡ false
 not_before-trans a b c h k = grind (arith, nat_tests)
 
-greater_by : (a b c : Vote) (p q : Bool) → is_before a.round b.round ≡ p → is_before b.round c.round ≡ q → greater_vote (greater_vote a (Some b)) (Some c) ≡ greater_vote a (Some (greater_vote b (Some c)))
+greater_by : (a b c : Vote) (p q : Bool) → is_before a.round b.round ≡ p → is_before b.round c.round ≡ q
+    → greater_vote (greater_vote a (Some b)) (Some c) ≡ greater_vote a (Some (greater_vote b (Some c)))
 greater_by a b c true true ab bc = let ac = before-trans a.round b.round c.round ab bc in rw (ab, bc, ac) refl
 greater_by a b c true false ab bc = rw (ab, bc, ab) refl
 greater_by a b c false true ab bc = rw (ab, bc) refl
@@ -43,7 +44,8 @@ better-assoc (Some x) (Some y) None = refl
 better-assoc (Some x) (Some y) (Some z) = ap (λ (v : Vote). Some v) (greater_by x y z _ _ refl refl)
 
 -- a vote at the slot is taken with those before it, or with those after it
-pub better_on : (best : Option Vote) (s : ℕ) (v : Vote) (votes : List Vote) → v.slot ≡ s → better (better best (Some v)) (best_vote s votes) ≡ better best (best_vote s (v ∷ votes))
+pub better_on : (best : Option Vote) (s : ℕ) (v : Vote) (votes : List Vote) → v.slot ≡ s
+    → better (better best (Some v)) (best_vote s votes) ≡ better best (best_vote s (v ∷ votes))
 better_on best s v votes is = let at = eq-eqb v.slot s is in rw at (better-assoc best (Some v) (best_vote s votes))
 
 -- no vote so far
@@ -51,7 +53,9 @@ pub better_none : (best : Option Vote) → better best None ≡ best
 better_none None = refl
 better_none (Some v) = refl
 
-best_append_by : (s : ℕ) (v : Vote) (votes others : List Vote) (at : Bool) → (v.slot == s) ≡ at → best_vote s (votes ++ others) ≡ better (best_vote s votes) (best_vote s others) → best_vote s (v ∷ votes ++ others) ≡ better (best_vote s (v ∷ votes)) (best_vote s others)
+best_append_by : (s : ℕ) (v : Vote) (votes others : List Vote) (at : Bool) → (v.slot == s) ≡ at
+    → best_vote s (votes ++ others) ≡ better (best_vote s votes) (best_vote s others)
+    → best_vote s (v ∷ votes ++ others) ≡ better (best_vote s (v ∷ votes)) (best_vote s others)
 best_append_by s v votes others true at rest = rw (at, rest) (sym (better-assoc (Some v) (best_vote s votes) (best_vote s others)))
 best_append_by s v votes others false at rest = rw at rest
 

@@ -22,9 +22,8 @@ replaces v (Some first) = is_before first.round v.round
 
 -- the best vote of each slot of the window, with one more reported
 abbrev pub best_with_vote : Vote → RingState Vote → RingState Vote
-best_with_vote v best =
-    if nat_le best.first v.slot && replaces v (value_at slot_of v.slot best.items) then record best { items = with_value slot_of v best.items }
-    else best
+best_with_vote v best = if nat_le best.first v.slot && replaces v (value_at slot_of v.slot best.items)
+    then record best { items = with_value slot_of v best.items } else best
 
 abbrev pub with_votes : List Vote → RingState Vote → RingState Vote
 with_votes [] best = best
@@ -32,7 +31,8 @@ with_votes (v ∷ votes) best = with_votes votes (best_with_vote v best)
 
 -- the slots between two, each with the value of its best vote
 abbrev pub values_between : ℕ → ℕ → RingState Vote → Plan
-values_between cw end best = record { cw = cw; end = end; values = map (λ s. voted_value (value_at slot_of s best.items)) (numbers cw (end - cw)) }
+values_between cw end best =
+    record { cw = cw; end = end; values = map (λ s. voted_value (value_at slot_of s best.items)) (numbers cw (end - cw)) }
 
 -- from the window's beginning, and at least this slot, to this end
 abbrev pub plan_of : ℕ → RingState Vote → ℕ → Plan

@@ -37,7 +37,8 @@ fn voted_value(alloc: Global, slot: u64, best: &Best) -> Result<Value, NoMemory>
 
 // The values of the slots from the first one to before the end.
 fn values_between(alloc: Global, first: u64, end: u64, best: &Best) -> Result<Values, NoMemory>
-    ensures { IfOk result (λ values. values ≡ map (λ s. voted_value (value_at slot_of s best.now.items))
+    ensures { IfOk result
+        (λ values. values ≡ map (λ s. voted_value (value_at slot_of s best.now.items))
         (numbers first (end - first))) }
 {
     let mut values = Vec::new(alloc);

@@ -24,7 +24,8 @@ impl GhostListOf<GhostList<Promised>, Promised> for Same {
 struct OneMore;
 
 impl<'a> GhostListOf<(&'a GhostList<Promised>, u16, u64, &'a Votes), Promised> for OneMore {
-    ghost list_shown = { λ x. x.0.now.items ++ record { acceptor = x.1; cw = x.2; votes = x.3.now } ∷ [] };
+    ghost list_shown = { λ x.
+        x.0.now.items ++ record { acceptor = x.1; cw = x.2; votes = x.3.now } ∷ [] };
 }
 
 /// Nobody has promised.
@@ -43,7 +44,8 @@ pub fn same_promises(told: &Promises) -> Promises
 
 /// The promises with one more.
 pub fn with_promise(told: &Promises, acceptor: u16, cw: u64, votes: &Votes) -> Promises
-    ensures { result.items ≡ told.now.items ++ record { acceptor = acceptor; cw = cw; votes = votes.now } ∷ [] }
+    ensures { result.items
+        ≡ told.now.items ++ record { acceptor = acceptor; cw = cw; votes = votes.now } ∷ [] }
 {
     GhostList::of::<(&Promises, u16, u64, &Votes), OneMore>(&(told, acceptor, cw, votes))
 }

@@ -110,7 +110,8 @@ fn put_piece(room: &mut BytesMut, piece: &[u8]) -> Result<Bytes, NoMemory>
 
 // Makes a chunk of the last pieces where they are as many as one has.
 fn close(alloc: Global, chunks: &mut Vec<Chunk>, last: &mut Vec<Bytes>) -> Result<(), NoMemory>
-    ensures same { all_of chunks.new.items ++ last.new.items ≡ all_of chunks.old.items ++ last.old.items }
+    ensures same { all_of chunks.new.items ++ last.new.items
+        ≡ all_of chunks.old.items ++ last.old.items }
     ensures full { AreFull 256 chunks.old.items → AreFull 256 chunks.new.items }
 {
     if last.len() != SIZE {

@@ -5,7 +5,8 @@ use Rattle.cx_role.proofs.Common.{nat_tests, Cluster, RoleId, Round, Why, is_in,
 use Rattle.cx_role.proofs.Common.{Pending, Outcome, only_word, replied, Running, refused_from, IsReply}
 use Rattle.cx_role.proofs.Common.why
 use Rattle.cx_grid.specs.Quorum.{with_mark}
-use Rattle.cx_model.specs.Proxy.{ProxyVolatile, proxy_rules, pending_at, raised_to, phase2a_to, column_for, ask, propose_over, vote_counted, vote_for}
+use Rattle.cx_model.specs.Proxy.{ProxyVolatile, proxy_rules, pending_at, raised_to, phase2a_to, column_for, ask, propose_over, vote_counted}
+use Rattle.cx_model.specs.Proxy.{vote_for}
 use Rattle.cx_ring.specs.Ring.{RingState, raise_ring}
 use Rattle.cx_ring.proofs.Window.{value_at-from}
 use Rattle.cx_role.specs.Role.{takes_no_memory}

@@ -61,8 +61,8 @@ impl Proxy {
     ) -> Result<Why, NoMemory>
         requires parts { IsPendingInRange (record pending { value = value.now }) }
         requires empty { out.old.list ≡ [] }
-        ensures { IsReply proxy_rules self.old (row_on_proposal self.old (record pending { value = value.now }))
-            result self.new out.new.list }
+        ensures { IsReply proxy_rules self.old (row_on_proposal self.old
+            (record pending { value = value.now })) result self.new out.new.list }
     {
         if let Some(why) = declined(&self.pending, &pending) {
             self.pending.raise(pending.cw);
@@ -88,7 +88,8 @@ impl Proxy {
     ) -> Result<Why, NoMemory>
         requires acceptor { acceptor < 64 }
         requires empty { out.old.list ≡ [] }
-        ensures { IsReply proxy_rules self.old (row_on_vote self.old acceptor round slot) result self.new out.new.list }
+        ensures { IsReply proxy_rules self.old (row_on_vote self.old acceptor round slot) result
+            self.new out.new.list }
     {
         let Some(pending) = find(&self.pending, slot) else {
             return Ok(Why::Unasked);

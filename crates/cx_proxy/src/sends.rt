@@ -26,7 +26,8 @@ pub fn ask_column(
     requires kind { me.kind ≡ kind.Proxy }
     requires parts { IsPendingInRange pending.now }
     requires empty { out.old.list ≡ [] }
-    ensures { OnOk result (out.new.list ≡ map (phase2a_to me pending.now) (column_for cluster.now pending.now)) }
+    ensures { OnOk result
+        (out.new.list ≡ map (phase2a_to me pending.now) (column_for cluster.now pending.now)) }
 {
     let col = column_of(pending);
     for acceptor in 0..cluster.acceptors {
@@ -75,7 +76,8 @@ pub fn announce(
     requires kind { me.kind ≡ kind.Proxy }
     requires parts { IsPendingInRange pending.now }
     requires room { length out.old.list + 16 ≤ 512 }
-    ensures list { OnOk result (out.new.list ≡ out.old.list ++ announcement cluster.now me pending.now) }
+    ensures list { OnOk result
+        (out.new.list ≡ out.old.list ++ announcement cluster.now me pending.now) }
     ensures room { OnOk result (length out.new.list ≤ length out.old.list + 16) }
 {
     for replica in 0..cluster.replicas {

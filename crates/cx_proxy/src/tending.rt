@@ -20,7 +20,8 @@ fn is_undecided(pendings: &Pendings, slot: u64) -> bool
 
 // Whether one of these values waits for votes.
 fn has_undecided(pendings: &Pendings) -> bool
-    ensures { result ≡ awaits_votes (record { known = pendings.now.first; pending = pendings.now.items }) }
+    ensures { result
+        ≡ awaits_votes (record { known = pendings.now.first; pending = pendings.now.items }) }
 {
     let first = pendings.first();
     for slot in first..first + WINDOW {

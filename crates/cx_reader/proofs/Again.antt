@@ -41,8 +41,8 @@ module _ (one : Asked) where
   put_nowhere rs none = stays rs (past_end rs (nat_lt (position_or_len test rs) (length rs)) refl none)
 
 -- a read that is found by its client and number is put into its place
-pub put_found : (one : Asked) (t : Token) → t ≡ one.read → (rs : List Asked) (k : ℕ) → position (λ (r : Asked). same_read t r.read) rs ≡ Some k
-    → (k < length rs) × (slice_set rs k one ≡ with_asked one rs)
+pub put_found : (one : Asked) (t : Token) → t ≡ one.read → (rs : List Asked) (k : ℕ)
+    → position (λ (r : Asked). same_read t r.read) rs ≡ Some k → (k < length rs) × (slice_set rs k one ≡ with_asked one rs)
 put_found one t is rs k found = let there = rw is at found in (is_within one rs k there, put_at one rs k there)
 
 -- where none has them, all stay

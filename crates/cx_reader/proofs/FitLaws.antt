@@ -1,5 +1,6 @@
 -- A reader keeps what it may keep: its next turn.
-use Rattle.cx_role.proofs.Common.{◌≡◌, ◌≤◌, ◌+◌, ◌==◌, ◌&&◌, not, ℕ, true, false, nat_le, nat_lt, Bool, length, List, [], ◌∷◌, ◌++◌, Option, None, Some, refl}
+use Rattle.cx_role.proofs.Common.{◌≡◌, ◌≤◌, ◌+◌, ◌==◌, ◌&&◌, not, ℕ, true, false, nat_le, nat_lt, Bool, length, List, [], ◌∷◌, ◌++◌, Option}
+use Rattle.cx_role.proofs.Common.{None, Some, refl}
 use Rattle.cx_role.proofs.Common.{arith, nat_tests, Cluster, RoleId, Round, same_role, Letter, Take, Entry, Msg, names, is_in}
 use Rattle.cx_base.specs.Sets.{is_above}
 use Rattle.cx_model.specs.Matched.{is_counted}
@@ -7,8 +8,10 @@ use Rattle.cx_role.proofs.Common.{Outcome, by_test, IsFit, is_member_of, same_ro
 use Rattle.cx_role.proofs.Common.msg
 use Rattle.cx_role.proofs.Common.why
 use Rattle.cx_field.specs.declared.parts.Asking.{Asking}
-use Rattle.cx_model.specs.Reader.{Asked, Batch, ReaderDurable, ReaderVolatile, acked_by, ask_replicas, asked_anew, asked_for, begin, begin_if, finish, greatest_mark, has_acked, is_among, is_first}
-use Rattle.cx_model.specs.Reader.{is_matched, is_of_batch, last_turn, match_ack_counted, match_ack_row, matched, pre_read_ack_row, pre_read_counted}
+use Rattle.cx_model.specs.Reader.{Asked, Batch, ReaderDurable, ReaderVolatile, acked_by, ask_replicas, asked_anew, asked_for, begin}
+use Rattle.cx_model.specs.Reader.{begin_if, finish, greatest_mark, has_acked, is_among, is_first}
+use Rattle.cx_model.specs.Reader.{is_matched, is_of_batch, last_turn, match_ack_counted, match_ack_row, matched, pre_read_ack_row}
+use Rattle.cx_model.specs.Reader.{pre_read_counted}
 use Rattle.cx_model.specs.Reader.{reader_row, reader_rules, reader_takes, request_over, request_row, sets_row, make_token, with_asked}
 
 abbrev Fits : Cluster → RoleId → ReaderDurable → Outcome ReaderVolatile → Type 0
@@ -22,7 +25,8 @@ is_not a b h = grind (arith, nat_tests)
 
 module _ (c : Cluster) (me : RoleId) (d : ReaderDurable) (range : d.turn ≤ last_turn) where
   module _ (v : ReaderVolatile) where
-    begin_fit : (d.turn == last_turn) ≡ false → (w : Why) (first : List Letter) (reads : List Asked) → Fits c me d (begin me d v w first reads)
+    begin_fit : (d.turn == last_turn) ≡ false → (w : Why) (first : List Letter) (reads : List Asked)
+        → Fits c me d (begin me d v w first reads)
     begin_fit more w first reads = (next_fits d.turn last_turn range more, refl)
 
     begin_if_fit : (w : Why) (reads : List Asked) → Fits c me d (begin_if me d v w reads)
@@ -43,8 +47,8 @@ module _ (c : Cluster) (me : RoleId) (d : ReaderDurable) (range : d.turn ≤ las
 
     finish_fit : (b : Batch) (n : ℕ) → Fits c me d (finish me d v b n)
     finish_fit b n =
-        by_test (Fits c me d) (nat_lt 0 (length v.waiting) && not (d.turn == last_turn)) _ _
-        (λ next. begin_fit (is_not (nat_lt 0 (length v.waiting)) (d.turn == last_turn) next) why.Sent (ask_replicas me b n) v.waiting) (λ _. tt)
+        by_test (Fits c me d) (nat_lt 0 (length v.waiting) && not (d.turn == last_turn)) _ _ (λ next.
+        begin_fit (is_not (nat_lt 0 (length v.waiting)) (d.turn == last_turn) next) why.Sent (ask_replicas me b n) v.waiting) (λ _. tt)
 
     matched_fit : (b : Batch) (es : List Entry) → Fits c me d (matched c me d v b es)
     matched_fit b [] = finish_fit b 0
@@ -59,7 +63,8 @@ module _ (c : Cluster) (me : RoleId) (d : ReaderDurable) (range : d.turn ≤ las
     match_ack_fit from u w es None = tt
     match_ack_fit from u w es (Some b) =
         by_test (Fits c me d) (not (is_of_batch me b u && not (is_matched c b) && is_in from.index v.set)) _ _ (λ _. tt) (λ _.
-        by_test (Fits c me d) (is_counted from.index b.told) _ _ (λ _. tt) (λ _. match_ack_counted_fit (record b { told = b.told ++ record { matchmaker = from.index; watermark = w; entries = es } ∷ [] })))
+        by_test (Fits c me d) (is_counted from.index b.told) _ _ (λ _. tt)
+        (λ _. match_ack_counted_fit (record b { told = b.told ++ record { matchmaker = from.index; watermark = w; entries = es } ∷ [] })))
 
     pre_read_counted_fit : (b : Batch) → Fits c me d (pre_read_counted c me d v b)
     pre_read_counted_fit b =
@@ -68,10 +73,11 @@ module _ (c : Cluster) (me : RoleId) (d : ReaderDurable) (range : d.turn ≤ las
     pre_read_ack_fit : (from : RoleId) (u : Asking) (w : Round) (n : ℕ) (running : Option Batch)
         → Fits c me d (pre_read_ack_row c me d v from u w n running)
     pre_read_ack_fit from u w n None = tt
-    pre_read_ack_fit from u w n (Some b) =
-        by_test (Fits c me d) (not (is_of_batch me b u && is_matched c b && is_member_of (live_entries b.told) from.index)) _ _ (λ _. tt) (λ _.
+    pre_read_ack_fit from u w n (Some b) = by_test (Fits c me d)
+        (not (is_of_batch me b u && is_matched c b && is_member_of (live_entries b.told) from.index)) _ _ (λ _. tt) (λ _.
         by_test (Fits c me d) (not (same_round w (greatest_watermark b.told))) _ _ (λ _. tt) (λ _.
-        by_test (Fits c me d) (has_acked from.index b.acks) _ _ (λ _. tt) (λ _. pre_read_counted_fit (record b { acks = b.acks ++ record { acceptor = from.index; mark = n } ∷ [] }))))
+        by_test (Fits c me d) (has_acked from.index b.acks) _ _ (λ _. tt)
+        (λ _. pre_read_counted_fit (record b { acks = b.acks ++ record { acceptor = from.index; mark = n } ∷ [] }))))
 
     anew_fit : (next : ReaderVolatile) (running : Option Batch) → Fits c me d (asked_anew c me next running)
     anew_fit next None = tt

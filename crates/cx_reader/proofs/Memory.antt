@@ -2,7 +2,8 @@
 use Rattle.cx_role.proofs.Common.{◌≡◌, false, ◌&&◌, ◌==◌, not, nat_lt, length, refl, ℕ, List, [], ◌∷◌, Cluster, RoleId, Entry, Outcome}
 use Rattle.cx_role.proofs.Common.{by_test, live_entries, rows_whole}
 use Rattle.cx_role.specs.Role.{takes_no_memory}
-use Rattle.cx_model.specs.Reader.{Batch, ReaderDurable, ReaderVolatile, acked_by, finish, is_matched, last_turn, match_ack_counted, matched, pre_read_counted}
+use Rattle.cx_model.specs.Reader.{Batch, ReaderDurable, ReaderVolatile, acked_by, finish, is_matched, last_turn, match_ack_counted, matched}
+use Rattle.cx_model.specs.Reader.{pre_read_counted}
 
 abbrev MayTake : Outcome ReaderVolatile → Type 0
 MayTake o = takes_no_memory o.why ≡ false

@@ -1,5 +1,6 @@
 -- The ranges of what a batch sends.
-use Rattle.cx_role.proofs.Common.{◌≡◌, ◌<◌, ◌≤◌, ◌+◌, true, length, Option, Some, List, [], ◌∷◌, ◌++◌, refl, arith, nat_lt, nat_tests, lt-ltb}
+use Rattle.cx_role.proofs.Common.{◌≡◌, ◌<◌, ◌≤◌, ◌+◌, true, length, Option, Some, List, [], ◌∷◌, ◌++◌, refl, arith, nat_lt, nat_tests}
+use Rattle.cx_role.proofs.Common.{lt-ltb}
 use Rattle.cx_role.proofs.Common.{list_all-append, Acked, MatchAnswer, greatest_watermark}
 use Rattle.cx_wire.specs.Format.{u16, u32, u64}
 use Rattle.cx_field.specs.Fields.{mark, round0}

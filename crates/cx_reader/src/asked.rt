@@ -123,7 +123,8 @@ pub fn add_all(alloc: Global, reads: &mut Vec<Asked>, more: &[Asked]) -> Result<
 pub fn ask_all(reads: &[Asked], reader: u16, mark: u64, out: &mut Outbox)
     requires spare { length reads.now ≤ out.old.spare }
     requires mark { IsTrue (field.mark.fits mark) }
-    ensures list { out.new.list ≡ out.old.list ++ map (read_to (role kind.Reader reader) mark) reads.now }
+    ensures list { out.new.list
+        ≡ out.old.list ++ map (read_to (role kind.Reader reader) mark) reads.now }
     ensures spare { out.old.spare ≤ out.new.spare + length reads.now }
 {
     for read in reads {

@@ -47,7 +47,8 @@ impl Model for Batch {
       acks = b.acks.items;
     } };
 
-    ghost invariant = { λ b. IsRunningBatch b.turn b.reads.items b.told.items b.acks.items b.counted };
+    ghost invariant = { λ b.
+        IsRunningBatch b.turn b.reads.items b.told.items b.acks.items b.counted };
 }
 
 impl Batch {
@@ -103,7 +104,8 @@ impl Batch {
         one: Asked,
         waiting: &[Asked],
     ) -> Result<Vec<Asked>, NoMemory>
-        ensures { IfOk result (λ reads. reads.items ≡ with_asked one self.now.reads ++ waiting.now) }
+        ensures { IfOk result
+            (λ reads. reads.items ≡ with_asked one self.now.reads ++ waiting.now) }
     {
         let mut reads = copy_all(alloc, &self.reads)?;
         asked::put_again(&mut reads, one);
@@ -148,7 +150,8 @@ impl Batch {
         asking: Asking,
         acceptor: u16,
     ) -> bool
-        ensures { result ≡ (is_of_batch (role kind.Reader reader) self.now asking && is_matched cluster.now self.now
+        ensures { result ≡ (is_of_batch (role kind.Reader reader) self.now asking
+            && is_matched cluster.now self.now
             && is_member_of (live_entries self.now.told) acceptor) }
     {
         self.is_of(reader, asking) && self.is_matched(cluster) && self.is_live_member(acceptor)
@@ -205,7 +208,8 @@ impl Batch {
     /// The batch with one more matchmaker counted. This one stays, so that running out of memory changes nothing.
     pub fn with_answer(&self, alloc: Global, answer: MatchAnswer) -> Result<Batch, NoMemory>
         requires { IsTrue (field.round0.fits answer.watermark) }
-        ensures { IfOk result (λ more. more ≡ record self.now { told = self.now.told ++ answer ∷ [] }) }
+        ensures { IfOk result
+            (λ more. more ≡ record self.now { told = self.now.told ++ answer ∷ [] }) }
     {
         let mut more = self.copy(alloc)?;
         more.told.push(answer)?;
@@ -216,7 +220,8 @@ impl Batch {
     pub fn with_ack(&self, alloc: Global, ack: Acked) -> Result<Batch, NoMemory>
         requires acceptor { ack.acceptor < 64 }
         requires mark { IsTrue (field.mark.fits ack.mark) }
-        ensures { IfOk result (λ more. more ≡ record self.now { acks = self.now.acks ++ ack ∷ [] }) }
+        ensures { IfOk result
+            (λ more. more ≡ record self.now { acks = self.now.acks ++ ack ∷ [] }) }
     {
         let mut more = self.copy(alloc)?;
         more.acks.push(ack)?;
@@ -235,7 +240,8 @@ impl Batch {
     pub fn ask_replicas(&self, reader: u16, mark: u64, out: &mut Outbox)
         requires spare { length self.now.reads ≤ out.old.spare }
         requires mark { IsTrue (field.mark.fits mark) }
-        ensures list { out.new.list ≡ out.old.list ++ ask_replicas (role kind.Reader reader) self.now mark }
+        ensures list { out.new.list
+            ≡ out.old.list ++ ask_replicas (role kind.Reader reader) self.now mark }
         ensures spare { out.old.spare ≤ out.new.spare + length self.now.reads }
     {
         asked::ask_all(&self.reads, reader, mark, out);
@@ -245,7 +251,8 @@ impl Batch {
     #[tactic(auto, using(cx_role::proofs::Sends::sends))]
     pub fn ask_acceptors(&self, reader: u16, cluster: &Cluster, out: &mut Outbox)
         requires { cluster.now.acceptors ≤ out.old.spare }
-        ensures { out.new.list ≡ out.old.list ++ ask_acceptors cluster.now (role kind.Reader reader) self.now }
+        ensures { out.new.list
+            ≡ out.old.list ++ ask_acceptors cluster.now (role kind.Reader reader) self.now }
     {
         let asking = asking(reader, self.turn());
         let watermark = self.watermark();

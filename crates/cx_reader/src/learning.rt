@@ -14,8 +14,8 @@ impl Reader {
     fn asks_anew(&mut self, set: Set, out: &mut Outbox) -> Result<Why, NoMemory>
         requires empty { out.old.list ≡ [] }
         ensures { IsReply reader_rules self.old
-            (asked_anew self.old.cluster self.old.me (record self.old.volatile { set = set }) self.old.volatile.running)
-            result self.new out.new.list }
+            (asked_anew self.old.cluster self.old.me (record self.old.volatile { set = set })
+            self.old.volatile.running) result self.new out.new.list }
     {
         let Some(batch) = &mut self.running else {
             self.set = set;
@@ -35,8 +35,8 @@ impl Reader {
     /// Another set of matchmakers took over, which then is the known one, unless it is not above that. Reads wait on.
     pub(crate) fn learn(&mut self, set: Set, out: &mut Outbox) -> Result<Why, NoMemory>
         requires empty { out.old.list ≡ [] }
-        ensures { IsReply reader_rules self.old (sets_row self.old.cluster self.old.me self.old.volatile set)
-            result self.new out.new.list }
+        ensures { IsReply reader_rules self.old (sets_row self.old.cluster self.old.me
+            self.old.volatile set) result self.new out.new.list }
     {
         if !set.is_above(&self.set) {
             return Ok(Why::Old);

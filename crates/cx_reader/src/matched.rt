@@ -66,7 +66,8 @@ fn some_live_with(entries: &[Entry], watermark: Round, acceptor: u16) -> bool
 }
 
 fn live_with_told(told: &[MatchAnswer], watermark: Round, acceptor: u16) -> bool
-    ensures { result ≡ list_any (λ (a : AnswerOf). some_live_with watermark acceptor a.entries) told.now }
+    ensures { result
+        ≡ list_any (λ (a : AnswerOf). some_live_with watermark acceptor a.entries) told.now }
 {
     told.iter().any(|answer| some_live_with(answer.entries.as_slice(), watermark, acceptor))
 }

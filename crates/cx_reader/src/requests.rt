@@ -40,8 +40,8 @@ impl Reader {
     ) -> Result<Why, StepFault>
         requires empty { out.old.list ≡ [] }
         ensures { IsStep K.append_gives K.tells reader_rules self.old
-            (request_over self.old.me self.old.durable self.old.volatile one self.old.volatile.running)
-            result self.new keeper.old keeper.new out.new.list }
+            (request_over self.old.me self.old.durable self.old.volatile one
+            self.old.volatile.running) result self.new keeper.old keeper.new out.new.list }
     {
         let Some(batch) = &self.running else {
             return self.request_first(keeper, one, out);

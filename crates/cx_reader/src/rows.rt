@@ -31,8 +31,8 @@ impl Reader {
         requires watermark { IsTrue (field.round0.fits watermark) }
         requires empty { out.old.list ≡ [] }
         ensures { IsStep K.append_gives K.tells reader_rules self.old
-            (match_ack_row self.old.cluster self.old.me self.old.durable self.old.volatile from asking watermark
-            entries.now self.old.volatile.running)
+            (match_ack_row self.old.cluster self.old.me self.old.durable self.old.volatile from
+            asking watermark entries.now self.old.volatile.running)
             result self.new keeper.old keeper.new out.new.list }
     {
         let Some(batch) = &self.running else {
@@ -63,8 +63,8 @@ impl Reader {
         requires few { length self.old.volatile.waiting + length batch.reads ≤ 64 }
         requires empty { out.old.list ≡ [] }
         ensures { IsStep K.append_gives K.tells reader_rules self.old
-            (match_ack_counted self.old.cluster self.old.me self.old.durable self.old.volatile batch)
-            result self.new keeper.old keeper.new out.new.list }
+            (match_ack_counted self.old.cluster self.old.me self.old.durable self.old.volatile
+            batch) result self.new keeper.old keeper.new out.new.list }
     {
         if !batch.is_matched(&self.cluster) {
             self.running = Some(batch);
@@ -84,8 +84,8 @@ impl Reader {
         requires few { length self.old.volatile.waiting + length batch.reads ≤ 64 }
         requires empty { out.old.list ≡ [] }
         ensures { IsStep K.append_gives K.tells reader_rules self.old
-            (matched self.old.cluster self.old.me self.old.durable self.old.volatile batch (live_entries batch.told))
-            result self.new keeper.old keeper.new out.new.list }
+            (matched self.old.cluster self.old.me self.old.durable self.old.volatile batch
+            (live_entries batch.told)) result self.new keeper.old keeper.new out.new.list }
     {
         if !batch.has_live() {
             return self.finish(keeper, batch, 0, out);
@@ -111,8 +111,8 @@ impl Reader {
         requires mark { IsTrue (field.mark.fits mark) }
         requires empty { out.old.list ≡ [] }
         ensures { IsStep K.append_gives K.tells reader_rules self.old
-            (pre_read_ack_row self.old.cluster self.old.me self.old.durable self.old.volatile from asking watermark
-            mark self.old.volatile.running)
+            (pre_read_ack_row self.old.cluster self.old.me self.old.durable self.old.volatile from
+            asking watermark mark self.old.volatile.running)
             result self.new keeper.old keeper.new out.new.list }
     {
         let Some(batch) = &self.running else {

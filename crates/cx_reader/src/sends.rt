@@ -24,7 +24,8 @@ pub fn asking(reader: u16, turn: u64) -> Asking
 pub fn ask_matchmakers(reader: u16, turn: u64, set: &[u16], out: &mut Outbox)
     requires spare { length set.now ≤ out.old.spare }
     requires turn { IsTrue (field.seq.fits turn) }
-    ensures { out.new.list ≡ out.old.list ++ ask_matchmakers (role kind.Reader reader) set.now turn }
+    ensures { out.new.list
+        ≡ out.old.list ++ ask_matchmakers (role kind.Reader reader) set.now turn }
 {
     let asking = asking(reader, turn);
     for matchmaker in set {

@@ -26,7 +26,8 @@ fits_so n small = grind (arith, nat_tests)
 pub number_back : (n : ℕ) → n < 2 ^ 64 → word_number (decimal n) ≡ Some n
 number_back n small =
     let is = decimal_is_IsNumeral n small in
-    let numeral : is_number (decimal n) ≡ true = rw (some_byte (decimal n) is.0.0, digits_so (decimal n) is.0.1, is.1, fits_so n small) refl in
+    let numeral : is_number (decimal n) ≡ true =
+    rw (some_byte (decimal n) is.0.0, digits_so (decimal n) is.0.1, is.1, fits_so n small) refl in
     rw (numeral, is.1) refl
 
 -- a digit is no break, and none of the bytes that join numbers
@@ -60,4 +61,5 @@ decimal_short n small = length-decimal-le 20 n (omega arith) (below n small) sma
     below n small = omega (arith, small)
 
 pub decimal_word : (n : ℕ) → n < 2 ^ 64 → IsWord (decimal n)
-decimal_word n small = let short = decimal_short n small in record { some = some_digit n small; off = decimal_avoids is_break no_break n small; short = omega (arith, short) }
+decimal_word n small = let short = decimal_short n small in
+    record { some = some_digit n small; off = decimal_avoids is_break no_break n small; short = omega (arith, short) }

@@ -1,6 +1,7 @@
 -- The last datagram with some bytes, among those that were sent.
 use Rattle.std.specs.Global.{Global}
-use Rattle.std.proofs.Common.{◌≡◌, ◌+◌, ◌∙◌, ℕ, zero, suc, true, false, List, [], ◌∷◌, ◌++◌, Vec, Option, Some, None, if◌then◌else◌, length, slice_get, option_map, bytes_eq, ap, sym, refl, inl, inr, arith, add-zero}
+use Rattle.std.proofs.Common.{◌≡◌, ◌+◌, ◌∙◌, ℕ, zero, suc, true, false, List, [], ◌∷◌, ◌++◌, Vec, Option, Some, None, if◌then◌else◌, length}
+use Rattle.std.proofs.Common.{slice_get, option_map, bytes_eq, ap, sym, refl, inl, inr, arith, add-zero}
 use Rattle.std.proofs.lemmas.Bool.{cases_Bool}
 use Rattle.cx_letter.specs.Letter.{Letter}
 use Rattle.cx_msg.specs.Datagrams.{spelling}
@@ -14,8 +15,10 @@ last_more n bytes [] d = rw (add-zero n) refl
 last_more n bytes (x ∷ ds) d =
     let more : n + 1 + length ds ≡ n + length (x ∷ ds) = omega arith in
     rw (last_more (n + 1) bytes ds d, more) (elim (bytes_eq (spelling d) bytes) as
-    (λ b. or_else (if b then Some (numbered (n + length (x ∷ ds)) d) else last_from (n + 1) bytes ds) (if bytes_eq (spelling x) bytes then Some (numbered n x) else None)
-    ≡ (if b then Some (numbered (n + length (x ∷ ds)) d) else or_else (last_from (n + 1) bytes ds) (if bytes_eq (spelling x) bytes then Some (numbered n x) else None))) [
+    (λ b. or_else (if b then Some (numbered (n + length (x ∷ ds)) d) else last_from (n + 1) bytes ds)
+    (if bytes_eq (spelling x) bytes then Some (numbered n x) else None)
+    ≡ (if b then Some (numbered (n + length (x ∷ ds)) d)
+    else or_else (last_from (n + 1) bytes ds) (if bytes_eq (spelling x) bytes then Some (numbered n x) else None))) [
       | true ↦ refl
       | false ↦ refl
     ])
@@ -42,7 +45,8 @@ first_or_later n bytes d ds None found rest e =
 
 is_there : (n : ℕ) (bytes : List ℕ) (ds : List Letter) (found : Numbered) → last_from n bytes ds ≡ Some found → IsThere n found ds
 is_there n bytes [] found e = cc
-is_there n bytes (d ∷ ds) found e = first_or_later n bytes d ds (last_from (n + 1) bytes ds) found (λ x here. is_there (n + 1) bytes ds x here) e
+is_there n bytes (d ∷ ds) found e =
+    first_or_later n bytes d ds (last_from (n + 1) bytes ds) found (λ x here. is_there (n + 1) bytes ds x here) e
 
 -- ---- by the table
 
@@ -52,7 +56,8 @@ are_none bytes = refl
 
 -- the numbers once one datagram more was sent, under the next number
 pub one_more : (old new : List (Vec ℕ Global × ℕ)) (sent : List Letter) (d : Letter) → AreNumbers old sent
-    → ((bytes : List ℕ) → datagram_number bytes new ≡ (if bytes_eq (spelling d) bytes then Some (length sent) else datagram_number bytes old)) → AreNumbers new (sent ++ d ∷ [])
+    → ((bytes : List ℕ) → datagram_number bytes new
+    ≡ (if bytes_eq (spelling d) bytes then Some (length sent) else datagram_number bytes old)) → AreNumbers new (sent ++ d ∷ [])
 unfolding last_sent
 one_more old new sent d are puts bytes =
     let count : 0 + length sent ≡ length sent = omega arith in

@@ -1,5 +1,6 @@
 -- The two words of a grid are read back as the grid, and the word of a set of matchmakers as the set.
-use Rattle.std.proofs.Common.{◌≡◌, ◌∙◌, ◌<◌, ◌≤◌, ◌+◌, ◌*◌, ◌^◌, ◌==◌, ◌&&◌, not, nat_lt, nat_le, suc, ℕ, Bool, true, false, List, [], ◌∷◌, ◌++◌, length, map, drop, None, Some, Ok, ap, sym, refl, arith, append_assoc, length-append}
+use Rattle.std.proofs.Common.{◌≡◌, ◌∙◌, ◌<◌, ◌≤◌, ◌+◌, ◌*◌, ◌^◌, ◌==◌, ◌&&◌, not, nat_lt, nat_le, suc, ℕ, Bool, true, false, List, [], ◌∷◌}
+use Rattle.std.proofs.Common.{◌++◌, length, map, drop, None, Some, Ok, ap, sym, refl, arith, append_assoc, length-append}
 use Rattle.std.specs.Prelude.{codes, decimal, is_none}
 use Rattle.std.specs.Char.{digit_value}
 use Rattle.std.specs.List.{after_first, before_first, join_with_byte, list_all, position_or_len, slice_split}
@@ -29,7 +30,8 @@ before_so p w y rest off cut = take_at w (y ∷ rest) (position_or_len p (w ++ y
 
 behind_byte : (w : List ℕ) (y : ℕ) (rest : List ℕ) → drop (length w + 1) (w ++ y ∷ rest) ≡ rest
 behind_byte [] y rest = refl
-behind_byte (b ∷ w) y rest = let n : length (b ∷ w) + 1 ≡ suc (length w + 1) = omega arith in ap (λ k. drop k (b ∷ w ++ y ∷ rest)) n ∙ behind_byte w y rest
+behind_byte (b ∷ w) y rest =
+    let n : length (b ∷ w) + 1 ≡ suc (length w + 1) = omega arith in ap (λ k. drop k (b ∷ w ++ y ∷ rest)) n ∙ behind_byte w y rest
 
 after_so : (p : ℕ → Bool) (w : List ℕ) (y : ℕ) (rest : List ℕ) → Avoids p w → p y ≡ true → after_first p (w ++ y ∷ rest) ≡ rest
 after_so p w y rest off cut = ap (λ k. drop (k + 1) (w ++ y ∷ rest)) (place_first p w y rest off cut) ∙ behind_byte w y rest
@@ -73,17 +75,26 @@ sides_back g is =
     let rows = wide g.rows sides.rows_small in
     let cols = wide g.cols sides.cols_small in
     let off = decimal_avoids (λ b. b == 120) no_x g.rows rows in
-    rw (with_x g, before_so (λ b. b == 120) (decimal g.rows) 120 (decimal g.cols) off refl, after_so (λ b. b == 120) (decimal g.rows) 120 (decimal g.cols) off refl, number_back g.rows rows, number_back g.cols cols, sides.fit) refl
+    rw (
+      with_x g,
+      before_so (λ b. b == 120) (decimal g.rows) 120 (decimal g.cols) off refl,
+      after_so (λ b. b == 120) (decimal g.rows) 120 (decimal g.cols) off refl,
+      number_back g.rows rows,
+      number_back g.cols cols,
+      sides.fit,
+    ) refl
 
 pub sides_are_word : (g : Shape) → IsGrid g → IsWord (sides_text g)
 sides_are_word g is =
     let sides = are_sides g is in
     let rows = wide g.rows sides.rows_small in
     let cols = wide g.cols sides.cols_small in
-    let short = length_so (decimal g.rows ++ codes "x") (decimal g.cols) 21 20 (length_so (decimal g.rows) (codes "x") 20 1 (decimal_short g.rows rows) (omega arith)) (decimal_short g.cols cols) in
+    let short = length_so (decimal g.rows ++ codes "x") (decimal g.cols) 21 20
+    (length_so (decimal g.rows) (codes "x") 20 1 (decimal_short g.rows rows) (omega arith)) (decimal_short g.cols cols) in
     record {
       some = some_first (decimal g.rows ++ codes "x") (decimal g.cols) (some_first (decimal g.rows) (codes "x") (some_digit g.rows rows));
-      off = avoids_both is_break (decimal g.rows ++ codes "x") (decimal g.cols) (avoids_both is_break (decimal g.rows) (codes "x") (decimal_avoids is_break no_break g.rows rows) (refl, tt)) (decimal_avoids is_break no_break g.cols cols);
+      off = avoids_both is_break (decimal g.rows ++ codes "x") (decimal g.cols) (avoids_both is_break (decimal g.rows) (codes "x")
+          (decimal_avoids is_break no_break g.rows rows) (refl, tt)) (decimal_avoids is_break no_break g.cols cols);
       short = omega (arith, short);
     }
 
@@ -98,7 +109,8 @@ wide_id id small = omega (arith, small)
 abbrev AreIds : ℕ → List ℕ → Type 0
 AreIds count ids = list_all (λ id. nat_lt id count) ids ≡ true
 
-ids_parts : (p : ℕ → Bool) → ((b : ℕ) → digit_value b < 10 → p b ≡ false) → (count : ℕ) → count ≤ 64 → (ids : List ℕ) → AreIds count ids → AllAvoid p (map decimal ids)
+ids_parts : (p : ℕ → Bool) → ((b : ℕ) → digit_value b < 10 → p b ≡ false) → (count : ℕ) → count ≤ 64 → (ids : List ℕ) → AreIds count ids
+    → AllAvoid p (map decimal ids)
 ids_parts p off count most [] are = tt
 ids_parts p off count most (id ∷ ids) are =
     let q = and_parts (nat_lt id count) (list_all (λ i. nat_lt i count) ids) are in
@@ -110,11 +122,11 @@ each_id count most (id ∷ ids) are =
     let q = and_parts (nat_lt id count) (list_all (λ i. nat_lt i count) ids) are in
     rw (number_back id (wide_id id (small_id count id most q.0)), q.0, each_id count most ids q.1) refl
 
-ids_back : (count : ℕ) → count ≤ 64 → (ids : List ℕ) → 1 ≤ length ids → AreIds count ids → ids_of count (slice_split (λ b. b == 44) (ids_text ids)) ≡ Some ids
+ids_back : (count : ℕ) → count ≤ 64 → (ids : List ℕ) → 1 ≤ length ids → AreIds count ids
+    → ids_of count (slice_split (λ b. b == 44) (ids_text ids)) ≡ Some ids
 ids_back count most [] some are = absurd (omega (arith, some))
-ids_back count most (id ∷ ids) some are =
-    ap (λ (l : List (List ℕ)). ids_of count l) (split_joined (λ b. b == 44) 44 refl (decimal id) (map decimal ids) (ids_parts (λ b. b == 44) no_comma count most (id ∷ ids) are))
-    ∙ each_id count most (id ∷ ids) are
+ids_back count most (id ∷ ids) some are = ap (λ (l : List (List ℕ)). ids_of count l) (split_joined (λ b. b == 44) 44 refl (decimal id)
+    (map decimal ids) (ids_parts (λ b. b == 44) no_comma count most (id ∷ ids) are)) ∙ each_id count most (id ∷ ids) are
 
 some_ids : (count : ℕ) → count ≤ 64 → (ids : List ℕ) → 1 ≤ length ids → AreIds count ids → is_empty (ids_text ids) ≡ false
 some_ids count most [] some are = absurd (omega (arith, some))
@@ -159,7 +171,8 @@ none_twice before (id ∷ ids) new =
     not_in true e = cc
     not_in false e = refl
 
-faultless : (rows cols : ℕ) (ids : List ℕ) → 1 ≤ rows → 1 ≤ cols → rows * cols ≤ 16 → length ids ≡ rows * cols → are_new [] ids ≡ true → is_none (grid_fault rows cols ids) ≡ true
+faultless : (rows cols : ℕ) (ids : List ℕ) → 1 ≤ rows → 1 ≤ cols → rows * cols ≤ 16 → length ids ≡ rows * cols → are_new [] ids ≡ true
+    → is_none (grid_fault rows cols ids) ≡ true
 faultless rows cols ids some_row some_col room count once =
     rw (some rows some_row, some cols some_col, fits (rows * cols) room, same (length ids) (rows * cols) count, none_twice [] ids once) refl
   where
@@ -175,9 +188,12 @@ faultless rows cols ids some_row some_col room count once =
 some_member : (g : Shape) → IsGrid g → 1 ≤ length g.members
 some_member g is = let count = is.count in let some = (are_sides g is).some in omega (arith, count, some)
 
-pub members_back : (c : Cluster) (g : Shape) → IsGrid g → names_members c g ≡ true → members_word c g.rows g.cols (ids_text g.members) ≡ Ok g
-members_back c g is named =
-    rw (ids_back c.acceptors c.acceptors_fit g.members (some_member g is) named, faultless g.rows g.cols g.members is.some_row is.some_col is.room is.count is.once) refl
+pub members_back : (c : Cluster) (g : Shape) → IsGrid g → names_members c g ≡ true
+    → members_word c g.rows g.cols (ids_text g.members) ≡ Ok g
+members_back c g is named = rw (
+  ids_back c.acceptors c.acceptors_fit g.members (some_member g is) named,
+  faultless g.rows g.cols g.members is.some_row is.some_col is.room is.count is.once,
+) refl
 
 pub members_are_word : (c : Cluster) (g : Shape) → IsGrid g → names_members c g ≡ true → IsWord (ids_text g.members)
 members_are_word c g is named =

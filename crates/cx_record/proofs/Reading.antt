@@ -1,5 +1,6 @@
 -- The lines of events are read as these events.
-use Rattle.std.proofs.Common.{◌≡◌, ◌∙◌, ◌≤◌, ◌<◌, ◌+◌, ◌-◌, ◌*◌, ◌^◌, ◌==◌, ◌&&◌, not, nat_lt, ℕ, zero, suc, Bool, true, false, List, [], ◌∷◌, length, map, None, Some, Ok, ap, sym, refl, arith, append-nil, true≢false}
+use Rattle.std.proofs.Common.{◌≡◌, ◌∙◌, ◌≤◌, ◌<◌, ◌+◌, ◌-◌, ◌*◌, ◌^◌, ◌==◌, ◌&&◌, not, nat_lt, ℕ, zero, suc, Bool, true, false, List, []}
+use Rattle.std.proofs.Common.{◌∷◌, length, map, None, Some, Ok, ap, sym, refl, arith, append-nil, true≢false}
 use Rattle.std.specs.Prelude.{codes, slice_index}
 use Rattle.std.specs.List.{All, join_with_byte}
 use Rattle.std.specs.Str.Lines.{strip_carriage_return}
@@ -19,7 +20,8 @@ use Rattle.cx_base.specs.declared.role.RoleId.{RoleId}
 use Rattle.cx_base.specs.Cluster.{count_of}
 use Rattle.cx_base.specs.Grid.{IsGrid, Shape}
 use Rattle.cx_base.specs.Role.{role_text}
-use Rattle.cx_script.specs.Grammar.{collect_event, deliver_event, event_in, event_of, line_event, op_at, read_event, replace_event, grid_order_of, server_of, session_event, snap_event, write_event}
+use Rattle.cx_script.specs.Grammar.{collect_event, deliver_event, event_in, event_of, line_event, op_at, read_event, replace_event}
+use Rattle.cx_script.specs.Grammar.{grid_order_of, server_of, session_event, snap_event, write_event}
 use Rattle.cx_script.specs.Lines.{lines_of, schedule_of, spelled_from}
 use Rattle.cx_script.specs.Names.{is_client, names_members, names_server, names_set}
 use Rattle.cx_script.specs.Unended.{lines_text}
@@ -28,7 +30,8 @@ use Rattle.cx_record.specs.Lines.{cut_words, line_text, line_words, op_words, ro
 use Rattle.cx_record.specs.Readable.{AreRead, HasNames, IsRecordable}
 use Rattle.cx_record.proofs.Digits.{decimal_word}
 use Rattle.cx_record.proofs.Grids.{members_are_word, members_back, set_back, set_is_word, sides_are_word, sides_back}
-use Rattle.cx_record.proofs.Spelling.{cut_are_words, cut_back, index_back, key_back, name_word, number_word_back, plain_word, role_word, seq_back, seq_is_word, server_back, text_back}
+use Rattle.cx_record.proofs.Spelling.{cut_are_words, cut_back, index_back, key_back, name_word, number_word_back, plain_word, role_word}
+use Rattle.cx_record.proofs.Spelling.{seq_back, seq_is_word, server_back, text_back}
 use Rattle.cx_record.proofs.Words.{AreWords, Avoids, is_break, joined_avoids, joined_short, words_avoid, words_back}
 
 -- ---- what a line of an event is: words, few of them, that say the event
@@ -40,9 +43,11 @@ pub record IsLine (c : Cluster) (line : List (List ℕ)) (e : Event) : Type 0 wh
 -- ---- requests
 
 op_are_words : (o : Op) → HasNames o → AreWords (op_words o)
-op_are_words (Put k t) is = (plain_word (codes "put") refl refl refl, (name_word 32 k (omega arith) is.0, (name_word 64 t (omega arith) is.1, tt)))
+op_are_words (Put k t) is =
+    (plain_word (codes "put") refl refl refl, (name_word 32 k (omega arith) is.0, (name_word 64 t (omega arith) is.1, tt)))
 op_are_words (Del k) is = (plain_word (codes "del") refl refl refl, (name_word 32 k (omega arith) is, tt))
-op_are_words (App k t) is = (plain_word (codes "app") refl refl refl, (name_word 32 k (omega arith) is.0, (name_word 64 t (omega arith) is.1, tt)))
+op_are_words (App k t) is =
+    (plain_word (codes "app") refl refl refl, (name_word 32 k (omega arith) is.0, (name_word 64 t (omega arith) is.1, tt)))
 
 few_op : (o : Op) → length (op_words o) ≤ 3
 few_op (Put k t) = omega arith
@@ -54,7 +59,8 @@ op_back (Put k t) is = rw (key_back k is.0, text_back t is.1) refl
 op_back (Del k) is = rw (key_back k is) refl
 op_back (App k t) is = rw (key_back k is.0, text_back t is.1) refl
 
-write_line : (c : Cluster) (command : Command) (batcher : ℕ) → IsRecordable c (event.Write command batcher) → IsLine c (line_words (event.Write command batcher)) (event.Write command batcher)
+write_line : (c : Cluster) (command : Command) (batcher : ℕ) → IsRecordable c (event.Write command batcher)
+    → IsLine c (line_words (event.Write command batcher)) (event.Write command batcher)
 unfolding event_of write_event
 write_line c command batcher is =
     let named = and_parts (nat_lt command.client c.clients) (nat_lt batcher c.batchers) is.named in
@@ -62,13 +68,25 @@ write_line c command batcher is =
     record {
       words = (
         plain_word (codes "write") refl refl refl,
-        (role_word c Client command.client named.0, (seq_is_word command.seq command.floor is.ranges.0 is.valid, (role_word c Batcher batcher named.1, op_are_words command.op is.ranges.1))),
+        (
+          role_word c Client command.client named.0,
+          (
+            seq_is_word command.seq command.floor is.ranges.0 is.valid,
+            (role_word c Batcher batcher named.1, op_are_words command.op is.ranges.1),
+          ),
+        ),
       );
       few = omega (arith, few);
-      said = rw (index_back c Client command.client named.0, seq_back command.seq command.floor is.ranges.0 is.valid, index_back c Batcher batcher named.1, op_back command.op is.ranges.1) refl;
+      said = rw (
+        index_back c Client command.client named.0,
+        seq_back command.seq command.floor is.ranges.0 is.valid,
+        index_back c Batcher batcher named.1,
+        op_back command.op is.ranges.1,
+      ) refl;
     }
 
-read_line : (c : Cluster) (client seq floor reader replica : ℕ) (key : List ℕ) → IsRecordable c (event.Read client seq floor reader replica key)
+read_line : (c : Cluster) (client seq floor reader replica : ℕ) (key : List ℕ)
+    → IsRecordable c (event.Read client seq floor reader replica key)
     → IsLine c (line_words (event.Read client seq floor reader replica key)) (event.Read client seq floor reader replica key)
 unfolding event_of read_event
 read_line c client seq floor reader replica key is =
@@ -77,10 +95,22 @@ read_line c client seq floor reader replica key is =
     record {
       words = (
         plain_word (codes "read") refl refl refl,
-        (role_word c Client client named.0, (seq_is_word seq floor is.ranges.0 is.valid, (role_word c Reader reader named.1, (role_word c Replica replica both.1, (name_word 32 key (omega arith) is.ranges.1, tt))))),
+        (
+          role_word c Client client named.0,
+          (
+            seq_is_word seq floor is.ranges.0 is.valid,
+            (role_word c Reader reader named.1, (role_word c Replica replica both.1, (name_word 32 key (omega arith) is.ranges.1, tt))),
+          ),
+        ),
       );
       few = omega arith;
-      said = rw (index_back c Client client named.0, seq_back seq floor is.ranges.0 is.valid, index_back c Reader reader named.1, index_back c Replica replica both.1, key_back key is.ranges.1) refl;
+      said = rw (
+        index_back c Client client named.0,
+        seq_back seq floor is.ranges.0 is.valid,
+        index_back c Reader reader named.1,
+        index_back c Replica replica both.1,
+        key_back key is.ranges.1,
+      ) refl;
     }
 
 session_line : (c : Cluster) (client seq floor replica : ℕ) (key : List ℕ) → IsRecordable c (event.Session client seq floor replica key)
@@ -91,10 +121,21 @@ session_line c client seq floor replica key is =
     record {
       words = (
         plain_word (codes "session") refl refl refl,
-        (role_word c Client client named.0, (seq_is_word seq floor is.ranges.0 is.valid, (role_word c Replica replica named.1, (name_word 32 key (omega arith) is.ranges.1, tt)))),
+        (
+          role_word c Client client named.0,
+          (
+            seq_is_word seq floor is.ranges.0 is.valid,
+            (role_word c Replica replica named.1, (name_word 32 key (omega arith) is.ranges.1, tt)),
+          ),
+        ),
       );
       few = omega arith;
-      said = rw (index_back c Client client named.0, seq_back seq floor is.ranges.0 is.valid, index_back c Replica replica named.1, key_back key is.ranges.1) refl;
+      said = rw (
+        index_back c Client client named.0,
+        seq_back seq floor is.ranges.0 is.valid,
+        index_back c Replica replica named.1,
+        key_back key is.ranges.1,
+      ) refl;
     }
 
 -- ---- what happens to roles
@@ -114,7 +155,8 @@ deliver_line c n cut small =
       said = rw (number_word_back n small, cut_back cut) refl;
     }
 
-snap_line : (c : Cluster) (replica : ℕ) (cut : Cut) → nat_lt replica c.replicas ≡ true → IsLine c (line_words (event.Snap replica cut)) (event.Snap replica cut)
+snap_line : (c : Cluster) (replica : ℕ) (cut : Cut) → nat_lt replica c.replicas ≡ true
+    → IsLine c (line_words (event.Snap replica cut)) (event.Snap replica cut)
 unfolding event_of snap_event
 snap_line c replica cut named =
     let few = few_cut cut in
@@ -124,13 +166,17 @@ snap_line c replica cut named =
       said = rw (index_back c Replica replica named, cut_back cut) refl;
     }
 
-replace_line : (c : Cluster) (replacer : ℕ) (s : List ℕ) (cut : Cut) → IsRecordable c (event.Replace replacer s cut) → IsLine c (line_words (event.Replace replacer s cut)) (event.Replace replacer s cut)
+replace_line : (c : Cluster) (replacer : ℕ) (s : List ℕ) (cut : Cut) → IsRecordable c (event.Replace replacer s cut)
+    → IsLine c (line_words (event.Replace replacer s cut)) (event.Replace replacer s cut)
 unfolding event_of replace_event
 replace_line c replacer s cut is =
     let named = and_parts (nat_lt replacer c.replacers) (names_set c s) is.named in
     let few = few_cut cut in
     record {
-      words = (plain_word (codes "replace") refl refl refl, (role_word c Replacer replacer named.0, (set_is_word c s named.1, cut_are_words cut)));
+      words = (
+        plain_word (codes "replace") refl refl refl,
+        (role_word c Replacer replacer named.0, (set_is_word c s named.1, cut_are_words cut)),
+      );
       few = omega (arith, few);
       said = rw (index_back c Replacer replacer named.0, set_back c s named.1, cut_back cut) refl;
     }
@@ -152,29 +198,42 @@ server_said c r named =
 
 tick_line : (c : Cluster) (r : RoleId) → IsServer c r → IsLine c (line_words (event.Tick r)) (event.Tick r)
 unfolding event_of
-tick_line c r named =
-    record { words = server_words c (codes "tick") r named (plain_word (codes "tick") refl refl refl, tt); few = omega arith; said = rw (server_said c r named) refl }
+tick_line c r named = record {
+  words = server_words c (codes "tick") r named (plain_word (codes "tick") refl refl refl, tt);
+  few = omega arith;
+  said = rw (server_said c r named) refl;
+}
 
 crash_line : (c : Cluster) (r : RoleId) → IsServer c r → IsLine c (line_words (event.Crash r)) (event.Crash r)
 unfolding event_of
-crash_line c r named =
-    record { words = server_words c (codes "crash") r named (plain_word (codes "crash") refl refl refl, tt); few = omega arith; said = rw (server_said c r named) refl }
+crash_line c r named = record {
+  words = server_words c (codes "crash") r named (plain_word (codes "crash") refl refl refl, tt);
+  few = omega arith;
+  said = rw (server_said c r named) refl;
+}
 
 restart_line : (c : Cluster) (r : RoleId) → IsServer c r → IsLine c (line_words (event.Restart r)) (event.Restart r)
 unfolding event_of
-restart_line c r named =
-    record { words = server_words c (codes "restart") r named (plain_word (codes "restart") refl refl refl, tt); few = omega arith; said = rw (server_said c r named) refl }
+restart_line c r named = record {
+  words = server_words c (codes "restart") r named (plain_word (codes "restart") refl refl refl, tt);
+  few = omega arith;
+  said = rw (server_said c r named) refl;
+}
 
 -- ---- orders
 
-round_are_words : (c : Cluster) (l : ℕ) (g : Shape) (cut : Cut) → IsGrid g → nat_lt l c.leaders ≡ true → names_members c g ≡ true → AreWords (round_words l g cut)
-round_are_words c l g cut is leader members = (role_word c Leader l leader, (sides_are_word g is, (members_are_word c g is members, cut_are_words cut)))
+round_are_words : (c : Cluster) (l : ℕ) (g : Shape) (cut : Cut) → IsGrid g → nat_lt l c.leaders ≡ true → names_members c g ≡ true
+    → AreWords (round_words l g cut)
+round_are_words c l g cut is leader members =
+    (role_word c Leader l leader, (sides_are_word g is, (members_are_word c g is members, cut_are_words cut)))
 
-round_said : (c : Cluster) (l : ℕ) (g : Shape) (cut : Cut) → IsGrid g → nat_lt l c.leaders ≡ true → names_members c g ≡ true → grid_order_of c (round_words l g cut) ≡ Ok (l, g, cut)
+round_said : (c : Cluster) (l : ℕ) (g : Shape) (cut : Cut) → IsGrid g → nat_lt l c.leaders ≡ true → names_members c g ≡ true
+    → grid_order_of c (round_words l g cut) ≡ Ok (l, g, cut)
 unfolding grid_order_of
 round_said c l g cut is leader members = rw (index_back c Leader l leader, sides_back g is, members_back c g is members, cut_back cut) refl
 
-lead_line : (c : Cluster) (l : ℕ) (g : Shape) (cut : Cut) → IsRecordable c (event.Order l (Lead g) cut) → IsLine c (line_words (event.Order l (Lead g) cut)) (event.Order l (Lead g) cut)
+lead_line : (c : Cluster) (l : ℕ) (g : Shape) (cut : Cut) → IsRecordable c (event.Order l (Lead g) cut)
+    → IsLine c (line_words (event.Order l (Lead g) cut)) (event.Order l (Lead g) cut)
 unfolding event_of
 lead_line c l g cut is =
     let named = and_parts (nat_lt l c.leaders) (names_members c g) is.named in
@@ -185,7 +244,8 @@ lead_line c l g cut is =
       said = rw (round_said c l g cut is.ranges named.0 named.1) refl;
     }
 
-change_line : (c : Cluster) (l : ℕ) (g : Shape) (cut : Cut) → IsRecordable c (event.Order l (Change g) cut) → IsLine c (line_words (event.Order l (Change g) cut)) (event.Order l (Change g) cut)
+change_line : (c : Cluster) (l : ℕ) (g : Shape) (cut : Cut) → IsRecordable c (event.Order l (Change g) cut)
+    → IsLine c (line_words (event.Order l (Change g) cut)) (event.Order l (Change g) cut)
 unfolding event_of
 change_line c l g cut is =
     let named = and_parts (nat_lt l c.leaders) (names_members c g) is.named in
@@ -196,7 +256,8 @@ change_line c l g cut is =
       said = rw (round_said c l g cut is.ranges named.0 named.1) refl;
     }
 
-collect_line : (c : Cluster) (l : ℕ) → nat_lt l c.leaders ≡ true → IsLine c (line_words (event.Order l Collect Whole)) (event.Order l Collect Whole)
+collect_line : (c : Cluster) (l : ℕ) → nat_lt l c.leaders ≡ true
+    → IsLine c (line_words (event.Order l Collect Whole)) (event.Order l Collect Whole)
 unfolding event_of collect_event
 collect_line c l leader =
     record {
@@ -260,7 +321,8 @@ no_feed : (w : List ℕ) → Avoids (λ b. b == 10) w → IsFree w
 no_feed [] off = refl
 no_feed (b ∷ w) off = rw (off.0, no_feed w off.1) refl
 
-line_avoids : (p : ℕ → Bool) → ((b : ℕ) → is_break b ≡ false → p b ≡ false) → p 32 ≡ false → (c : Cluster) (e : Event) → IsRecordable c e → Avoids p (line_text e)
+line_avoids : (p : ℕ → Bool) → ((b : ℕ) → is_break b ≡ false → p b ≡ false) → p 32 ≡ false → (c : Cluster) (e : Event) → IsRecordable c e
+    → Avoids p (line_text e)
 unfolding line_text
 line_avoids p less blank c e is = joined_avoids p 32 blank (line_words e) (words_avoid p less (line_words e) (is_line c e is).words)
 
@@ -279,11 +341,14 @@ lines_are_free c (e ∷ es) are = (no_feed (line_text e) (line_avoids (λ b. b =
 
 lines_are_whole : (c : Cluster) (es : List Event) → AreRecordable c es → map strip_carriage_return (map line_text es) ≡ map line_text es
 lines_are_whole c [] are = refl
-lines_are_whole c (e ∷ es) are = rw (whole_line (line_text e) (line_avoids (λ b. b == 13) return_less refl c e are.0), lines_are_whole c es are.1) refl
+lines_are_whole c (e ∷ es) are =
+    rw (whole_line (line_text e) (line_avoids (λ b. b == 13) return_less refl c e are.0), lines_are_whole c es are.1) refl
 
-spelled_so : (c : Cluster) (n : ℕ) (es : List Event) → n + length es ≤ 65536 → AreRecordable c es → spelled_from c n (map line_text es) ≡ record { events = es; bad = None }
+spelled_so : (c : Cluster) (n : ℕ) (es : List Event) → n + length es ≤ 65536 → AreRecordable c es
+    → spelled_from c n (map line_text es) ≡ record { events = es; bad = None }
 spelled_so c n [] most are = refl
-spelled_so c n (e ∷ es) most are = rw (within n (length es) most, line_back c e are.0, spelled_so c (n + 1) es (omega (arith, most)) are.1) refl
+spelled_so c n (e ∷ es) most are =
+    rw (within n (length es) most, line_back c e are.0, spelled_so c (n + 1) es (omega (arith, most)) are.1) refl
   where
     within : (n k : ℕ) → n + suc k ≤ 65536 → nat_lt 65535 n ≡ false
     within n k l = grind (arith, nat_tests)
@@ -294,5 +359,5 @@ unfolding schedule_of
 events_back c es most all =
     let are = each_of c es all in
     let lines = map line_text es in
-    ap (spelled_from c 1) (ap lines_of (sym (append-nil (lines_text lines))) ∙ lines_of_text lines [] (lines_are_free c es are) ∙ append-nil (map strip_carriage_return lines) ∙ lines_are_whole c es are)
-    ∙ spelled_so c 1 es (omega (arith, most)) are
+    ap (spelled_from c 1) (ap lines_of (sym (append-nil (lines_text lines))) ∙ lines_of_text lines [] (lines_are_free c es are)
+    ∙ append-nil (map strip_carriage_return lines) ∙ lines_are_whole c es are) ∙ spelled_so c 1 es (omega (arith, most)) are

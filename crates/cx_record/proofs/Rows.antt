@@ -1,5 +1,6 @@
 -- Words that are written one after the other are words with a byte between them; texts that begin with others.
-use Rattle.std.proofs.Common.{◌≡◌, ◌∙◌, ◌++◌, ℕ, List, [], ◌∷◌, OnOk, Result, append-nil, append_assoc, ap, drop, length, map, refl, subst, sym, take}
+use Rattle.std.proofs.Common.{◌≡◌, ◌∙◌, ◌++◌, ℕ, List, [], ◌∷◌, OnOk, Result, append-nil, append_assoc, ap, drop, length, map, refl, subst}
+use Rattle.std.proofs.Common.{sym, take}
 use Rattle.std.specs.Prelude.{decimal}
 use Rattle.std.proofs.lemmas.List.{take-append-drop}
 use Rattle.std.specs.List.{join_with_byte}
@@ -14,14 +15,14 @@ in_row_is b (word ∷ next ∷ words) = ap (λ (more : List ℕ). word ++ b ∷ 
 
 -- what begins with a text that begins with another begins with that
 pub through : (old now new : List ℕ) → take (length old) now ≡ old → take (length now) new ≡ now → take (length old) new ≡ old
-through old now new first second =
-    behind old (drop (length old) now) now new (sym (ap (λ l. l ++ drop (length old) now) (sym first) ∙ take-append-drop (length old) now)) second
+through old now new first second = behind old (drop (length old) now) now new
+    (sym (ap (λ l. l ++ drop (length old) now) (sym first) ∙ take-append-drop (length old) now)) second
 
 -- a number, and then the others each behind a comma, are the numbers with commas between them
-pub ids_put : {T E : Type 0} (result : Result T E) (text now new ids others : List ℕ) (first : ℕ) → ids ≡ first ∷ others → now ≡ text ++ decimal first
-    → OnOk result (new ≡ now ++ behind_each 44 (map decimal others)) → OnOk result (new ≡ text ++ ids_text ids)
+pub ids_put : {T E : Type 0} (result : Result T E) (text now new ids others : List ℕ) (first : ℕ) → ids ≡ first ∷ others → now
+    ≡ text ++ decimal first → OnOk result (new ≡ now ++ behind_each 44 (map decimal others)) → OnOk result (new ≡ text ++ ids_text ids)
 ids_put result text now new ids others first is put ok =
     let more = behind_each 44 (map decimal others) in
-    let row : now ++ more ≡ text ++ ids_text ids =
-    ap (λ l. l ++ more) put ∙ append_assoc text (decimal first) more ∙ ap (λ l. text ++ l) (in_row_is 44 (map decimal (first ∷ others)) ∙ ap (λ l. ids_text l) (sym is)) in
+    let row : now ++ more ≡ text ++ ids_text ids = ap (λ l. l ++ more) put ∙ append_assoc text (decimal first) more
+    ∙ ap (λ l. text ++ l) (in_row_is 44 (map decimal (first ∷ others)) ∙ ap (λ l. ids_text l) (sym is)) in
     subst (λ l. OnOk result (new ≡ l)) row ok

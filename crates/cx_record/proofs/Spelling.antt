@@ -1,5 +1,6 @@
 -- What each word of a line says in its place.
-use Rattle.std.proofs.Common.{◌≡◌, ◌∙◌, ◌<◌, ◌≤◌, ◌+◌, ◌-◌, ◌^◌, ◌==◌, not, nat_lt, nat_le, ℕ, Bool, true, false, List, [], ◌∷◌, ◌++◌, length, Ok, ap, refl, arith, append_assoc, eqb-true, if◌then◌else◌}
+use Rattle.std.proofs.Common.{◌≡◌, ◌∙◌, ◌<◌, ◌≤◌, ◌+◌, ◌-◌, ◌^◌, ◌==◌, not, nat_lt, nat_le, ℕ, Bool, true, false, List, [], ◌∷◌, ◌++◌}
+use Rattle.std.proofs.Common.{length, Ok, ap, refl, arith, append_assoc, eqb-true, if◌then◌else◌}
 use Rattle.std.specs.Prelude.{codes, decimal}
 use Rattle.std.specs.List.{list_all, slice_split}
 use Rattle.std.proofs.lemmas.Bool.{and_parts}
@@ -10,7 +11,8 @@ use Rattle.cx_base.specs.declared.cluster.Cluster.{Cluster}
 use Rattle.cx_base.specs.declared.event.Cut.{Cut}
 use Rattle.cx_base.specs.declared.event.Cut.TheVariants.{Whole, Torn, Kept}
 use Rattle.cx_base.specs.declared.role.Kind.{Kind}
-use Rattle.cx_base.specs.declared.role.Kind.TheVariants.{Client, Batcher, Leader, Proxy, Acceptor, Matchmaker, Replica, Unbatcher, Reader, Replacer}
+use Rattle.cx_base.specs.declared.role.Kind.TheVariants.{Client, Batcher, Leader, Proxy, Acceptor, Matchmaker, Replica, Unbatcher, Reader}
+use Rattle.cx_base.specs.declared.role.Kind.TheVariants.{Replacer}
 use Rattle.cx_base.specs.Name.{IsName, is_name, is_name_byte}
 use Rattle.cx_base.specs.Role.{kind_text, role, role_text}
 use Rattle.cx_script.specs.Grammar.{cut_at}
@@ -20,7 +22,8 @@ use Rattle.cx_script.specs.Words.{is_empty}
 use Rattle.cx_trace.specs.Trace.{seq_text}
 use Rattle.cx_record.specs.Lines.{cut_words}
 use Rattle.cx_record.proofs.Digits.{decimal_avoids, decimal_short, decimal_word, no_break, no_slash, number_back, some_digit}
-use Rattle.cx_record.proofs.Words.{AreWords, Avoids, IsWord, avoids_both, avoids_so, is_break, length_so, some_first, split_first, split_one}
+use Rattle.cx_record.proofs.Words.{AreWords, Avoids, IsWord, avoids_both, avoids_so, is_break, length_so, some_first, split_first}
+use Rattle.cx_record.proofs.Words.{split_one}
 
 -- ---- roles
 
@@ -75,7 +78,8 @@ pub index_back : (c : Cluster) (k : Kind) (i : ℕ) → IsIndex c k i → index_
 index_back c Client i is = rw (number_back i (small_index c Client i is), is) refl
 index_back c other i is = rw (number_back i (small_index c other i is), is) refl
 
-pub server_back : (c : Cluster) (k : Kind) (i : ℕ) → IsIndex c k i → not (is_client k) ≡ true → server_word c (role_text (role k i)) ≡ Ok (role k i)
+pub server_back : (c : Cluster) (k : Kind) (i : ℕ) → IsIndex c k i → not (is_client k) ≡ true
+    → server_word c (role_text (role k i)) ≡ Ok (role k i)
 server_back c Client i is off = cc
 server_back c other i is off = rw (number_back i (small_index c other i is), is) refl
 
@@ -103,15 +107,18 @@ seq_back seq floor small fits = go (floor + 1 == seq) refl
     alone : (seq floor : ℕ) → floor + 1 ≡ seq → seq - 1 ≡ floor
     alone seq floor is = omega (arith, is)
 
-    go : (test : Bool) → (floor + 1 == seq) ≡ test → seq_word (if test then decimal seq else decimal seq ++ codes "/" ++ decimal floor) ≡ Ok (seq, floor)
+    go : (test : Bool) → (floor + 1 == seq) ≡ test
+        → seq_word (if test then decimal seq else decimal seq ++ codes "/" ++ decimal floor) ≡ Ok (seq, floor)
     go true is =
-        let parts : slice_split (λ b. b == 47) (decimal seq) ≡ decimal seq ∷ [] = split_one (λ b. b == 47) (decimal seq) (decimal_avoids (λ b. b == 47) no_slash seq small) in
+        let parts : slice_split (λ b. b == 47) (decimal seq) ≡ decimal seq ∷ [] =
+        split_one (λ b. b == 47) (decimal seq) (decimal_avoids (λ b. b == 47) no_slash seq small) in
         rw (parts, number_back seq small, alone seq floor (eqb-true (floor + 1) seq is), fits) refl
     go false is =
         let wide = floor_small seq floor fits small in
         let parts : slice_split (λ b. b == 47) (decimal seq ++ 47 ∷ decimal floor) ≡ decimal seq ∷ decimal floor ∷ [] =
         split_first (λ b. b == 47) (decimal seq) 47 (decimal floor) (decimal_avoids (λ b. b == 47) no_slash seq small) refl
-        ∙ ap (λ (l : List (List ℕ)). decimal seq ∷ l) (split_one (λ b. b == 47) (decimal floor) (decimal_avoids (λ b. b == 47) no_slash floor wide)) in
+        ∙ ap (λ (l : List (List ℕ)). decimal seq ∷ l)
+        (split_one (λ b. b == 47) (decimal floor) (decimal_avoids (λ b. b == 47) no_slash floor wide)) in
         rw (with_slash seq floor, parts, number_back seq small, number_back floor wide, fits) refl
 
 pub seq_is_word : (seq floor : ℕ) → seq < 2 ^ 64 → floor_fits seq floor ≡ true → IsWord (seq_text seq floor)
@@ -122,10 +129,12 @@ seq_is_word seq floor small fits = go (floor + 1 == seq)
     go true = decimal_word seq small
     go false =
         let wide = floor_small seq floor fits small in
-        let short = length_so (decimal seq ++ codes "/") (decimal floor) 21 20 (length_so (decimal seq) (codes "/") 20 1 (decimal_short seq small) (omega arith)) (decimal_short floor wide) in
+        let short = length_so (decimal seq ++ codes "/") (decimal floor) 21 20
+        (length_so (decimal seq) (codes "/") 20 1 (decimal_short seq small) (omega arith)) (decimal_short floor wide) in
         record {
           some = some_first (decimal seq ++ codes "/") (decimal floor) (some_first (decimal seq) (codes "/") (some_digit seq small));
-          off = avoids_both is_break (decimal seq ++ codes "/") (decimal floor) (avoids_both is_break (decimal seq) (codes "/") (decimal_avoids is_break no_break seq small) (refl, tt)) (decimal_avoids is_break no_break floor wide);
+          off = avoids_both is_break (decimal seq ++ codes "/") (decimal floor) (avoids_both is_break (decimal seq) (codes "/")
+              (decimal_avoids is_break no_break seq small) (refl, tt)) (decimal_avoids is_break no_break floor wide);
           short = omega (arith, short);
         }
 
@@ -134,7 +143,8 @@ no_break_name b is = grind (arith, nat_tests)
 
 no_break_names : (bs : List ℕ) → list_all is_name_byte bs ≡ true → Avoids is_break bs
 no_break_names [] all = tt
-no_break_names (b ∷ bs) all = let p = and_parts (is_name_byte b) (list_all is_name_byte bs) all in (no_break_name b p.0, no_break_names bs p.1)
+no_break_names (b ∷ bs) all =
+    let p = and_parts (is_name_byte b) (list_all is_name_byte bs) all in (no_break_name b p.0, no_break_names bs p.1)
 
 some_so : (bs : List ℕ) → 1 ≤ length bs → is_empty bs ≡ false
 some_so [] some = absurd (omega (arith, some))

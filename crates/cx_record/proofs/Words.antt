@@ -1,5 +1,6 @@
 -- Words of a line: each has a byte and no break, and is short. Such words with one blank between them are cut into these words again.
-use Rattle.std.proofs.Common.{◌≡◌, ◌∙◌, ◌≤◌, ◌+◌, ◌*◌, ◌==◌, ◌||◌, not, ℕ, Bool, true, false, List, [], ◌∷◌, ◌++◌, length, filter, ap, refl, arith, length-append}
+use Rattle.std.proofs.Common.{◌≡◌, ◌∙◌, ◌≤◌, ◌+◌, ◌*◌, ◌==◌, ◌||◌, not, ℕ, Bool, true, false, List, [], ◌∷◌, ◌++◌, length, filter, ap, refl}
+use Rattle.std.proofs.Common.{arith, length-append}
 use Rattle.std.specs.List.{join_with_byte, list_all, slice_split}
 use Rattle.std.proofs.lemmas.Bool.{and_parts}
 use Rattle.std.proofs.lemmas.Bool.Decides.{nat_tests}
@@ -35,7 +36,8 @@ pub split_one : (p : ℕ → Bool) (w : List ℕ) → Avoids p w → slice_split
 split_one p [] off = refl
 split_one p (b ∷ w) off = rw (off.0, split_one p w off.1) refl
 
-pub split_first : (p : ℕ → Bool) (w : List ℕ) (y : ℕ) (rest : List ℕ) → Avoids p w → p y ≡ true → slice_split p (w ++ y ∷ rest) ≡ w ∷ slice_split p rest
+pub split_first : (p : ℕ → Bool) (w : List ℕ) (y : ℕ) (rest : List ℕ) → Avoids p w → p y ≡ true
+    → slice_split p (w ++ y ∷ rest) ≡ w ∷ slice_split p rest
 split_first p [] y rest off cut = rw cut refl
 split_first p (b ∷ w) y rest off cut = rw (off.0, split_first p w y rest off.1 cut) refl
 
@@ -43,15 +45,18 @@ abbrev pub AllAvoid : (ℕ → Bool) → List (List ℕ) → Type 0
 AllAvoid p [] = Unit {0}
 AllAvoid p (w ∷ ws) = Avoids p w × AllAvoid p ws
 
-pub split_joined : (p : ℕ → Bool) (y : ℕ) → p y ≡ true → (w : List ℕ) (ws : List (List ℕ)) → AllAvoid p (w ∷ ws) → slice_split p (join_with_byte y (w ∷ ws)) ≡ w ∷ ws
+pub split_joined : (p : ℕ → Bool) (y : ℕ) → p y ≡ true → (w : List ℕ) (ws : List (List ℕ)) → AllAvoid p (w ∷ ws)
+    → slice_split p (join_with_byte y (w ∷ ws)) ≡ w ∷ ws
 split_joined p y cut w [] off = split_one p w off.0
-split_joined p y cut w (v ∷ ws) off = split_first p w y (join_with_byte y (v ∷ ws)) off.0 cut ∙ ap (λ l. w ∷ l) (split_joined p y cut v ws off.1)
+split_joined p y cut w (v ∷ ws) off =
+    split_first p w y (join_with_byte y (v ∷ ws)) off.0 cut ∙ ap (λ l. w ∷ l) (split_joined p y cut v ws off.1)
 
 -- joined words avoid what each of them and the byte between them do
 pub joined_avoids : (p : ℕ → Bool) (y : ℕ) → p y ≡ false → (ws : List (List ℕ)) → AllAvoid p ws → Avoids p (join_with_byte y ws)
 joined_avoids p y keep [] off = tt
 joined_avoids p y keep (w ∷ []) off = off.0
-joined_avoids p y keep (w ∷ v ∷ ws) off = avoids_both p w (y ∷ join_with_byte y (v ∷ ws)) off.0 (keep, joined_avoids p y keep (v ∷ ws) off.1)
+joined_avoids p y keep (w ∷ v ∷ ws) off =
+    avoids_both p w (y ∷ join_with_byte y (v ∷ ws)) off.0 (keep, joined_avoids p y keep (v ∷ ws) off.1)
 
 -- ---- words
 
@@ -85,7 +90,8 @@ all_kept (w ∷ ws) are = rw (are.0.some, all_kept ws are.1) refl
 
 pub words_back : (ws : List (List ℕ)) → AreWords ws → words_of (join_with_byte 32 ws) ≡ ws
 words_back [] are = refl
-words_back (w ∷ ws) are = ap (filter keep) (split_joined is_blank 32 refl w ws (words_avoid is_blank blank_less (w ∷ ws) are)) ∙ all_kept (w ∷ ws) are
+words_back (w ∷ ws) are =
+    ap (filter keep) (split_joined is_blank 32 refl w ws (words_avoid is_blank blank_less (w ∷ ws) are)) ∙ all_kept (w ∷ ws) are
 
 -- a line of words is as long as they are, with a byte for each
 pub joined_short : (ws : List (List ℕ)) → AreWords ws → length (join_with_byte 32 ws) ≤ 65 * length ws

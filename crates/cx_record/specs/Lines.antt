@@ -45,10 +45,10 @@ order_words leader (Replace set) cut = codes "replace" ∷ role_text (role Leade
 
 -- the words of the line that spells an event
 abbrev pub line_words : Event → List (List ℕ)
-line_words (event.Write command batcher) =
-    codes "write" ∷ role_text (role Client command.client) ∷ seq_text command.seq command.floor ∷ role_text (role Batcher batcher) ∷ op_words command.op
-line_words (event.Read client seq floor reader replica key) =
-    codes "read" ∷ role_text (role Client client) ∷ seq_text seq floor ∷ role_text (role Reader reader) ∷ role_text (role Replica replica) ∷ key ∷ []
+line_words (event.Write command batcher) = codes "write" ∷ role_text (role Client command.client) ∷ seq_text command.seq command.floor
+    ∷ role_text (role Batcher batcher) ∷ op_words command.op
+line_words (event.Read client seq floor reader replica key) = codes "read" ∷ role_text (role Client client) ∷ seq_text seq floor
+    ∷ role_text (role Reader reader) ∷ role_text (role Replica replica) ∷ key ∷ []
 line_words (event.Session client seq floor replica key) =
     codes "session" ∷ role_text (role Client client) ∷ seq_text seq floor ∷ role_text (role Replica replica) ∷ key ∷ []
 line_words (event.Deliver number cut) = codes "deliver" ∷ decimal number ∷ cut_words cut

@@ -11,4 +11,5 @@ datagram_number bytes entries = lookup (λ (key : Vec ℕ Global). bytes_eq byte
 
 -- beside all bytes that were sent stands the number of the last datagram with them, and no others are there
 abbrev pub AreNumbers : List (Vec ℕ Global × ℕ) → List Letter → Type 0
-AreNumbers entries sent = (bytes : List ℕ) → datagram_number bytes entries ≡ option_map (λ (found : Numbered). found.number) (last_sent bytes sent)
+AreNumbers entries sent =
+    (bytes : List ℕ) → datagram_number bytes entries ≡ option_map (λ (found : Numbered). found.number) (last_sent bytes sent)

@@ -20,9 +20,10 @@ pub fn written_lines_are_read()
 
 /// A law, whatever the bytes: each event that they spell can be recorded.
 pub fn spelled_events_are_recordable()
-    ensures line { (c : Cluster) (line : List ℕ) (event : Event) → line_event c line ≡ Ok (Some event)
-        → IsRecordable c event }
-    ensures requests { (c : Cluster) (bytes : List ℕ) → All (IsRecordable c) (requests_of c bytes).events }
+    ensures line { (c : Cluster) (line : List ℕ) (event : Event)
+        → line_event c line ≡ Ok (Some event) → IsRecordable c event }
+    ensures requests { (c : Cluster) (bytes : List ℕ)
+        → All (IsRecordable c) (requests_of c bytes).events }
     ensures scripts { (c : Cluster) (bytes : List ℕ) (client : ℕ)
         → All (IsRecordable c) (script_of client (requests_of c bytes).events) }
 {}

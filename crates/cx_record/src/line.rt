@@ -73,7 +73,8 @@ fn put_cut(text: &mut Vec<u8>, cut: Cut) -> Result<(), NoMemory>
 
 // Ids, each behind a comma.
 fn put_more_ids(text: &mut Vec<u8>, ids: &[u16]) -> Result<(), NoMemory>
-    ensures ok { OnOk result (text.new.items ≡ text.old.items ++ behind_each 44 (map decimal ids.now)) }
+    ensures ok { OnOk result
+        (text.new.items ≡ text.old.items ++ behind_each 44 (map decimal ids.now)) }
     ensures err { OnErr result (take (length text.old.items) text.new.items ≡ text.old.items) }
 {
     for id in ids {
@@ -98,7 +99,8 @@ fn put_ids(text: &mut Vec<u8>, ids: &[u16]) -> Result<(), NoMemory>
 
 // Ids in a word, behind a blank.
 fn put_ids_word(text: &mut Vec<u8>, ids: &[u16]) -> Result<(), NoMemory>
-    ensures ok { OnOk result (text.new.items ≡ text.old.items ++ behind_each 32 (ids_text ids.now ∷ [])) }
+    ensures ok { OnOk result
+        (text.new.items ≡ text.old.items ++ behind_each 32 (ids_text ids.now ∷ [])) }
     ensures err { OnErr result (take (length text.old.items) text.new.items ≡ text.old.items) }
 {
     put(text, b" ")?;
@@ -146,7 +148,8 @@ fn put_replace(
     cut: Cut,
 ) -> Result<(), NoMemory>
     ensures ok { OnOk result (text.new.items ≡ text.old.items
-        ++ in_row 32 (codes "replace" ∷ role_text (role kind index) ∷ ids_text set.now ∷ cut_words cut)) }
+        ++ in_row 32
+        (codes "replace" ∷ role_text (role kind index) ∷ ids_text set.now ∷ cut_words cut)) }
     ensures err { OnErr result (take (length text.old.items) text.new.items ≡ text.old.items) }
 {
     put(text, b"replace")?;
@@ -261,7 +264,8 @@ fn put_words(text: &mut Vec<u8>, event: &Event) -> Result<(), NoMemory>
 
 #[tactic(auto, using(crate::proofs::Rows::in_row_is), unfolding(crate::specs::Lines::line_text))]
 fn put_line(text: &mut Vec<u8>, event: &Event) -> Result<(), NoMemory>
-    ensures ok { OnOk result (text.new.items ≡ text.old.items ++ line_text event.now ++ codes "\n") }
+    ensures ok { OnOk result
+        (text.new.items ≡ text.old.items ++ line_text event.now ++ codes "\n") }
     ensures err { OnErr result (take (length text.old.items) text.new.items ≡ text.old.items) }
 {
     put_words(text, event)?;

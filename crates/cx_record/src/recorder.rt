@@ -61,7 +61,8 @@ fn datagram_number(numbers: &IndexMap<Vec<u8>, u64>, bytes: &[u8]) -> Option<u64
 fn put_number(numbers: &mut IndexMap<Vec<u8>, u64>, bytes: Vec<u8>, number: u64)
     requires { 0 < spare numbers.old }
     ensures { (others : List ℕ) → datagram_number others numbers.new.entries
-        ≡ (if bytes_eq bytes.items others then Some number else datagram_number others numbers.old.entries) }
+        ≡ (if bytes_eq bytes.items others then Some number
+        else datagram_number others numbers.old.entries) }
 {
     match numbers.insert(bytes, number) {
         Ok(_) => {}

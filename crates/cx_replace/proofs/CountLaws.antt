@@ -7,7 +7,8 @@ use Rattle.cx_grid.specs.Quorum.{with_mark}
 swapped : (a b : ℕ) → (b == a) ≡ false → (a == b) ≡ false
 swapped a b h = grind (arith, nat_tests)
 
-longer_by : (id m : ℕ) (ms : List ℕ) (less : Bool) → nat_lt id m ≡ less → (m == id) ≡ false → length (with_mark id ms) ≡ length ms + 1 → length (with_mark id (m ∷ ms)) ≡ length (m ∷ ms) + 1
+longer_by : (id m : ℕ) (ms : List ℕ) (less : Bool) → nat_lt id m ≡ less → (m == id) ≡ false → length (with_mark id ms) ≡ length ms + 1
+    → length (with_mark id (m ∷ ms)) ≡ length (m ∷ ms) + 1
 longer_by id m ms true l new rest = let e = swapped id m new in rw (e, l) (omega arith)
 longer_by id m ms false l new rest = let e = swapped id m new in rw (e, l) (omega (arith, rest))
 

@@ -124,8 +124,8 @@ with_entry_rises e [] r = refl
 with_entry_rises e (x ∷ xs) r =
     let Rise = λ (ys : List Entry). rounds_rise ys ≡ true in
     let p = and_parts (list_all (comes x) xs) (rounds_rise xs) r in
-    by_test Rise (is_before e.round x.round) _ _ (λ below.
-    and_from (list_all (comes e) (x ∷ xs)) (rounds_rise (x ∷ xs)) (and_from (comes e x) (list_all (comes e) xs) below (comes_all e x xs below p.0)) r) (λ high.
+    by_test Rise (is_before e.round x.round) _ _ (λ below. and_from (list_all (comes e) (x ∷ xs)) (rounds_rise (x ∷ xs))
+    (and_from (comes e x) (list_all (comes e) xs) below (comes_all e x xs below p.0)) r) (λ high.
     by_test Rise (same_round e.round x.round) _ _ (λ _. r) (λ other.
     and_from (list_all (comes x) (with_entry e xs)) (rounds_rise (with_entry e xs))
     (with_entry_all (comes x) e xs (behind e.round x.round high other) p.0) (with_entry_rises e xs p.1)))
@@ -152,7 +152,8 @@ told_range (x ∷ halts) h =
     let p = and_parts (halt_fits x) (list_all (λ (h : Halt). halt_fits h) halts) h in
     let q = and_parts (round0.fits x.answer.watermark) (entries.fits x.answer.entries) p.0 in
     list_all-append (λ (e : Entry). entry_in_range e) x.answer.entries (entries_told (answers_of halts))
-    ∙ and_from (are_in_range x.answer.entries) (are_in_range (entries_told (answers_of halts))) (entries_apart x.answer.entries q.1).1 (told_range halts p.1)
+    ∙ and_from (are_in_range x.answer.entries) (are_in_range (entries_told (answers_of halts))) (entries_apart x.answer.entries q.1).1
+    (told_range halts p.1)
 
 filter_range : (p : Entry → Bool) (es : List Entry) → are_in_range es ≡ true → are_in_range (filter p es) ≡ true
 filter_range p [] h = refl

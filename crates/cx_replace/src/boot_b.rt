@@ -14,7 +14,8 @@ use cx_role::Outbox;
 impl Replacer {
     // Whether it lets the members of this set begin.
     fn boots(&self, set: &Set) -> bool
-        ensures { let s = self.now in result ≡ (is_booting s.volatile.mode && bytes_eq set.now s.volatile.next) }
+        ensures { let s = self.now in result
+            ≡ (is_booting s.volatile.mode && bytes_eq set.now s.volatile.next) }
     {
         matches!(self.mode, Replacing::Booting) && set.ids() == self.next.ids()
     }

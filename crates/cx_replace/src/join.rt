@@ -78,7 +78,8 @@ fn place_of(entries: &[Entry], round: Round) -> usize
 }
 
 fn is_at(entries: &[Entry], place: usize, round: Round) -> bool
-    ensures { result ≡ option_map_or (λ (e : EntryOf). same_round round e.round) (slice_get entries.now place) false }
+    ensures { result ≡ option_map_or (λ (e : EntryOf). same_round round e.round)
+        (slice_get entries.now place) false }
 {
     match entries.get(place) {
         Some(entry) => is_same(round, entry.round),
@@ -115,7 +116,8 @@ fn is_live(entry: &Entry, watermark: Round) -> bool
 
 // Puts the entries from the retirement watermark on.
 fn put_live(joined: &mut Vec<Entry>, entries: &[Entry], watermark: Round) -> Result<(), NoMemory>
-    ensures { IfOk result (λ _. joined.new.items ≡ sorted_into joined.old.items (entries_since watermark entries.now)) }
+    ensures { IfOk result (λ _.
+        joined.new.items ≡ sorted_into joined.old.items (entries_since watermark entries.now)) }
 {
     for entry in entries {
         if is_live(entry, watermark) {

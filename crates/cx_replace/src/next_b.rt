@@ -15,7 +15,8 @@ use cx_role::Outbox;
 impl Replacer {
     // Whether it has the next set decided under this ballot.
     fn decides(&self, ballot: Round) -> bool
-        ensures { let s = self.now in result ≡ (is_deciding s.volatile.mode && same_round ballot s.durable.own) }
+        ensures { let s = self.now in result
+            ≡ (is_deciding s.volatile.mode && same_round ballot s.durable.own) }
     {
         matches!(self.mode, Replacing::Deciding) && is_same(ballot, self.own)
     }

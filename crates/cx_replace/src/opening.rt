@@ -46,7 +46,8 @@ impl Replacer {
 
 // Whether a replacer with this last ballot may begin that one.
 fn may_begin(cluster: &Cluster, index: u16, own: Round, ballot: Round) -> bool
-    ensures { result ≡ (names_ballot cluster.now ballot && (ballot.id == index) && is_before own ballot && (ballot.s == 0)) }
+    ensures { result ≡ (names_ballot cluster.now ballot && (ballot.id == index)
+        && is_before own ballot && (ballot.s == 0)) }
 {
     names_ballot(cluster, ballot) && ballot.id == index && own.is_before(&ballot) && ballot.s == 0
 }

@@ -28,8 +28,8 @@ impl Replacer {
         requires empty { out.old.list ≡ [] }
         requires ballot { IsTrue (field.round.fits ballot) }
         ensures { let s = self.old in
-            IsStep K.append_gives K.tells replacer_rules s (begin_in s.me s.volatile set.now (Some ballot))
-            result self.new keeper.old keeper.new out.new.list }
+            IsStep K.append_gives K.tells replacer_rules s (begin_in s.me s.volatile set.now
+            (Some ballot)) result self.new keeper.old keeper.new out.new.list }
     {
         out.room(self.set.ids().len())?;
         keep(keeper, &mut self.live, &Record::Ballot { round: ballot })?;
@@ -53,8 +53,8 @@ impl Replacer {
         requires live { self.old.live ≡ true }
         requires empty { out.old.list ≡ [] }
         ensures step { let s = self.old in
-            IsStep K.append_gives K.tells replacer_rules s (replace_row s.cluster s.me s.durable s.volatile set.now)
-            result self.new keeper.old keeper.new out.new.list }
+            IsStep K.append_gives K.tells replacer_rules s (replace_row s.cluster s.me s.durable
+            s.volatile set.now) result self.new keeper.old keeper.new out.new.list }
         ensures fits { let s = self.old in
             MayKeep replacer_rules s (replace_row s.cluster s.me s.durable s.volatile set.now) }
     {

@@ -62,7 +62,8 @@ impl Model for Replacer {
       };
     } };
 
-    ghost invariant = { λ r. IsReplacer r.cluster r.index r.own r.mode r.halts.items r.counted r.watermark r.entries };
+    ghost invariant = { λ r.
+        IsReplacer r.cluster r.index r.own r.mode r.halts.items r.counted r.watermark r.entries };
 }
 
 impl Replacer {
@@ -71,8 +72,8 @@ impl Replacer {
         requires names { IsTrue (names self.old.cluster datagram.now) }
         requires empty { out.old.list ≡ [] }
         ensures { let s = self.old in
-            IsReply replacer_rules s (replacer_takes s.cluster s.me s.durable s.volatile datagram.now.from datagram.now.msg)
-            result self.new out.new.list }
+            IsReply replacer_rules s (replacer_takes s.cluster s.me s.durable s.volatile
+            datagram.now.from datagram.now.msg) result self.new out.new.list }
     {
         let from = datagram.from();
         match datagram.msg() {

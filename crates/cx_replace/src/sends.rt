@@ -17,7 +17,8 @@ use std::alloc::Global;
 pub fn ask_to_stop(replacer: u16, ballot: Round, set: &[u16], out: &mut Outbox)
     requires spare { length set.now ≤ out.old.spare }
     requires ballot { IsTrue (field.round.fits ballot) }
-    ensures { out.new.list ≡ out.old.list ++ map (stop_a_to (role kind.Replacer replacer) ballot) set.now }
+    ensures { out.new.list
+        ≡ out.old.list ++ map (stop_a_to (role kind.Replacer replacer) ballot) set.now }
 {
     for matchmaker in set {
         out.push(stop_a(replacer, *matchmaker, ballot));
@@ -28,7 +29,8 @@ pub fn ask_to_stop(replacer: u16, ballot: Round, set: &[u16], out: &mut Outbox)
 pub fn ask_to_accept(replacer: u16, ballot: Round, next: &Set, set: &[u16], out: &mut Outbox)
     requires spare { length set.now ≤ out.old.spare }
     requires ballot { IsTrue (field.round.fits ballot) }
-    ensures { out.new.list ≡ out.old.list ++ map (next_a_to (role kind.Replacer replacer) ballot next.now) set.now }
+    ensures { out.new.list
+        ≡ out.old.list ++ map (next_a_to (role kind.Replacer replacer) ballot next.now) set.now }
 {
     for matchmaker in set {
         out.push(next_a(replacer, *matchmaker, ballot, *next));
@@ -88,7 +90,8 @@ pub fn ask_to_begin(
 fn tell_leaders(replacer: u16, set: &Set, count: u16, out: &mut Outbox)
     requires spare { count ≤ out.old.spare }
     ensures list { out.new.list ≡ out.old.list
-        ++ map (λ l. sets_to (role kind.Replacer replacer) set.now (role kind.Leader l)) (below count) }
+        ++ map (λ l. sets_to (role kind.Replacer replacer) set.now (role kind.Leader l))
+        (below count) }
     ensures spare { out.old.spare ≤ out.new.spare + count }
 {
     for leader in 0..count {
@@ -99,7 +102,8 @@ fn tell_leaders(replacer: u16, set: &Set, count: u16, out: &mut Outbox)
 fn tell_readers(replacer: u16, set: &Set, count: u16, out: &mut Outbox)
     requires spare { count ≤ out.old.spare }
     ensures list { out.new.list ≡ out.old.list
-        ++ map (λ r. sets_to (role kind.Replacer replacer) set.now (role kind.Reader r)) (below count) }
+        ++ map (λ r. sets_to (role kind.Replacer replacer) set.now (role kind.Reader r))
+        (below count) }
     ensures spare { out.old.spare ≤ out.new.spare + count }
 {
     for reader in 0..count {
@@ -128,7 +132,8 @@ pub fn tell_all(
     out: &mut Outbox,
 ) -> Result<(), NoMemory>
     requires empty { out.old.list ≡ [] }
-    ensures sent { OnOk result (out.new.list ≡ sets_to_all cluster.now (role kind.Replacer replacer) set.now) }
+    ensures sent { OnOk result
+        (out.new.list ≡ sets_to_all cluster.now (role kind.Replacer replacer) set.now) }
     ensures none { OnErr result (out.new.list ≡ []) }
 {
     out.room(usize::from(cluster.leaders + cluster.readers + cluster.replacers))?;

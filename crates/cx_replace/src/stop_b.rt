@@ -20,7 +20,8 @@ impl Replacer {
     // Whether it waits for a matchmaker to stop under this ballot.
     fn stops(&self, matchmaker: u16, ballot: Round) -> bool
         ensures { let s = self.now in result
-            ≡ (is_stopping s.volatile.mode && same_round ballot s.durable.own && is_in matchmaker s.volatile.set) }
+            ≡ (is_stopping s.volatile.mode && same_round ballot s.durable.own
+            && is_in matchmaker s.volatile.set) }
     {
         matches!(self.mode, Replacing::Stopping)
             && is_same(ballot, self.own)
@@ -34,8 +35,8 @@ impl Replacer {
         requires halt { IsTrue (halt_fits halt) }
         requires empty { out.old.list ≡ [] }
         ensures { let s = self.old in let v = with_halt halt s.volatile in
-            IsReply replacer_rules s (decide s.me s.durable v (joined_entries v.halts) (to_decide v.next v.halts))
-            result self.new out.new.list }
+            IsReply replacer_rules s (decide s.me s.durable v (joined_entries v.halts)
+            (to_decide v.next v.halts)) result self.new out.new.list }
     {
         self.halts.reserve(1)?;
         let list = join(self.alloc, &self.halts, &halt)?;
@@ -63,7 +64,8 @@ impl Replacer {
         requires halt { IsTrue (halt_fits halt) }
         requires empty { out.old.list ≡ [] }
         ensures { let s = self.old in let v = with_halt halt s.volatile in
-            IsReply replacer_rules s (halt_counted s.cluster s.me s.durable v) result self.new out.new.list }
+            IsReply replacer_rules s (halt_counted s.cluster s.me s.durable v) result self.new
+            out.new.list }
     {
         if self.halts.len() < usize::from(self.cluster.f) {
             self.halts.push(halt)?;
@@ -88,8 +90,8 @@ impl Replacer {
         requires empty { out.old.list ≡ [] }
         ensures { let s = self.old in
             IsReply replacer_rules s
-            (stop_b_row s.cluster s.me s.durable s.volatile from ballot watermark entries.now accepted set.now)
-            result self.new out.new.list }
+            (stop_b_row s.cluster s.me s.durable s.volatile from ballot watermark entries.now
+            accepted set.now) result self.new out.new.list }
     {
         if !self.stops(from.index, ballot) {
             return Ok(Why::Old);

@@ -13,7 +13,8 @@ impl Replacer {
     /// gives its own up.
     pub(crate) fn stop_nack(&mut self, ballot: Round, other: Round) -> Why
         ensures { let s = self.old in
-            Replies replacer_rules s (stop_nack_row s.durable s.volatile ballot other) result self.new [] }
+            Replies replacer_rules s (stop_nack_row s.durable s.volatile ballot other) result
+            self.new [] }
     {
         self.seen = later_round(self.seen, other);
         if !is_same(ballot, self.own)

@@ -15,7 +15,8 @@ impl Replacer {
     pub(crate) fn tell_again(&self, out: &mut Outbox) -> Result<Why, NoMemory>
         requires empty { out.old.list ≡ [] }
         ensures { let s = self.now in
-            IsReply replacer_rules s (tick_in s.cluster s.me s.durable s.volatile replacing.Idle) result s out.new.list }
+            IsReply replacer_rules s (tick_in s.cluster s.me s.durable s.volatile replacing.Idle)
+            result s out.new.list }
     {
         if !self.set.is_above(&Set::first(&self.cluster)) {
             return Ok(Why::Idle);
@@ -29,7 +30,8 @@ impl Replacer {
         requires stopping { IsTrue (is_stopping self.now.volatile.mode) }
         requires empty { out.old.list ≡ [] }
         ensures { let s = self.now in
-            IsReply replacer_rules s (tick_in s.cluster s.me s.durable s.volatile replacing.Stopping) result s out.new.list }
+            IsReply replacer_rules s
+            (tick_in s.cluster s.me s.durable s.volatile replacing.Stopping) result s out.new.list }
     {
         let ids = self.set.ids();
         out.room(ids.len())?;
@@ -42,7 +44,8 @@ impl Replacer {
         requires deciding { IsTrue (is_deciding self.now.volatile.mode) }
         requires empty { out.old.list ≡ [] }
         ensures { let s = self.now in
-            IsReply replacer_rules s (tick_in s.cluster s.me s.durable s.volatile replacing.Deciding) result s out.new.list }
+            IsReply replacer_rules s
+            (tick_in s.cluster s.me s.durable s.volatile replacing.Deciding) result s out.new.list }
     {
         let ids = self.set.ids();
         out.room(ids.len())?;
@@ -54,7 +57,8 @@ impl Replacer {
     pub(crate) fn begin_again(&self, out: &mut Outbox) -> Result<Why, NoMemory>
         requires empty { out.old.list ≡ [] }
         ensures { let s = self.now in
-            IsReply replacer_rules s (tick_in s.cluster s.me s.durable s.volatile replacing.Booting) result s out.new.list }
+            IsReply replacer_rules s (tick_in s.cluster s.me s.durable s.volatile replacing.Booting)
+            result s out.new.list }
     {
         let (next, watermark) = (&self.next, self.watermark);
         ask_to_begin(self.alloc, self.index, next, watermark, &self.entries, out)?;

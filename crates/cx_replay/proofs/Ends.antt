@@ -42,7 +42,8 @@ module _ (left left_after : Option (List ℕ)) (reads reads_after : ℕ) (out ou
   abbrev Ends : Status → Type 0
   Ends s = Replayed left left_after reads reads_after out out_after writes writes_after s
 
-  pub done_replayed : IfSome left (λ all. Prints (input_of all) out out_after) → IsAtEnd left_after → reads_after ≡ reads → writes_after ≡ writes → Ends status.Done
+  pub done_replayed : IfSome left (λ all. Prints (input_of all) out out_after) → IsAtEnd left_after → reads_after ≡ reads
+      → writes_after ≡ writes → Ends status.Done
   done_replayed prints at_end read wrote =
       record {
         done = λ e. prints;
@@ -59,7 +60,8 @@ module _ (left left_after : Option (List ℕ)) (reads reads_after : ℕ) (out ou
         writes_stay = λ other. wrote;
       }
 
-  pub bad_replayed : (n : ℕ) → IfSome left (λ all. bad_line (input_of all) ≡ Some n) → IfSome left (λ all. Appends out out_after (trace_of (input_of all))) → reads_after ≡ reads → writes_after ≡ writes → Ends (status.BadInput n)
+  pub bad_replayed : (n : ℕ) → IfSome left (λ all. bad_line (input_of all) ≡ Some n) → IfSome left
+      (λ all. Appends out out_after (trace_of (input_of all))) → reads_after ≡ reads → writes_after ≡ writes → Ends (status.BadInput n)
   bad_replayed n bad traced read wrote =
       record {
         done = λ e. absurd (omega (arith, ap kind e));
@@ -93,7 +95,8 @@ module _ (left left_after : Option (List ℕ)) (reads reads_after : ℕ) (out ou
         writes_stay = λ other. wrote;
       }
 
-  pub write_replayed : Rises writes writes_after → IfSome left (λ all. AppendsPart out out_after (text_of (input_of all))) → Ends status.WriteFault
+  pub write_replayed : Rises writes writes_after → IfSome left (λ all. AppendsPart out out_after (text_of (input_of all)))
+      → Ends status.WriteFault
   write_replayed rises part =
       record {
         done = λ e. absurd (omega (arith, ap kind e));
@@ -110,7 +113,8 @@ module _ (left left_after : Option (List ℕ)) (reads reads_after : ℕ) (out ou
         writes_stay = λ other. absurd (other refl);
       }
 
-  pub memory_replayed : IfSome left (λ all. AppendsPart out out_after (text_of (input_of all))) → writes_after ≡ writes → Ends status.NoMemory
+  pub memory_replayed : IfSome left (λ all. AppendsPart out out_after (text_of (input_of all))) → writes_after ≡ writes
+      → Ends status.NoMemory
   memory_replayed part wrote =
       record {
         done = λ e. absurd (omega (arith, ap kind e));
@@ -128,14 +132,20 @@ module _ (left left_after : Option (List ℕ)) (reads reads_after : ℕ) (out ou
       }
 
 -- each other status than Done, bad input and out of memory has its cause
-pub completes : (left left_after : Option (List ℕ)) (reads reads_after : ℕ) (out out_after : Option (List ℕ)) (writes writes_after : ℕ) (s : Status)
-    → Replayed left left_after reads reads_after out out_after writes writes_after s → ComesOfReplay s → ReplayCompletes left reads reads_after writes writes_after s
+pub completes : (left left_after : Option (List ℕ)) (reads reads_after : ℕ) (out out_after : Option (List ℕ)) (writes writes_after : ℕ)
+    (s : Status)
+    → Replayed left left_after reads reads_after out out_after writes writes_after s → ComesOfReplay s
+    → ReplayCompletes left reads reads_after writes writes_after s
 completes None left_after reads reads_after out out_after writes writes_after s r comes = tt
-completes (Some all) left_after reads reads_after out out_after writes writes_after status.Done r comes = λ no_read no_write. inl (sym (ap replay_status (r.done refl).0))
+completes (Some all) left_after reads reads_after out out_after writes writes_after status.Done r comes =
+    λ no_read no_write. inl (sym (ap replay_status (r.done refl).0))
 completes (Some all) left_after reads reads_after out out_after writes writes_after status.BadWords r comes = absurd comes
-completes (Some all) left_after reads reads_after out out_after writes writes_after (status.BadInput line) r comes = λ no_read no_write. inl (sym (ap replay_status (r.bad_input line refl)))
-completes (Some all) left_after reads reads_after out out_after writes writes_after status.ReadFault r comes = λ no_read no_write. absurd (no_read (r.read_fault refl))
-completes (Some all) left_after reads reads_after out out_after writes writes_after status.WriteFault r comes = λ no_read no_write. absurd (no_write (r.write_fault refl))
+completes (Some all) left_after reads reads_after out out_after writes writes_after (status.BadInput line) r comes =
+    λ no_read no_write. inl (sym (ap replay_status (r.bad_input line refl)))
+completes (Some all) left_after reads reads_after out out_after writes writes_after status.ReadFault r comes =
+    λ no_read no_write. absurd (no_read (r.read_fault refl))
+completes (Some all) left_after reads reads_after out out_after writes writes_after status.WriteFault r comes =
+    λ no_read no_write. absurd (no_write (r.write_fault refl))
 completes (Some all) left_after reads reads_after out out_after writes writes_after status.LinkFault r comes = absurd comes
 completes (Some all) left_after reads reads_after out out_after writes writes_after (status.StoreFault role) r comes = absurd comes
 completes (Some all) left_after reads reads_after out out_after writes writes_after status.Turns r comes = absurd comes

@@ -17,7 +17,8 @@ unfolding next_state
 made_is seed zero = refl
 made_is seed (suc n) = ap (λ (k : ℕ). k + 1) (made_is seed n) ∙ add-one n
 
-pub gen_run_more : (seed n : ℕ) → run gen_cluster (gen_events seed (n + 1)) ≡ step (run gen_cluster (gen_events seed n)) (next_event (gen_state seed n) (length (run gen_cluster (gen_events seed n)).sent))
+pub gen_run_more : (seed n : ℕ) → run gen_cluster (gen_events seed (n + 1))
+    ≡ step (run gen_cluster (gen_events seed n)) (next_event (gen_state seed n) (length (run gen_cluster (gen_events seed n)).sent))
 gen_run_more seed n =
     ap (λ (k : ℕ). run gen_cluster (gen_events seed k)) (add-one n)
     ∙ run_push (start gen_cluster) (gen_events seed n) (next_event (gen_state seed n) (length (run gen_cluster (gen_events seed n)).sent))

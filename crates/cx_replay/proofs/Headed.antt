@@ -23,22 +23,27 @@ IsBadHeader left = IfSome left (λ all. input_of all ≡ BadHeader)
 
 pub no_header : (left : Option (List ℕ)) → IfSome left (λ all. header_and_rest all ≡ None) → IsBadHeader left
 unfolding whole_input
-no_header left none = some_map left (λ all. header_and_rest all ≡ None) (λ all. input_of all ≡ BadHeader) (λ all is. ap (λ found. of_header header_says found BadHeader) is) none
+no_header left none = some_map left (λ all. header_and_rest all ≡ None) (λ all. input_of all ≡ BadHeader)
+    (λ all is. ap (λ found. of_header header_says found BadHeader) is) none
 
 input_is : (bytes text rest : List ℕ) → header_and_rest bytes ≡ Some (text, rest) → input_of bytes ≡ behind (header_cluster text) rest
 unfolding whole_input
 input_is bytes text rest is = ap (λ found. of_header header_says found BadHeader) is
 
-pub header_refused : (left now : Option (List ℕ)) (buffered text : List ℕ) → HasHeader left now buffered text → HeaderSays None (header_cluster text) → IsBadHeader left
+pub header_refused : (left now : Option (List ℕ)) (buffered text : List ℕ) → HasHeader left now buffered text
+    → HeaderSays None (header_cluster text) → IsBadHeader left
 header_refused left now buffered text h says =
     of_all left now (h.bytes ++ buffered) (λ all. input_of all ≡ BadHeader) h.consumed
-    (λ more. ap input_of (append_assoc h.bytes buffered more) ∙ input_is (h.bytes ++ (buffered ++ more)) text (buffered ++ more) (h.header (buffered ++ more)) ∙ ap (λ said. behind said (buffered ++ more)) says.1)
+    (λ more. ap input_of (append_assoc h.bytes buffered more) ∙ input_is (h.bytes ++ (buffered ++ more)) text (buffered ++ more)
+    (h.header (buffered ++ more)) ∙ ap (λ said. behind said (buffered ++ more)) says.1)
 
-pub alone_refused : (left now : Option (List ℕ)) (text : List ℕ) → IsHeader left now text → HeaderSays None (header_cluster text) → IsBadHeader left
-alone_refused left now text h says =
-    Consumes-whole left now h.bytes (λ all. input_of all ≡ BadHeader) h.consumed h.at_end (input_is h.bytes text [] h.header ∙ ap (λ said. behind said []) says.1)
+pub alone_refused : (left now : Option (List ℕ)) (text : List ℕ) → IsHeader left now text → HeaderSays None (header_cluster text)
+    → IsBadHeader left
+alone_refused left now text h says = Consumes-whole left now h.bytes (λ all. input_of all ≡ BadHeader) h.consumed h.at_end
+    (input_is h.bytes text [] h.header ∙ ap (λ said. behind said []) says.1)
 
-pub header_taken : (left now : Option (List ℕ)) (buffered text : List ℕ) (c : Cluster) → HasHeader left now buffered text → HeaderSays (Some c) (header_cluster text) → StandsBehind left now buffered c
+pub header_taken : (left now : Option (List ℕ)) (buffered text : List ℕ) (c : Cluster) → HasHeader left now buffered text
+    → HeaderSays (Some c) (header_cluster text) → StandsBehind left now buffered c
 header_taken left now buffered text c h says =
     record {
       bytes = h.bytes;
@@ -47,7 +52,8 @@ header_taken left now buffered text c h says =
       input = λ more. input_is (h.bytes ++ more) text more (h.header more) ∙ ap (λ said. behind said more) says;
     }
 
-pub alone_taken : (left now old : Option (List ℕ)) (text : List ℕ) (c : Cluster) → IsHeader left now text → HeaderSays (Some c) (header_cluster text) → AtEnd c left now (start c) old old
+pub alone_taken : (left now old : Option (List ℕ)) (text : List ℕ) (c : Cluster) → IsHeader left now text
+    → HeaderSays (Some c) (header_cluster text) → AtEnd c left now (start c) old old
 alone_taken left now old text c h says =
     ends_alone c left now old h.bytes h.consumed h.at_end (input_is h.bytes text [] h.header ∙ ap (λ said. behind said []) says)
 
@@ -56,5 +62,5 @@ module _ (left now : Option (List ℕ)) (reads reads_after : ℕ) (out : Option 
   refused bad read =
       bad_replayed left now reads reads_after out out writes writes 0
       (some_map left (λ all. input_of all ≡ BadHeader) (λ all. bad_line (input_of all) ≡ Some 0) (λ all is. ap bad_line is) bad)
-      (some_map left (λ all. input_of all ≡ BadHeader) (λ all. Appends out out (trace_of (input_of all))) (λ all is. subst (Appends out out) (sym (ap trace_of is)) (Appends-nil out)) bad)
-      read refl
+      (some_map left (λ all. input_of all ≡ BadHeader) (λ all. Appends out out (trace_of (input_of all)))
+      (λ all is. subst (Appends out out) (sym (ap trace_of is)) (Appends-nil out)) bad) read refl

@@ -38,7 +38,8 @@ lawful_behind (Ok c) rest = lawful_along c (schedule_of c rest).events (schedule
 lawful_behind (Err fault) rest = tt
 
 -- what a header and the bytes after it say, where there is a header
-lawful_header : (parts : Option (List ℕ × List ℕ)) (without : ReplayInput) → IsLawfulRun without → IsLawfulRun (of_header header_says parts without)
+lawful_header : (parts : Option (List ℕ × List ℕ)) (without : ReplayInput) → IsLawfulRun without
+    → IsLawfulRun (of_header header_says parts without)
 lawful_header None without h = h
 lawful_header (Some parts) without h = lawful_behind (header_cluster parts.0) parts.1
 
@@ -49,8 +50,8 @@ bad_or_nothing false = tt
 lawful_heard : (ended : Bool) (bytes : List ℕ) → IsLawfulRun (input_says ended bytes)
 unfolding whole_input begun_input
 lawful_heard true bytes = lawful_header (header_and_rest bytes) BadHeader tt
-lawful_heard false bytes =
-    lawful_header (header_and_rest (settled_text 1024 bytes)) (if is_long_header (settled_text 16384 bytes) then BadHeader else Nothing) (bad_or_nothing (is_long_header (settled_text 16384 bytes)))
+lawful_heard false bytes = lawful_header (header_and_rest (settled_text 1024 bytes))
+    (if is_long_header (settled_text 16384 bytes) then BadHeader else Nothing) (bad_or_nothing (is_long_header (settled_text 16384 bytes)))
 
 pub lawful_input : (left left_after : Option (List ℕ)) → IsLawfulInput left left_after
 lawful_input left left_after bytes given ended = lawful_heard ended bytes
@@ -60,7 +61,8 @@ generated_taken seed zero = refl
 generated_taken seed (suc count) =
     let before = gen_events seed count in
     let next = next_event (gen_state seed count) (length (run gen_cluster before).sent) in
-    list_all-append is_valid_event before (next ∷ []) ∙ rw (generated_taken seed count, (generated_is_good (gen_state seed count) (length (run gen_cluster before).sent)).taken) refl
+    list_all-append is_valid_event before (next ∷ [])
+    ∙ rw (generated_taken seed count, (generated_is_good (gen_state seed count) (length (run gen_cluster before).sent)).taken) refl
 
 pub lawful_generated : (seed count : ℕ) → IsLawfulGenerated seed count
 lawful_generated seed count = lawful_along gen_cluster (gen_events seed count) (generated_taken seed count)

@@ -1,5 +1,6 @@
 -- A text is written piece by piece.
-use Rattle.std.proofs.Common.{◌≡◌, ◌+◌, ◌<◌, ◌++◌, ◌∷◌, [], ℕ, List, length, drop, map, slice_get, Option, Some, Result, Ok, Err, IsOk, OnOk, inl, inr, refl, ap, sym, ◌∙◌, subst, append_assoc, append-nil, arith}
+use Rattle.std.proofs.Common.{◌≡◌, ◌+◌, ◌<◌, ◌++◌, ◌∷◌, [], ℕ, List, length, drop, map, slice_get, Option, Some, Result, Ok, Err, IsOk}
+use Rattle.std.proofs.Common.{OnOk, inl, inr, refl, ap, sym, ◌∙◌, subst, append_assoc, append-nil, arith}
 use Rattle.std.specs.Io.KnownBytes.{Appends}
 use Rattle.std.proofs.KnownBytes.{Appends-nil, Appends-trans}
 use Rattle.std.proofs.lemmas.Bool.{false≢true}
@@ -29,10 +30,14 @@ pub writing_begins : (text : List ℕ) (old : Option (List ℕ)) (writes : ℕ) 
 writing_begins text old writes = record { done = []; whole = refl; written = Appends-nil old; still = refl }
 
 -- more is printed
-pub writing_grows : (text rest more : List ℕ) (old now : Option (List ℕ)) (writes writes_now : ℕ) → Writing text rest old now writes writes_now
-    → Writing (text ++ more) (rest ++ more) old now writes writes_now
-writing_grows text rest more old now writes writes_now w =
-    record { done = w.done; whole = sym (append_assoc w.done rest more) ∙ ap (λ l. l ++ more) w.whole; written = w.written; still = w.still }
+pub writing_grows : (text rest more : List ℕ) (old now : Option (List ℕ)) (writes writes_now : ℕ)
+    → Writing text rest old now writes writes_now → Writing (text ++ more) (rest ++ more) old now writes writes_now
+writing_grows text rest more old now writes writes_now w = record {
+  done = w.done;
+  whole = sym (append_assoc w.done rest more) ∙ ap (λ l. l ++ more) w.whole;
+  written = w.written;
+  still = w.still;
+}
 
 module _ (text : List ℕ) (old now next : Option (List ℕ)) (writes writes_now writes_next : ℕ) where
   -- what is to come is written, or a part of it
@@ -43,8 +48,8 @@ module _ (text : List ℕ) (old now next : Option (List ℕ)) (writes writes_now
   writing_part rest w p = subst (AppendsPart old next) w.whole (then_part old now next w.done rest w.written p)
 
   -- the next piece is written
-  pub writing_goes : (piece rest : List ℕ) (done : Unit {0}) → Writing text (piece ++ rest) old now writes writes_now → WritesText piece now next writes_now writes_next (Ok done)
-      → Writing text rest old next writes writes_next
+  pub writing_goes : (piece rest : List ℕ) (done : Unit {0}) → Writing text (piece ++ rest) old now writes writes_now
+      → WritesText piece now next writes_now writes_next (Ok done) → Writing text rest old next writes writes_next
   writing_goes piece rest done w p = record {
     done = w.done ++ piece;
     whole = append_assoc w.done piece rest ∙ w.whole;
@@ -53,26 +58,31 @@ module _ (text : List ℕ) (old now next : Option (List ℕ)) (writes writes_now
   }
 
   -- or a part of it
-  pub writing_stops : (piece rest : List ℕ) (s : Status) → Writing text (piece ++ rest) old now writes writes_now → WritesText piece now next writes_now writes_next (Err s)
-      → WritesText text old next writes writes_next (Err s)
+  pub writing_stops : (piece rest : List ℕ) (s : Status) → Writing text (piece ++ rest) old now writes writes_now
+      → WritesText piece now next writes_now writes_next (Err s) → WritesText text old next writes writes_next (Err s)
   writing_stops piece rest s w p = (
     subst (AppendsPart old next) w.whole (then_part old now next w.done (piece ++ rest) w.written (part_of_more now next piece rest p.0)),
     subst (λ k. StopsWriting k writes_next s) w.still p.1,
   )
 
   -- the last piece
-  pub writing_last : (piece : List ℕ) (result : Result (Unit {0}) Status) → Writing text piece old now writes writes_now → WritesText piece now next writes_now writes_next result
-      → WritesText text old next writes writes_next result
-  writing_last piece (Ok done) w p = (subst (Appends old next) w.whole (Appends-trans old now next w.done piece w.written p.0), p.1 ∙ w.still)
-  writing_last piece (Err s) w p =
-      (subst (AppendsPart old next) w.whole (then_part old now next w.done piece w.written p.0), subst (λ k. StopsWriting k writes_next s) w.still p.1)
+  pub writing_last : (piece : List ℕ) (result : Result (Unit {0}) Status) → Writing text piece old now writes writes_now
+      → WritesText piece now next writes_now writes_next result → WritesText text old next writes writes_next result
+  writing_last piece (Ok done) w p =
+      (subst (Appends old next) w.whole (Appends-trans old now next w.done piece w.written p.0), p.1 ∙ w.still)
+  writing_last piece (Err s) w p = (
+    subst (AppendsPart old next) w.whole (then_part old now next w.done piece w.written p.0),
+    subst (λ k. StopsWriting k writes_next s) w.still p.1,
+  )
 
 -- nothing is left to write
-pub writing_ends : (text : List ℕ) (old now : Option (List ℕ)) (writes writes_now : ℕ) (done : Unit {0}) → Writing text [] old now writes writes_now → WritesText text old now writes writes_now (Ok done)
+pub writing_ends : (text : List ℕ) (old now : Option (List ℕ)) (writes writes_now : ℕ) (done : Unit {0})
+    → Writing text [] old now writes writes_now → WritesText text old now writes writes_now (Ok done)
 writing_ends text old now writes writes_now done w = (subst (Appends old now) (sym (append-nil w.done) ∙ w.whole) w.written, w.still)
 
 -- the value of a slot, and those after it
-pub at_slot : (values : List Value) (slot : ℕ) → slot < length values → (value : Value) × (slice_get values slot ≡ Some value) × (drop slot values ≡ value ∷ drop (slot + 1) values)
+pub at_slot : (values : List Value) (slot : ℕ) → slot < length values
+    → (value : Value) × (slice_get values slot ≡ Some value) × (drop slot values ≡ value ∷ drop (slot + 1) values)
 at_slot values slot inside = elim (slice_get_cases values slot).1 [
   | inl h ↦ (h.0, h.2, drop_more values slot h.0 inside ∙ ap (λ (v : Value). v ∷ drop (slot + 1) values) h.3)
   | inr p ↦ absurd (omega (arith, p.0))
@@ -83,14 +93,15 @@ where_ok (Ok x) ok p = p
 where_ok (Err e) ok p = absurd (false≢true ok)
 
 -- the summary is its first line, then the slots, then the replicas
-pub summary_parts : (w : World) (chosen : List Value) → chosen ≡ chosen_prefix w.kept
-    → summary w ≡ chosen_text (length chosen) ++ (slots_text 0 [] chosen ++ replicas_text 0 (map (λ p. folded_of p w.kept) (below w.cluster.replicas)))
+pub summary_parts : (w : World) (chosen : List Value) → chosen ≡ chosen_prefix w.kept → summary w
+    ≡ chosen_text (length chosen) ++ (slots_text 0 [] chosen ++ replicas_text 0 (map (λ p. folded_of p w.kept) (below w.cluster.replicas)))
 unfolding summary_text
-summary_parts w chosen e =
-    rw e (append_assoc (chosen_text (length (chosen_prefix w.kept))) (slots_text 0 [] (chosen_prefix w.kept)) (replicas_text 0 (map (λ p. folded_of p w.kept) (below w.cluster.replicas))))
+summary_parts w chosen e = rw e (append_assoc (chosen_text (length (chosen_prefix w.kept))) (slots_text 0 [] (chosen_prefix w.kept))
+    (replicas_text 0 (map (λ p. folded_of p w.kept) (below w.cluster.replicas))))
 
 -- a summary that isn't written whole
-pub sums_stopped : (w : World) (out out_after : Option (List ℕ)) (writes writes_after : ℕ) (s : Status) → WritesText (summary w) out out_after writes writes_after (Err s) → Sums w out out_after writes writes_after s
+pub sums_stopped : (w : World) (out out_after : Option (List ℕ)) (writes writes_after : ℕ) (s : Status)
+    → WritesText (summary w) out out_after writes writes_after (Err s) → Sums w out out_after writes writes_after s
 sums_stopped w out out_after writes writes_after status.WriteFault p = p
 sums_stopped w out out_after writes writes_after status.NoMemory p = p
 sums_stopped w out out_after writes writes_after status.Done p = absurd p.1

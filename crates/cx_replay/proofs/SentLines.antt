@@ -6,14 +6,16 @@ use Rattle.cx_letter.specs.Letter.{Letter}
 use Rattle.cx_trace.specs.Trace.{datagrams_text}
 use Rattle.cx_replay.specs.Sending.{sent_line_text}
 
-lines_from : (number n m : ℕ) (sent : List Letter) → m ≡ suc n → n < length sent → datagrams_text number (drop n sent) ≡ sent_line_text number (slice_get sent n) ++ datagrams_text (number + 1) (drop m sent)
+lines_from : (number n m : ℕ) (sent : List Letter) → m ≡ suc n → n < length sent
+    → datagrams_text number (drop n sent) ≡ sent_line_text number (slice_get sent n) ++ datagrams_text (number + 1) (drop m sent)
 lines_from number n m [] next l = absurd (omega (arith, l))
 lines_from number zero m (d ∷ sent) next l = rw next refl
 lines_from number (suc n) zero (d ∷ sent) next l = absurd (omega (arith, next))
 lines_from number (suc n) (suc m) (d ∷ sent) next l = lines_from number n m sent (omega (arith, next)) (omega (arith, l))
 
 -- the lines from a number on begin with its own
-pub next_lines : (n : ℕ) (sent : List Letter) → n < length sent → datagrams_text n (drop n sent) ≡ sent_line_text n (slice_get sent n) ++ datagrams_text (n + 1) (drop (n + 1) sent)
+pub next_lines : (n : ℕ) (sent : List Letter) → n < length sent
+    → datagrams_text n (drop n sent) ≡ sent_line_text n (slice_get sent n) ++ datagrams_text (n + 1) (drop (n + 1) sent)
 next_lines n sent l = lines_from n n (n + 1) sent (omega arith) l
 
 -- none are left after the last

@@ -1,5 +1,6 @@
 -- The text of a run is written in parts.
-use Rattle.std.proofs.Common.{◌≡◌, ◌+◌, ◌++◌, ℕ, List, [], ◌∷◌, length, take, take_all, Option, refl, sym, ap, ◌∙◌, subst, inl, inr, arith, append_assoc}
+use Rattle.std.proofs.Common.{◌≡◌, ◌+◌, ◌++◌, ℕ, List, [], ◌∷◌, length, take, take_all, Option, refl, sym, ap, ◌∙◌, subst, inl, inr, arith}
+use Rattle.std.proofs.Common.{append_assoc}
 use Rattle.std.specs.Io.KnownBytes.{Appends}
 use Rattle.std.proofs.KnownBytes.{Appends-nil, Appends-trans}
 use Rattle.std.proofs.lemmas.Bool.{cases_lt}
@@ -12,8 +13,8 @@ use Rattle.cx_replay.specs.Replay.{step_text, trace}
 
 pub trace_append : (w : World) (es more : List Event) → trace w (es ++ more) ≡ trace w es ++ trace (run_from w es) more
 trace_append w [] more = refl
-trace_append w (e ∷ es) more =
-    ap (λ l. step_text w e ++ l) (trace_append (step w e) es more) ∙ sym (append_assoc (step_text w e) (trace (step w e) es) (trace (run_from (step w e) es) more))
+trace_append w (e ∷ es) more = ap (λ l. step_text w e ++ l) (trace_append (step w e) es more)
+    ∙ sym (append_assoc (step_text w e) (trace (step w e) es) (trace (run_from (step w e) es) more))
 
 pub run_append : (w : World) (es more : List Event) → run_from w (es ++ more) ≡ run_from (run_from w es) more
 run_append w [] more = refl
@@ -36,6 +37,9 @@ pub part_whole : (old new : Option (List ℕ)) (text : List ℕ) → Appends old
 part_whole old new text whole = (length text, subst (Appends old new) (sym (take_all (length text) text (omega arith))) whole)
 
 -- a text was written, and then a part of the next one
-pub then_part : (old now next : Option (List ℕ)) (text more : List ℕ) → Appends old now text → AppendsPart now next more → AppendsPart old next (text ++ more)
-then_part old now next text more whole part =
-    (length text + part.0, subst (Appends old next) (sym (take-append-add text more part.0)) (Appends-trans old now next text (take part.0 more) whole part.1))
+pub then_part : (old now next : Option (List ℕ)) (text more : List ℕ) → Appends old now text → AppendsPart now next more
+    → AppendsPart old next (text ++ more)
+then_part old now next text more whole part = (
+  length text + part.0,
+  subst (Appends old next) (sym (take-append-add text more part.0)) (Appends-trans old now next text (take part.0 more) whole part.1),
+)

@@ -1,5 +1,6 @@
 -- Whole lines as text, what comes after them, and what counts of both.
-use Rattle.std.proofs.Common.{◌==◌, ◌≡◌, ◌≤◌, ◌<◌, ◌++◌, ℕ, Bool, true, false, List, [], ◌∷◌, length, refl, sym, ap, ◌∙◌, subst, append_assoc, append-nil, arith, nat_lt, if◌then◌else◌, Option, None, Some, length-append}
+use Rattle.std.proofs.Common.{◌==◌, ◌≡◌, ◌≤◌, ◌<◌, ◌++◌, ℕ, Bool, true, false, List, [], ◌∷◌, length, refl, sym, ap, ◌∙◌, subst}
+use Rattle.std.proofs.Common.{append_assoc, append-nil, arith, nat_lt, if◌then◌else◌, Option, None, Some, length-append}
 use Rattle.std.specs.Prelude.{IfSome}
 use Rattle.std.specs.Io.KnownBytes.{Consumes}
 use Rattle.std.specs.Str.Lines.{strip_carriage_return}
@@ -16,15 +17,16 @@ use Rattle.cx_script.proofs.WholeLines.{parts, but_last-cons, last_part-cons}
 -- the parts of whole lines and of a line that isn't ended
 parts_of_text : (ls : List (List ℕ)) (last : List ℕ) → AreFree ls → IsFree last → parts (lines_text ls ++ last) ≡ ls ++ last ∷ []
 parts_of_text [] last free last_free = split_free (λ b. b == 10) last last_free
-parts_of_text (l ∷ ls) last free last_free =
-    ap parts (append_assoc l (10 ∷ lines_text ls) last) ∙ split_feed l (lines_text ls ++ last) free.0 ∙ ap (λ (rest : List (List ℕ)). l ∷ rest) (parts_of_text ls last free.1 last_free)
+parts_of_text (l ∷ ls) last free last_free = ap parts (append_assoc l (10 ∷ lines_text ls) last)
+    ∙ split_feed l (lines_text ls ++ last) free.0 ∙ ap (λ (rest : List (List ℕ)). l ∷ rest) (parts_of_text ls last free.1 last_free)
 
 some_behind : (ls : List (List ℕ)) (last : List ℕ) → 0 < length (ls ++ last ∷ [])
 some_behind ls last = omega (arith, length-append ls (last ∷ []))
 
 but_last_push : (ls : List (List ℕ)) (last : List ℕ) → but_last (ls ++ last ∷ []) ≡ ls
 but_last_push [] last = refl
-but_last_push (l ∷ ls) last = but_last-cons l (ls ++ last ∷ []) (some_behind ls last) ∙ ap (λ (rest : List (List ℕ)). l ∷ rest) (but_last_push ls last)
+but_last_push (l ∷ ls) last =
+    but_last-cons l (ls ++ last ∷ []) (some_behind ls last) ∙ ap (λ (rest : List (List ℕ)). l ∷ rest) (but_last_push ls last)
 
 last_part_push : (ls : List (List ℕ)) (last : List ℕ) → last_part (ls ++ last ∷ []) ≡ last
 last_part_push [] last = refl
@@ -34,20 +36,23 @@ unended_is : (ls : List (List ℕ)) (last : List ℕ) → AreFree ls → IsFree 
 unended_is ls last free last_free = ap last_part (parts_of_text ls last free last_free) ∙ last_part_push ls last
 
 whole_is : (ls : List (List ℕ)) (last : List ℕ) → AreFree ls → IsFree last → whole_lines (lines_text ls ++ last) ≡ lines_text ls
-whole_is ls last free last_free = ap (λ ps. lines_text (but_last ps)) (parts_of_text ls last free last_free) ∙ ap lines_text (but_last_push ls last)
+whole_is ls last free last_free =
+    ap (λ ps. lines_text (but_last ps)) (parts_of_text ls last free last_free) ∙ ap lines_text (but_last_push ls last)
 
 pub whole_text : (ls : List (List ℕ)) → AreFree ls → whole_lines (lines_text ls) ≡ lines_text ls
 whole_text ls free = ap whole_lines (sym (append-nil (lines_text ls))) ∙ whole_is ls [] free refl
 
 -- what counts of them
-pub counted_text : (most : ℕ) (ls : List (List ℕ)) (last : List ℕ) → AreFree ls → IsFree last → settled_text most (lines_text ls ++ last) ≡ lines_text ls ++ overlong most last
+pub counted_text : (most : ℕ) (ls : List (List ℕ)) (last : List ℕ) → AreFree ls → IsFree last
+    → settled_text most (lines_text ls ++ last) ≡ lines_text ls ++ overlong most last
 unfolding settled_text
 counted_text most ls last free last_free =
     let bytes = lines_text ls ++ last in
     ap (λ l. if nat_lt most (length (strip_carriage_return l)) then bytes else whole_lines bytes) (unended_is ls last free last_free)
     ∙ by_test (nat_lt most (length (strip_carriage_return last)))
   where
-    by_test : (test : Bool) → (if test then lines_text ls ++ last else whole_lines (lines_text ls ++ last)) ≡ lines_text ls ++ (if test then last else [])
+    by_test : (test : Bool)
+        → (if test then lines_text ls ++ last else whole_lines (lines_text ls ++ last)) ≡ lines_text ls ++ (if test then last else [])
     by_test true = refl
     by_test false = whole_is ls last free last_free ∙ sym (append-nil (lines_text ls))
 
@@ -56,7 +61,8 @@ not_overlong most last short =
     let test : nat_lt most (length (strip_carriage_return last)) ≡ false = grind (arith, nat_tests) in
     ap (λ (b : Bool). if b then last else []) test
 
-pub counted_open : (most : ℕ) (ls : List (List ℕ)) (last : List ℕ) → AreFree ls → IsFree last → length (strip_carriage_return last) ≤ most → settled_text most (lines_text ls ++ last) ≡ lines_text ls
+pub counted_open : (most : ℕ) (ls : List (List ℕ)) (last : List ℕ) → AreFree ls → IsFree last → length (strip_carriage_return last) ≤ most
+    → settled_text most (lines_text ls ++ last) ≡ lines_text ls
 counted_open most ls last free last_free short =
     counted_text most ls last free last_free ∙ ap (λ l. lines_text ls ++ l) (not_overlong most last short) ∙ append-nil (lines_text ls)
 
@@ -74,17 +80,20 @@ pub line_first : (part rest : List ℕ) → IsFree part → lines_of ((part ++ 1
 line_first part rest free = lines_of_text (part ∷ []) rest (free, tt)
 
 -- what was handed out, and what is buffered after it, are the bytes that were read
-pub hands_on : (left now next : Option (List ℕ)) (bytes buffered buffered_next out : List ℕ) → Consumes left now (bytes ++ buffered) → Hands now next buffered buffered_next out → Consumes left next ((bytes ++ out) ++ buffered_next)
-hands_on left now next bytes buffered buffered_next out consumed h =
-    subst (Consumes left next) (append_assoc bytes buffered h.read ∙ ap (λ l. bytes ++ l) h.whole ∙ sym (append_assoc bytes out buffered_next))
+pub hands_on : (left now next : Option (List ℕ)) (bytes buffered buffered_next out : List ℕ) → Consumes left now (bytes ++ buffered)
+    → Hands now next buffered buffered_next out → Consumes left next ((bytes ++ out) ++ buffered_next)
+hands_on left now next bytes buffered buffered_next out consumed h = subst (Consumes left next)
+    (append_assoc bytes buffered h.read ∙ ap (λ l. bytes ++ l) h.whole ∙ sym (append_assoc bytes out buffered_next))
     (Consumes-trans left now next (bytes ++ buffered) h.read consumed h.consumed)
 
-pub hands_held : (left now next : Option (List ℕ)) (bytes buffered buffered_next : List ℕ) → Consumes left now (bytes ++ buffered) → Hands now next buffered buffered_next [] → Consumes left next (bytes ++ buffered_next)
-hands_held left now next bytes buffered buffered_next consumed h =
-    subst (λ l. Consumes left next (l ++ buffered_next)) (append-nil bytes) (hands_on left now next bytes buffered buffered_next [] consumed h)
+pub hands_held : (left now next : Option (List ℕ)) (bytes buffered buffered_next : List ℕ) → Consumes left now (bytes ++ buffered)
+    → Hands now next buffered buffered_next [] → Consumes left next (bytes ++ buffered_next)
+hands_held left now next bytes buffered buffered_next consumed h = subst (λ l. Consumes left next (l ++ buffered_next)) (append-nil bytes)
+    (hands_on left now next bytes buffered buffered_next [] consumed h)
 
 -- what holds of the bytes that were read, whatever comes after them, holds of all
-pub of_all : (left left_after : Option (List ℕ)) (bytes : List ℕ) (P : List ℕ → Type 0) → Consumes left left_after bytes → ((more : List ℕ) → P (bytes ++ more)) → IfSome left P
+pub of_all : (left left_after : Option (List ℕ)) (bytes : List ℕ) (P : List ℕ → Type 0) → Consumes left left_after bytes
+    → ((more : List ℕ) → P (bytes ++ more)) → IfSome left P
 of_all None left_after bytes P consumed each = tt
 of_all (Some all) None bytes P consumed each = absurd consumed
 of_all (Some all) (Some more) bytes P consumed each = subst P (sym consumed) (each more)

@@ -64,7 +64,8 @@ PrintsLines left left_after out out_after =
     (bytes : List ℕ) × Consumes left left_after bytes × (bad_line (lines bytes) ≡ None) × Appends out out_after (trace_of (lines bytes))
 
 -- The result of a replay: its source and sink before and after, what each tells and how often each has failed.
-pub record Replayed (left left_after : Option (List ℕ)) (reads reads_after : ℕ) (out out_after : Option (List ℕ)) (writes writes_after : ℕ) (s : Status) : Type 0 where
+pub record Replayed (left left_after : Option (List ℕ)) (reads reads_after : ℕ) (out out_after : Option (List ℕ)) (writes writes_after : ℕ)
+    (s : Status) : Type 0 where
   -- Done: the input was read to its end, no line is bad, and its trace and summary were written.
   pub done : s ≡ status.Done → IfSome left (λ all. Prints (input_of all) out out_after)
   pub at_end : s ≡ status.Done → IsAtEnd left_after
@@ -106,5 +107,5 @@ replay_status (Some line) = status.BadInput line
 
 -- Without a fault of source or sink a replay ends as its input says, or memory ran out.
 abbrev pub ReplayCompletes : Option (List ℕ) → ℕ → ℕ → ℕ → ℕ → Status → Type 0
-ReplayCompletes left reads reads_after writes writes_after s =
-    IfSome left (λ all. (Rises reads reads_after → ⊥) → (Rises writes writes_after → ⊥) → (s ≡ replay_status (bad_line (input_of all))) ⊎ (s ≡ status.NoMemory))
+ReplayCompletes left reads reads_after writes writes_after s = IfSome left (λ all.
+    (Rises reads reads_after → ⊥) → (Rises writes writes_after → ⊥) → (s ≡ replay_status (bad_line (input_of all))) ⊎ (s ≡ status.NoMemory))

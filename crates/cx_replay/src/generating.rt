@@ -16,7 +16,8 @@ use std::alloc::Global;
 
 // Runs this many events of a seed.
 fn run_events(alloc: Global, seed: u64, count: u64) -> Result<World, NoMemory>
-    ensures world { IfOk result (λ world. world_of world ≡ run gen_cluster (gen_events seed count)) }
+    ensures world { IfOk result
+        (λ world. world_of world ≡ run gen_cluster (gen_events seed count)) }
     ensures unspent { IfOk result (λ world. world.spent ≡ false) }
 {
     generated_events_are_taken();

@@ -67,7 +67,8 @@ fn join(text: &mut Vec<u8>, line: &[u8]) -> Joined
 pub fn read_header<S: Source>(lines: &mut Lines, input: &mut S, text: &mut Vec<u8>) -> HeaderEnd
     requires none_buffered { lines.old.buffered ≡ [] }
     requires no_text { text.old.items ≡ [] }
-    ensures reads { ReadsHeader (S.left input.old) (S.left input.new) lines.new.buffered text.new.items result }
+    ensures reads { ReadsHeader (S.left input.old) (S.left input.new) lines.new.buffered
+        text.new.items result }
     ensures cause { result ≡ end.Failed → Rises (S.faults input.old) (S.faults input.new) }
     ensures still { (result ≡ end.Failed → ⊥) → S.faults input.new ≡ S.faults input.old }
 {

@@ -40,7 +40,8 @@ fn run_line(
     text: &mut Vec<u8>,
 ) -> Result<(), Status>
     requires fresh { world.old.spent ≡ false }
-    ensures { RunsLine cluster.now number spelled.now world.old world.new text.old.items text.new.items result }
+    ensures { RunsLine cluster.now number spelled.now world.old world.new text.old.items
+        text.new.items result }
 {
     spelled_events_are_taken();
     if number > MAX_LINES {
@@ -61,8 +62,10 @@ fn run_line(
 // Writes what was printed where it is enough, and all of it where the next line has to be read, so that who types lines
 // sees what each of them prints before the next.
 fn write_printed<W: Sink>(lines: &Lines, text: &mut Vec<u8>, out: &mut W) -> bool
-    ensures front { WritesFront text.old.items text.new.items (W.taken out.old) (W.taken out.new) result }
-    ensures none_left { result ≡ true → list_any (λ b. b == 10) lines.now.buffered ≡ false → text.new.items ≡ [] }
+    ensures front { WritesFront text.old.items text.new.items (W.taken out.old)
+        (W.taken out.new) result }
+    ensures none_left { result ≡ true → list_any (λ b. b == 10) lines.now.buffered ≡ false
+        → text.new.items ≡ [] }
     ensures cause { result ≡ false → Rises (W.faults out.old) (W.faults out.new) }
     ensures still { result ≡ true → W.faults out.new ≡ W.faults out.old }
 {
@@ -78,7 +81,8 @@ fn write_printed<W: Sink>(lines: &Lines, text: &mut Vec<u8>, out: &mut W) -> boo
 
 // Writes the summary of the whole run.
 fn sum<W: Sink>(alloc: Global, world: &World, out: &mut W) -> Status
-    ensures { Sums (world_of world.now) (W.taken out.old) (W.taken out.new) (W.faults out.old) (W.faults out.new) result }
+    ensures { Sums (world_of world.now) (W.taken out.old) (W.taken out.new) (W.faults out.old)
+        (W.faults out.new) result }
 {
     match write_summary(alloc, world, out) {
         Ok(()) => Status::Done,
@@ -88,7 +92,8 @@ fn sum<W: Sink>(alloc: Global, world: &World, out: &mut W) -> Status
 
 /// Writes the summary of a run without events.
 pub fn run_none<W: Sink>(alloc: Global, cluster: Cluster, out: &mut W) -> Status
-    ensures { Sums (start cluster) (W.taken out.old) (W.taken out.new) (W.faults out.old) (W.faults out.new) result }
+    ensures { Sums (start cluster) (W.taken out.old) (W.taken out.new) (W.faults out.old)
+        (W.faults out.new) result }
 {
     match World::new(alloc, cluster) {
         Ok(world) => sum(alloc, &world, out),
@@ -111,9 +116,12 @@ fn run_each<S: Source, W: Sink>(
     requires fresh { world.old.spent ≡ false }
     requires none { text.old.items ≡ [] }
     ensures comes { ComesOfLines result }
-    ensures runs { (left : Option (List ℕ)) → StandsBehind left (S.left input.old) lines.old.buffered cluster.now
-        → RunsLines cluster.now left (S.left input.new) (S.faults input.old) (S.faults input.new) (W.taken out.old)
-        (W.taken out.new) text.new.items (W.faults out.old) (W.faults out.new) (world_of world.new) result }
+    ensures runs { (left : Option (List ℕ))
+        → StandsBehind left (S.left input.old) lines.old.buffered cluster.now
+        → RunsLines cluster.now left (S.left input.new) (S.faults input.old) (S.faults input.new)
+        (W.taken out.old)
+        (W.taken out.new) text.new.items (W.faults out.old) (W.faults out.new)
+        (world_of world.new) result }
 {
     let mut number = 0;
     loop {
@@ -154,7 +162,8 @@ fn run_world<S: Source, W: Sink>(
     requires begun { world_of world.old ≡ start cluster.now }
     requires fresh { world.old.spent ≡ false }
     ensures comes { ComesOfReplay result }
-    ensures replayed { (left : Option (List ℕ)) → StandsBehind left (S.left input.old) lines.old.buffered cluster.now
+    ensures replayed { (left : Option (List ℕ))
+        → StandsBehind left (S.left input.old) lines.old.buffered cluster.now
         → Replayed left (S.left input.new) (S.faults input.old) (S.faults input.new)
         (W.taken out.old) (W.taken out.new) (W.faults out.old) (W.faults out.new) result }
 {
@@ -185,7 +194,8 @@ pub fn run_lines<S: Source, W: Sink>(
     out: &mut W,
 ) -> Status
     ensures comes { ComesOfReplay result }
-    ensures replayed { (left : Option (List ℕ)) → StandsBehind left (S.left input.old) lines.old.buffered cluster
+    ensures replayed { (left : Option (List ℕ))
+        → StandsBehind left (S.left input.old) lines.old.buffered cluster
         → Replayed left (S.left input.new) (S.faults input.old) (S.faults input.new)
         (W.taken out.old) (W.taken out.new) (W.faults out.old) (W.faults out.new) result }
 {

@@ -12,7 +12,8 @@ use std::alloc::Global;
 
 // Appends the line of the datagram of a number, and nothing where it wasn't sent.
 fn line_into(alloc: Global, sent: &Sent, number: u64, text: &mut Vec<u8>) -> Result<(), NoMemory>
-    ensures ok { OnOk result (text.new.items ≡ text.old.items ++ sent_line_text number (slice_get sent.now number)) }
+    ensures ok { OnOk result
+        (text.new.items ≡ text.old.items ++ sent_line_text number (slice_get sent.now number)) }
     ensures err { OnErr result (text.new.items ≡ text.old.items) }
 {
     match sent.spelled(number)? {
@@ -28,7 +29,8 @@ pub fn lines_into(
     first: u64,
     text: &mut Vec<u8>,
 ) -> Result<(), NoMemory>
-    ensures ok { OnOk result (text.new.items ≡ text.old.items ++ datagrams_text first (drop first sent.now)) }
+    ensures ok { OnOk result
+        (text.new.items ≡ text.old.items ++ datagrams_text first (drop first sent.now)) }
     ensures err { OnErr result (take (length text.old.items) text.new.items ≡ text.old.items) }
 {
     for number in first..sent.len() {

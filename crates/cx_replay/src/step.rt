@@ -26,7 +26,8 @@ fn put_step(
     requires taken { IsTrue (is_valid_event event.now) }
     ensures world { OnOk result (world_of world.new ≡ step (world_of world.old) event.now) }
     ensures unspent { OnOk result (world.new.spent ≡ false) }
-    ensures text { OnOk result (text.new.items ≡ text.old.items ++ step_text (world_of world.old) event.now) }
+    ensures text { OnOk result
+        (text.new.items ≡ text.old.items ++ step_text (world_of world.old) event.now) }
     ensures err { OnErr result (take (length text.old.items) text.new.items ≡ text.old.items) }
 {
     let effect = world.step(event)?;
@@ -45,7 +46,8 @@ pub fn step_into(
     requires taken { IsTrue (is_valid_event event.now) }
     ensures world { OnOk result (world_of world.new ≡ step (world_of world.old) event.now) }
     ensures unspent { OnOk result (world.new.spent ≡ false) }
-    ensures text { OnOk result (text.new.items ≡ text.old.items ++ step_text (world_of world.old) event.now) }
+    ensures text { OnOk result
+        (text.new.items ≡ text.old.items ++ step_text (world_of world.old) event.now) }
     ensures err { OnErr result (text.new.items ≡ text.old.items) }
 {
     let length = text.len();

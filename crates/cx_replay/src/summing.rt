@@ -76,7 +76,8 @@ fn write_slots<W: Sink>(
 
 // Puts the line of a replica into the emptied text.
 fn replica_line(world: &World, replica: u16, text: &mut Vec<u8>) -> Result<(), NoMemory>
-    ensures { OnOk result (text.new.items ≡ replica_text replica (folded_of replica world.now.kept)) }
+    ensures { OnOk result
+        (text.new.items ≡ replica_text replica (folded_of replica world.now.kept)) }
 {
     text.clear();
     let folded = world.folded(replica)?;

@@ -1,5 +1,6 @@
 -- What the client table of values of a cluster has, after more values.
-use Rattle.std.proofs.Common.{◌≡◌, ◌⊎◌, ℕ, ◌+◌, ◌≤◌, Bool, true, false, not, ◌&&◌, ◌||◌, List, [], ◌∷◌, ◌++◌, length, map, inl, inr, sym, subst, ◌∙◌, refl, arith}
+use Rattle.std.proofs.Common.{◌≡◌, ◌⊎◌, ℕ, ◌+◌, ◌≤◌, Bool, true, false, not, ◌&&◌, ◌||◌, List, [], ◌∷◌, ◌++◌, length, map, inl, inr, sym}
+use Rattle.std.proofs.Common.{subst, ◌∙◌, refl, arith}
 use Rattle.std.specs.Prelude.{◌==◌, nat_le, nat_lt, if◌then◌else◌, Option, None, Some}
 use Rattle.std.specs.List.{list_all, list_any}
 use Rattle.std.proofs.lemmas.Bool.{and_from, and_parts, both_ways, cases_Bool, eqb-true}
@@ -15,11 +16,13 @@ use Rattle.std.proofs.lemmas.List.Folds.{list_all-append}
 use Rattle.cx_replica.proofs.Rises.{rises_below}
 use Rattle.cx_base.specs.declared.command.Value.TheVariants.{Noop, Batch}
 use Rattle.cx_base.specs.Asked.{floor_fits}
-use Rattle.cx_base.specs.Noted.{Table, are_rising, comes_before, floor_of, is_answer_of, is_done, is_answer_done, noted_for, still_noted, with_floor, with_note, with_told}
+use Rattle.cx_base.specs.Noted.{Table, are_rising, comes_before, floor_of, is_answer_of, is_done, is_answer_done, noted_for, still_noted}
+use Rattle.cx_base.specs.Noted.{with_floor, with_note, with_told}
 use Rattle.cx_model.specs.Names.{names_command, names_value}
 use Rattle.cx_model.specs.Ordered.{answer_ordered, told_ordered}
 use Rattle.cx_model.specs.Renewed.{IsOrdered, fits_told, is_above_client_floor, is_near, is_over}
-use Rattle.cx_model.specs.Replica.{Machine, answer_of, are_client_notes, with_client, execute, execute_all, execute_noted, execute_value, machine_from}
+use Rattle.cx_model.specs.Replica.{Machine, answer_of, are_client_notes, with_client, execute, execute_all, execute_noted, execute_value}
+use Rattle.cx_model.specs.Replica.{machine_from}
 use Rattle.cx_field.specs.Fields.{command, value}
 use Rattle.cx_table.specs.Entries.{max_floor}
 use Rattle.cx_table.proofs.Rising.{all_with}
@@ -49,9 +52,8 @@ has_over client floor notes = list_any (λ (a : Answered). a.client == client &&
 
 -- whether an answer is near its client's floor once that client has told one
 abbrev may_be_near : ℕ → ℕ → List Floor → Answered → Bool
-may_be_near client floor floors a =
-    if client == a.client then not (is_done a.seq (floor_of a.client floors)) && nat_le a.seq (max_floor (floor_of a.client floors) floor + 64)
-    else is_near floors a
+may_be_near client floor floors a = if client == a.client then not (is_done a.seq (floor_of a.client floors))
+    && nat_le a.seq (max_floor (floor_of a.client floors) floor + 64) else is_near floors a
 
 stood_near : (client floor : ℕ) (floors : List Floor) (a : Answered) → is_near floors a ≡ true → may_be_near client floor floors a ≡ true
 stood_near client floor floors a h = go (cases_Bool (client == a.client)) (floor_of a.client floors) h
@@ -70,8 +72,8 @@ all_stood : (client floor : ℕ) (floors : List Floor) (notes : List Answered) �
 all_stood client floor floors [] all = refl
 all_stood client floor floors (a ∷ notes) all =
     let parts = and_parts (is_near floors a) (list_all (λ (x : Answered). is_near floors x) notes) all in
-    and_from (may_be_near client floor floors a) (list_all (may_be_near client floor floors) notes) (stood_near client floor floors a parts.0)
-    (all_stood client floor floors notes parts.1)
+    and_from (may_be_near client floor floors a) (list_all (may_be_near client floor floors) notes)
+    (stood_near client floor floors a parts.0) (all_stood client floor floors notes parts.1)
 
 turned : (a b : ℕ) → (a == b) ≡ (b == a)
 turned a b = grind (arith, nat_tests)
@@ -82,7 +84,8 @@ near_told : (client floor : ℕ) (floors : List Floor) (notes : List Answered) �
 near_told client floor floors [] rising all = refl
 near_told client floor floors (a ∷ notes) rising all =
     let parts = and_parts (may_be_near client floor floors a) (list_all (may_be_near client floor floors) notes) all in
-    go (cases_Bool (client == a.client)) (cases_Bool (nat_le a.seq floor)) (floor_told client floor 0 floors rising a.client) parts.0 (near_told client floor floors notes rising parts.1)
+    go (cases_Bool (client == a.client)) (cases_Bool (nat_le a.seq floor)) (floor_told client floor 0 floors rising a.client) parts.0
+    (near_told client floor floors notes rising parts.1)
   where
     closer : (o : Option ℕ) → (not (is_done a.seq o) && nat_le a.seq (max_floor o floor + 64)) ≡ true → nat_le a.seq floor ≡ false
         → fits_told a.seq (Some (max_floor o floor)) ≡ true
@@ -99,8 +102,10 @@ near_told client floor floors (a ∷ notes) rising all =
     go (inl t) (inl v) is one rest = (let same : (a.client == client) ≡ true = turned a.client client ∙ t in rw (same, v) rest)
     go (inl t) (inr v) is one rest =
         let same : (a.client == client) ≡ true = turned a.client client ∙ t in
-        let floor_is : floor_of a.client (with_floor client floor floors) ≡ Some (max_floor (floor_of a.client floors) floor) = rw t at is in
-        let near : (not (is_done a.seq (floor_of a.client floors)) && nat_le a.seq (max_floor (floor_of a.client floors) floor + 64)) ≡ true = rw t at one in
+        let floor_is : floor_of a.client (with_floor client floor floors) ≡ Some (max_floor (floor_of a.client floors) floor) =
+        rw t at is in
+        let near : (not (is_done a.seq (floor_of a.client floors)) && nat_le a.seq (max_floor (floor_of a.client floors) floor + 64))
+        ≡ true = rw t at one in
         rw (same, v) (and_from (is_near (with_floor client floor floors) a) _ (rw floor_is (closer (floor_of a.client floors) near v)) rest)
     go (inr t) v is one rest =
         let other : (a.client == client) ≡ false = turned a.client client ∙ t in
@@ -123,8 +128,10 @@ each_told q client floor (f ∷ floors) one all =
         → list_all (λ (x : Floor). q x.client) (with_floor client floor floors) ≡ true
         → list_all (λ (x : Floor). q x.client) (with_floor client floor (f ∷ floors)) ≡ true
     go (inl s) b first tail rest = rw s (and_from (q client) (list_all (λ (x : Floor). q x.client) floors) one tail)
-    go (inr s) (inl b) first tail rest = rw (s, b) (and_from (q client) _ one (and_from (q f.client) (list_all (λ (x : Floor). q x.client) floors) first tail))
-    go (inr s) (inr b) first tail rest = rw (s, b) (and_from (q f.client) (list_all (λ (x : Floor). q x.client) (with_floor client floor floors)) first rest)
+    go (inr s) (inl b) first tail rest =
+        rw (s, b) (and_from (q client) _ one (and_from (q f.client) (list_all (λ (x : Floor). q x.client) floors) first tail))
+    go (inr s) (inr b) first tail rest =
+        rw (s, b) (and_from (q f.client) (list_all (λ (x : Floor). q x.client) (with_floor client floor floors)) first rest)
 
 pub told_one : (q : ℕ → Bool) (client floor : ℕ) (floors : List Floor) → floor_of client floors ≡ Some floor
     → list_all (λ (f : Floor). q f.client) floors ≡ true → q client ≡ true
@@ -146,35 +153,42 @@ each_other q r (f ∷ floors) into all =
     and_from (r f.client) (list_all (λ (x : Floor). r x.client) floors) (into f.client parts.0) (each_other q r floors into parts.1)
 
 -- a client keeps an answer that is above the floor it tells; others keep theirs
-own_left : (client floor : ℕ) (notes : List Answered) → has_over client floor notes ≡ true → has client (still_noted client floor notes) ≡ true
+own_left : (client floor : ℕ) (notes : List Answered) → has_over client floor notes ≡ true
+    → has client (still_noted client floor notes) ≡ true
 own_left client floor [] h = cc
-own_left client floor (a ∷ notes) h = go (cases_Bool (is_answer_done client floor a)) (either (a.client == client && nat_lt floor a.seq) (has_over client floor notes) h) (own_left client floor notes)
+own_left client floor (a ∷ notes) h = go (cases_Bool (is_answer_done client floor a))
+    (either (a.client == client && nat_lt floor a.seq) (has_over client floor notes) h) (own_left client floor notes)
   where
     go : (is_answer_done client floor a ≡ true) ⊎ (is_answer_done client floor a ≡ false)
         → ((a.client == client && nat_lt floor a.seq) ≡ true) ⊎ (has_over client floor notes ≡ true)
         → (has_over client floor notes ≡ true → has client (still_noted client floor notes) ≡ true)
         → has client (still_noted client floor (a ∷ notes)) ≡ true
     go (inl s) (inl one) rest = (let never : false ≡ true = grind (arith, nat_tests, s, one) in absurd cc)
-    go (inr s) (inl one) rest = (let own : (a.client == client) ≡ true = (and_parts (a.client == client) (nat_lt floor a.seq) one).0 in rw s (or_first (a.client == client) (has client (still_noted client floor notes)) own))
+    go (inr s) (inl one) rest = (let own : (a.client == client) ≡ true = (and_parts (a.client == client) (nat_lt floor a.seq) one).0 in rw s
+        (or_first (a.client == client) (has client (still_noted client floor notes)) own))
     go (inl s) (inr more) rest = rw s (rest more)
     go (inr s) (inr more) rest = rw s (or_second (a.client == client) (has client (still_noted client floor notes)) (rest more))
 
-other_left : (client floor k : ℕ) (notes : List Answered) → (client == k) ≡ false → has k notes ≡ true → has k (still_noted client floor notes) ≡ true
+other_left : (client floor k : ℕ) (notes : List Answered) → (client == k) ≡ false → has k notes ≡ true
+    → has k (still_noted client floor notes) ≡ true
 other_left client floor k [] other h = cc
-other_left client floor k (a ∷ notes) other h = go (cases_Bool (is_answer_done client floor a)) (either (a.client == k) (has k notes) h) (other_left client floor k notes other)
+other_left client floor k (a ∷ notes) other h =
+    go (cases_Bool (is_answer_done client floor a)) (either (a.client == k) (has k notes) h) (other_left client floor k notes other)
   where
     go : (is_answer_done client floor a ≡ true) ⊎ (is_answer_done client floor a ≡ false)
         → ((a.client == k) ≡ true) ⊎ (has k notes ≡ true)
         → (has k notes ≡ true → has k (still_noted client floor notes) ≡ true)
         → has k (still_noted client floor (a ∷ notes)) ≡ true
-    go (inl s) (inl one) rest = (let same : (client == k) ≡ true = grind (arith, nat_tests, s, one) in absurd (both_ways (client == k) other same))
+    go (inl s) (inl one) rest =
+        (let same : (client == k) ≡ true = grind (arith, nat_tests, s, one) in absurd (both_ways (client == k) other same))
     go (inr s) (inl one) rest = rw s (or_first (a.client == k) (has k (still_noted client floor notes)) one)
     go (inl s) (inr more) rest = rw s (rest more)
     go (inr s) (inr more) rest = rw s (or_second (a.client == k) (has k (still_noted client floor notes)) (rest more))
 
 over_has : (client floor : ℕ) (notes : List Answered) → has_over client floor notes ≡ true → has client notes ≡ true
 over_has client floor [] h = cc
-over_has client floor (a ∷ notes) h = go (either (a.client == client && nat_lt floor a.seq) (has_over client floor notes) h) (over_has client floor notes)
+over_has client floor (a ∷ notes) h =
+    go (either (a.client == client && nat_lt floor a.seq) (has_over client floor notes) h) (over_has client floor notes)
   where
     go : ((a.client == client && nat_lt floor a.seq) ≡ true) ⊎ (has_over client floor notes ≡ true)
         → (has_over client floor notes ≡ true → has client notes ≡ true) → has client (a ∷ notes) ≡ true
@@ -186,35 +200,42 @@ some_told : (client floor : ℕ) (floors : List Floor) (notes : List Answered) �
     → list_all (λ (f : Floor). has f.client (still_noted client floor notes)) (with_floor client floor floors) ≡ true
 some_told client floor floors notes over all =
     each_told (λ (k : ℕ). has k (still_noted client floor notes)) client floor floors (own_left client floor notes over)
-    (each_other (λ (k : ℕ). has k notes) (λ (k : ℕ). has k (still_noted client floor notes)) floors (λ k h. left k h (cases_Bool (client == k))) all)
+    (each_other (λ (k : ℕ). has k notes) (λ (k : ℕ). has k (still_noted client floor notes)) floors
+    (λ k h. left k h (cases_Bool (client == k))) all)
   where
     left : (k : ℕ) → has k notes ≡ true → ((client == k) ≡ true) ⊎ ((client == k) ≡ false) → has k (still_noted client floor notes) ≡ true
-    left k h (inl s) = subst (λ (x : ℕ). has x (still_noted client floor notes) ≡ true) (eqb-true client k s) (own_left client floor notes over)
+    left k h (inl s) =
+        subst (λ (x : ℕ). has x (still_noted client floor notes) ≡ true) (eqb-true client k s) (own_left client floor notes over)
     left k h (inr s) = other_left client floor k notes s h
 
 -- where a client has an answer above a floor
 done_over : (client floor least : ℕ) (floors : List Floor) (notes : List Answered) → floor_of client floors ≡ Some least → floor ≤ least
-    → list_all (λ (a : Answered). is_above_client_floor floors a) notes ≡ true → has client notes ≡ true → has_over client floor notes ≡ true
+    → list_all (λ (a : Answered). is_above_client_floor floors a) notes ≡ true → has client notes ≡ true
+    → has_over client floor notes ≡ true
 done_over client floor least floors [] told low above h = cc
 done_over client floor least floors (a ∷ notes) told low above h =
     let parts = and_parts (is_above_client_floor floors a) (list_all (λ (x : Answered). is_above_client_floor floors x) notes) above in
-    go (cases_Bool (a.client == client)) parts.0 (either (a.client == client) (has client notes) h) (done_over client floor least floors notes told low parts.1)
+    go (cases_Bool (a.client == client)) parts.0 (either (a.client == client) (has client notes) h)
+    (done_over client floor least floors notes told low parts.1)
   where
     go : ((a.client == client) ≡ true) ⊎ ((a.client == client) ≡ false) → is_above_client_floor floors a ≡ true
         → ((a.client == client) ≡ true) ⊎ (has client notes ≡ true) → (has client notes ≡ true → has_over client floor notes ≡ true)
         → has_over client floor (a ∷ notes) ≡ true
     go (inl s) one more rest =
-        let here : is_over a.seq (floor_of client floors) ≡ true = subst (λ (k : ℕ). is_over a.seq (floor_of k floors) ≡ true) (eqb-true a.client client s) one in
+        let here : is_over a.seq (floor_of client floors) ≡ true =
+        subst (λ (k : ℕ). is_over a.seq (floor_of k floors) ≡ true) (eqb-true a.client client s) one in
         let higher : nat_lt least a.seq ≡ true = rw told at here in
         let over : nat_lt floor a.seq ≡ true = grind (arith, nat_tests, higher) in
-        or_first (a.client == client && nat_lt floor a.seq) (has_over client floor notes) (and_from (a.client == client) (nat_lt floor a.seq) s over)
+        or_first (a.client == client && nat_lt floor a.seq) (has_over client floor notes)
+        (and_from (a.client == client) (nat_lt floor a.seq) s over)
     go (inr s) one (inl t) rest = absurd (both_ways (a.client == client) s t)
     go (inr s) one (inr more) rest = or_second (a.client == client && nat_lt floor a.seq) (has_over client floor notes) (rest more)
 
 noted_over : (client seq floor : ℕ) (notes : List Answered) (x : Answered) → noted_for client seq notes ≡ Some x → nat_lt floor seq ≡ true
     → has_over client floor notes ≡ true
 noted_over client seq floor [] x e low = cc
-noted_over client seq floor (a ∷ notes) x e low = go (cases_Bool (is_answer_of client seq a)) e (λ rest. noted_over client seq floor notes x rest low)
+noted_over client seq floor (a ∷ notes) x e low =
+    go (cases_Bool (is_answer_of client seq a)) e (λ rest. noted_over client seq floor notes x rest low)
   where
     go : (is_answer_of client seq a ≡ true) ⊎ (is_answer_of client seq a ≡ false) → noted_for client seq (a ∷ notes) ≡ Some x
         → (noted_for client seq notes ≡ Some x → has_over client floor notes ≡ true) → has_over client floor (a ∷ notes) ≡ true
@@ -222,18 +243,22 @@ noted_over client seq floor (a ∷ notes) x e low = go (cases_Bool (is_answer_of
         let p = and_parts (a.client == client) (a.seq == seq) s in
         let same = p.1 in
         let over : nat_lt floor a.seq ≡ true = grind (arith, nat_tests, same, low) in
-        or_first (a.client == client && nat_lt floor a.seq) (has_over client floor notes) (and_from (a.client == client) (nat_lt floor a.seq) p.0 over)
+        or_first (a.client == client && nat_lt floor a.seq) (has_over client floor notes)
+        (and_from (a.client == client) (nat_lt floor a.seq) p.0 over)
     go (inr s) e rest = or_second (a.client == client && nat_lt floor a.seq) (has_over client floor notes) (rest (rw s at e))
 
-new_over : (a : Answered) (floor : ℕ) (notes : List Answered) → nat_lt floor a.seq ≡ true → has_over a.client floor (with_note a notes) ≡ true
-new_over a floor [] low = (let own : (a.client == a.client) ≡ true = grind (arith, nat_tests) in or_first (a.client == a.client && nat_lt floor a.seq) false (and_from (a.client == a.client) (nat_lt floor a.seq) own low))
+new_over : (a : Answered) (floor : ℕ) (notes : List Answered) → nat_lt floor a.seq ≡ true
+    → has_over a.client floor (with_note a notes) ≡ true
+new_over a floor [] low = (let own : (a.client == a.client) ≡ true = grind (arith, nat_tests) in
+    or_first (a.client == a.client && nat_lt floor a.seq) false (and_from (a.client == a.client) (nat_lt floor a.seq) own low))
 new_over a floor (b ∷ notes) low = go (cases_Bool (comes_before a b)) (new_over a floor notes low)
   where
     go : (comes_before a b ≡ true) ⊎ (comes_before a b ≡ false) → has_over a.client floor (with_note a notes) ≡ true
         → has_over a.client floor (with_note a (b ∷ notes)) ≡ true
     go (inl h) rest =
         let own : (a.client == a.client) ≡ true = grind (arith, nat_tests) in
-        rw h (or_first (a.client == a.client && nat_lt floor a.seq) (has_over a.client floor (b ∷ notes)) (and_from (a.client == a.client) (nat_lt floor a.seq) own low))
+        rw h (or_first (a.client == a.client && nat_lt floor a.seq) (has_over a.client floor (b ∷ notes))
+        (and_from (a.client == a.client) (nat_lt floor a.seq) own low))
     go (inr h) rest = rw h (or_second (b.client == a.client && nat_lt floor b.seq) (has_over a.client floor (with_note a notes)) rest)
 
 still_has : (a : Answered) (k : ℕ) (notes : List Answered) → has k notes ≡ true → has k (with_note a notes) ≡ true
@@ -248,7 +273,8 @@ still_has a k (b ∷ notes) h = go (cases_Bool (comes_before a b)) (either (b.cl
 
 -- a command of the cluster, of which the floor fits
 module _ (c : Cluster) (client floor : ℕ) (named : nat_lt client c.clients ≡ true) where
-  told_noted : (t : Table) → IsOrdered t → IsTableOfCluster c t → has_over client floor t.notes ≡ true → IsTableOfCluster c (with_told client floor t)
+  told_noted : (t : Table) → IsOrdered t → IsTableOfCluster c t → has_over client floor t.notes ≡ true
+      → IsTableOfCluster c (with_told client floor t)
   told_noted t ordered noted over = record {
     near = near_told client floor t.floors t.notes ordered.floors_rise (all_stood client floor t.floors t.notes noted.near);
     clients = each_told (λ (k : ℕ). nat_lt k c.clients) client floor t.floors named noted.clients;
@@ -256,20 +282,23 @@ module _ (c : Cluster) (client floor : ℕ) (named : nat_lt client c.clients ≡
   }
 
   answer_noted : (a : Answered) → a.client ≡ client → (t : Table) → IsOrdered t → IsTableOfCluster c t → floor_fits a.seq floor ≡ true
-      → is_done a.seq (floor_of client t.floors) ≡ false → IsTableOfCluster c (with_told client floor (record t { notes = with_note a t.notes }))
+      → is_done a.seq (floor_of client t.floors) ≡ false
+      → IsTableOfCluster c (with_told client floor (record t { notes = with_note a t.notes }))
   answer_noted a own t ordered noted fit free =
       let parts = and_parts (nat_lt floor a.seq) (nat_le a.seq (floor + 64)) fit in
       let same : (client == a.client) ≡ true = grind (arith, nat_tests, own) in
-      let undone : is_done a.seq (floor_of a.client t.floors) ≡ false = subst (λ (k : ℕ). is_done a.seq (floor_of k t.floors) ≡ false) (sym own) free in
+      let undone : is_done a.seq (floor_of a.client t.floors) ≡ false =
+      subst (λ (k : ℕ). is_done a.seq (floor_of k t.floors) ≡ false) (sym own) free in
       let close : nat_le a.seq (max_floor (floor_of a.client t.floors) floor + 64) ≡ true = closer (floor_of a.client t.floors) parts.1 in
       let one : may_be_near client floor t.floors a ≡ true = rw (same, undone, close) refl in
-      let over : has_over client floor (with_note a t.notes) ≡ true = subst (λ (k : ℕ). has_over k floor (with_note a t.notes) ≡ true) own (new_over a floor t.notes parts.0) in
+      let over : has_over client floor (with_note a t.notes) ≡ true =
+      subst (λ (k : ℕ). has_over k floor (with_note a t.notes) ≡ true) own (new_over a floor t.notes parts.0) in
       record {
         near = near_told client floor t.floors (with_note a t.notes) ordered.floors_rise
             (all_with (may_be_near client floor t.floors) a t.notes one (all_stood client floor t.floors t.notes noted.near));
         clients = each_told (λ (k : ℕ). nat_lt k c.clients) client floor t.floors named noted.clients;
-        some = some_told client floor t.floors (with_note a t.notes) over
-            (each_other (λ (k : ℕ). has k t.notes) (λ (k : ℕ). has k (with_note a t.notes)) t.floors (λ k h. still_has a k t.notes h) noted.some);
+        some = some_told client floor t.floors (with_note a t.notes) over (each_other (λ (k : ℕ). has k t.notes)
+            (λ (k : ℕ). has k (with_note a t.notes)) t.floors (λ k h. still_has a k t.notes h) noted.some);
       }
     where
       closer : (o : Option ℕ) → nat_le a.seq (floor + 64) ≡ true → nat_le a.seq (max_floor o floor + 64) ≡ true
@@ -277,8 +306,8 @@ module _ (c : Cluster) (client floor : ℕ) (named : nat_lt client c.clients ≡
       closer (Some f) h = grind (arith, nat_tests, h)
 
 -- what is so of a machine's table once a command is executed
-module _ (c : Cluster) (n : ℕ) (m : Machine) (k : Command) (named : nat_lt k.client c.clients ≡ true) (fit : floor_fits k.seq k.floor ≡ true)
-    (ordered : IsOrdered m.table) (noted : IsTableOfCluster c m.table) where
+module _ (c : Cluster) (n : ℕ) (m : Machine) (k : Command) (named : nat_lt k.client c.clients ≡ true)
+    (fit : floor_fits k.seq k.floor ≡ true) (ordered : IsOrdered m.table) (noted : IsTableOfCluster c m.table) where
   low : nat_lt k.floor k.seq ≡ true
   low = (and_parts (nat_lt k.floor k.seq) (nat_le k.seq (k.floor + 64)) fit).0
 
@@ -329,8 +358,8 @@ value_noted c n m (Batch ks) own ordered noted =
     all_noted c (n + 1) m ks (commands_in ks parts.0) parts.1 ordered noted
 
 -- values of the cluster leave a table in order, with what is noted of its clients
-pub values_noted : (c : Cluster) (n : ℕ) (m : Machine) (vs : List Value) → are_own c vs ≡ true → IsOrdered m.table → IsTableOfCluster c m.table
-    → IsOrdered (machine_from n m vs).table × IsTableOfCluster c (machine_from n m vs).table
+pub values_noted : (c : Cluster) (n : ℕ) (m : Machine) (vs : List Value) → are_own c vs ≡ true → IsOrdered m.table
+    → IsTableOfCluster c m.table → IsOrdered (machine_from n m vs).table × IsTableOfCluster c (machine_from n m vs).table
 values_noted c n m [] own ordered noted = (ordered, noted)
 values_noted c n m (v ∷ vs) own ordered noted =
     let parts = and_parts (is_cluster_value c v) (are_own c vs) own in
@@ -341,7 +370,8 @@ values_noted c n m (v ∷ vs) own ordered noted =
 abbrev floor_at : ℕ → ℕ → Floor
 floor_at client floor = record { client = client; floor = floor }
 
-still_told : (k client floor : ℕ) (floors : List Floor) (f : ℕ) → floor_of k floors ≡ Some f → floor_of k (floors ++ floor_at client floor ∷ []) ≡ Some f
+still_told : (k client floor : ℕ) (floors : List Floor) (f : ℕ) → floor_of k floors ≡ Some f
+    → floor_of k (floors ++ floor_at client floor ∷ []) ≡ Some f
 still_told k client floor [] f e = cc
 still_told k client floor (g ∷ floors) f e = go (cases_Bool (g.client == k)) e (still_told k client floor floors f)
   where
@@ -365,27 +395,30 @@ old_near : (client floor : ℕ) (floors : List Floor) (notes : List Answered) �
 old_near client floor floors [] all = refl
 old_near client floor floors (a ∷ notes) all =
     let parts = and_parts (is_near floors a) (list_all (λ (x : Answered). is_near floors x) notes) all in
-    and_from (is_near (floors ++ floor_at client floor ∷ []) a) (list_all (λ (x : Answered). is_near (floors ++ floor_at client floor ∷ []) x) notes)
+    and_from (is_near (floors ++ floor_at client floor ∷ []) a)
+    (list_all (λ (x : Answered). is_near (floors ++ floor_at client floor ∷ []) x) notes)
     (go (floor_of a.client floors) refl parts.0) (old_near client floor floors notes parts.1)
   where
     go : (o : Option ℕ) → floor_of a.client floors ≡ o → fits_told a.seq o ≡ true → is_near (floors ++ floor_at client floor ∷ []) a ≡ true
     go None is h = cc
     go (Some f) is h = rw (still_told a.client client floor floors f is) h
 
-new_near : (client floor : ℕ) (floors : List Floor) (notes : List Note) → floor_of client (floors ++ floor_at client floor ∷ []) ≡ Some floor
-    → list_all (λ (n : Note). floor_fits n.seq floor) notes ≡ true
+new_near : (client floor : ℕ) (floors : List Floor) (notes : List Note)
+    → floor_of client (floors ++ floor_at client floor ∷ []) ≡ Some floor → list_all (λ (n : Note). floor_fits n.seq floor) notes ≡ true
     → list_all (λ (a : Answered). is_near (floors ++ floor_at client floor ∷ []) a) (map (answer_of client) notes) ≡ true
 new_near client floor floors [] told fit = refl
 new_near client floor floors (n ∷ notes) told fit =
     let parts = and_parts (floor_fits n.seq floor) (list_all (λ (x : Note). floor_fits x.seq floor) notes) fit in
-    and_from (is_near (floors ++ floor_at client floor ∷ []) (answer_of client n)) (list_all (λ (a : Answered). is_near (floors ++ floor_at client floor ∷ []) a) (map (answer_of client) notes))
+    and_from (is_near (floors ++ floor_at client floor ∷ []) (answer_of client n))
+    (list_all (λ (a : Answered). is_near (floors ++ floor_at client floor ∷ []) a) (map (answer_of client) notes))
     (rw told parts.0) (new_near client floor floors notes told parts.1)
 
 more_has : (k : ℕ) (notes more : List Answered) → has k notes ≡ true → has k (notes ++ more) ≡ true
 more_has k [] more h = cc
 more_has k (a ∷ notes) more h = go (either (a.client == k) (has k notes) h) (more_has k notes more)
   where
-    go : ((a.client == k) ≡ true) ⊎ (has k notes ≡ true) → (has k notes ≡ true → has k (notes ++ more) ≡ true) → has k (a ∷ notes ++ more) ≡ true
+    go : ((a.client == k) ≡ true) ⊎ (has k notes ≡ true) → (has k notes ≡ true → has k (notes ++ more) ≡ true)
+        → has k (a ∷ notes ++ more) ≡ true
     go (inl s) rest = or_first (a.client == k) (has k (notes ++ more)) s
     go (inr t) rest = or_second (a.client == k) (has k (notes ++ more)) (rest t)
 
@@ -395,14 +428,16 @@ has_last k (a ∷ notes) more h = or_second (a.client == k) (has k (notes ++ mor
 
 own_has : (client : ℕ) (notes : List Note) → 1 ≤ length notes → has client (map (answer_of client) notes) ≡ true
 own_has client [] some = absurd (omega arith)
-own_has client (n ∷ notes) some = (let same : (client == client) ≡ true = grind (arith, nat_tests) in or_first (client == client) (has client (map (answer_of client) notes)) same)
+own_has client (n ∷ notes) some = (let same : (client == client) ≡ true = grind (arith, nat_tests) in or_first (client == client)
+    (has client (map (answer_of client) notes)) same)
 
 pub client_noted : (c : Cluster) (client floor : ℕ) (notes : List Note) (t : Table) → nat_lt client c.clients ≡ true → 1 ≤ length notes
     → are_rising 0 (t.floors ++ floor_at client floor ∷ []) ≡ true → are_client_notes floor notes ≡ true → IsTableOfCluster c t
     → IsTableOfCluster c (with_client client floor notes t)
 client_noted c client floor notes t named some rising above noted =
     let below = (rises_below client floor 0 t.floors rising).1 in
-    let fit = (and_parts (rises (λ (n : Note) (later : Note). nat_lt n.seq later.seq) notes) (list_all (λ (n : Note). floor_fits n.seq floor) notes) above).1 in
+    let fit = (and_parts (rises (λ (n : Note) (later : Note). nat_lt n.seq later.seq) notes)
+    (list_all (λ (n : Note). floor_fits n.seq floor) notes) above).1 in
     let told = last_told client floor t.floors below in
     let more = map (answer_of client) notes in
     record {
@@ -411,6 +446,7 @@ client_noted c client floor notes t named some rising above noted =
       clients = list_all-append (λ (f : Floor). nat_lt f.client c.clients) t.floors (floor_at client floor ∷ [])
           ∙ and_from _ _ noted.clients (and_from (nat_lt client c.clients) true named refl);
       some = list_all-append (λ (f : Floor). has f.client (t.notes ++ more)) t.floors (floor_at client floor ∷ [])
-          ∙ and_from _ _ (each_other (λ (k : ℕ). has k t.notes) (λ (k : ℕ). has k (t.notes ++ more)) t.floors (λ k h. more_has k t.notes more h) noted.some)
+          ∙ and_from _ _ (each_other (λ (k : ℕ). has k t.notes) (λ (k : ℕ). has k (t.notes ++ more)) t.floors
+          (λ k h. more_has k t.notes more h) noted.some)
           (and_from (has client (t.notes ++ more)) true (has_last client t.notes more (own_has client notes some)) refl);
     }

@@ -41,7 +41,8 @@ pub state_behind : (c : Cluster) (me : RoleId) (live : Bool) (log new : LogState
     → replica_view c me live new n (record w { begun = true }) left fetched
     ≡ running_after replica_rules (replica_view c me live log m w reads fetched)
     (applied_in (replica_view c me live log m w reads fetched) value)
-state_behind c me live log new m n w fetched value vs ws waiting reads left now is_first is_new same is_ready is_later waits is_left is_now ran =
+state_behind c me live log new m n w fetched value vs ws waiting reads left now is_first is_new same is_ready is_later waits is_left
+    is_now ran =
     let ready = ready_values (held log) log.early value in
     let list : new.list ≡ log.list ++ ready = is_new ∙ ap (λ (more : List Value). log.list ++ more) (same ∙ is_ready) in
     let size : length new.list ≡ length log.list + length ready =
@@ -52,4 +53,5 @@ state_behind c me live log new m n w fetched value vs ws waiting reads left now 
     let d : left ≡ still_deferred (held log + length ready) reads =
     is_left ∙ ap (λ (h : ℕ). still_deferred h reads) (is_now ∙ count) in
     let machine : n ≡ machine_from (held log) m ready = ran ∙ ap (machine_from (held log) m) is_ready in
-    λ j. replica_view c me live (record { first = is_first j; list = list j; early = e j; spare = new.spare }) (machine j) (record w { begun = true }) (d j) fetched
+    λ j. replica_view c me live (record { first = is_first j; list = list j; early = e j; spare = new.spare }) (machine j)
+    (record w { begun = true }) (d j) fetched

@@ -1,5 +1,6 @@
 -- A replica opens from its own renewed list.
-use Rattle.std.proofs.Common.{◌≡◌, ℕ, zero, suc, ◌-◌, ◌≤◌, Bool, true, List, [], ◌∷◌, drop, length-drop, None, Some, refl, ap, sym, subst, ◌∙◌, arith}
+use Rattle.std.proofs.Common.{◌≡◌, ℕ, zero, suc, ◌-◌, ◌≤◌, Bool, true, List, [], ◌∷◌, drop, length-drop, None, Some, refl, ap, sym, subst}
+use Rattle.std.proofs.Common.{◌∙◌, arith}
 use Rattle.std.proofs.lemmas.Bool.{and_parts}
 use Rattle.cx_base.specs.declared.cluster.Cluster.{Cluster}
 use Rattle.cx_base.specs.declared.role.RoleId.{RoleId}
@@ -19,8 +20,8 @@ use Rattle.cx_replica.specs.declared.wanted.Wanted.{Wanted}
 use Rattle.cx_replica.proofs.Rows.{both_parts}
 use Rattle.cx_rlog.specs.State.{LogState, from_slot, held}
 
-pub renewed_opens : (c : Cluster) (me : RoleId) (live : Bool) (log : LogState) (m : Machine) (w : Wanted) (reads : List Deferred) (first : ℕ)
-    → IsSound c me live log m w reads → rises has_lower_key m.map ≡ true → log.first ≤ first → first ≤ held log
+pub renewed_opens : (c : Cluster) (me : RoleId) (live : Bool) (log : LogState) (m : Machine) (w : Wanted) (reads : List Deferred)
+    (first : ℕ) → IsSound c me live log m w reads → rises has_lower_key m.map ≡ true → log.first ≤ first → first ≤ held log
     → refused replica_rules c me (replica_renewed (replica_durable log m w) first) ≡ None
 renewed_opens c me live log m w reads first sound rising later within =
     renewed_fits (replica_durable log m w) first later sound.ordered c me within
@@ -36,7 +37,8 @@ abbrev pub nothing_wanted : Wanted
 nothing_wanted = record { begun = true; pairs = 0; clients = 0; values = 0 }
 
 -- a replica without the values below a slot is sound
-pub sound_renewed : (c : Cluster) (me : RoleId) (live lives : Bool) (log new : LogState) (m : Machine) (w none : Wanted) (reads : List Deferred) (first : ℕ)
+pub sound_renewed : (c : Cluster) (me : RoleId) (live lives : Bool) (log new : LogState) (m : Machine) (w none : Wanted)
+    (reads : List Deferred) (first : ℕ)
     → IsSound c me live log m w reads → log.first ≤ first → first ≤ held log → new ≡ from_slot first log → none ≡ nothing_wanted
     → IsSound c me lives new m none reads
 sound_renewed c me live lives log new m w none reads first sound later within is nothing =
@@ -55,13 +57,15 @@ sound_renewed c me live lives log new m w none reads first sound later within is
       fresh = λ e. cc;
       whole = λ e. (refl, refl, refl);
     } in
-    subst (λ (x : Wanted). IsSound c me lives new m x reads) (sym nothing) (subst (λ (l : LogState). IsSound c me lives l m nothing_wanted reads) (sym is) there)
+    subst (λ (x : Wanted). IsSound c me lives new m x reads) (sym nothing)
+    (subst (λ (l : LogState). IsSound c me lives l m nothing_wanted reads) (sym is) there)
 
 -- its state is what its renewed list leaves
-pub state_renewed : (c : Cluster) (me : RoleId) (live : Bool) (log new : LogState) (m : Machine) (w none : Wanted) (reads : List Deferred) (fetched first : ℕ)
-    → new ≡ from_slot first log → none ≡ nothing_wanted → log.first ≤ first → IsOrdered m.table
+pub state_renewed : (c : Cluster) (me : RoleId) (live : Bool) (log new : LogState) (m : Machine) (w none : Wanted) (reads : List Deferred)
+    (fetched first : ℕ) → new ≡ from_slot first log → none ≡ nothing_wanted → log.first ≤ first → IsOrdered m.table
     → replica_view c me live new m none reads fetched ≡ snapped_by replica_rules (replica_view c me live log m w reads fetched) (Some first)
 state_renewed c me live log new m w none reads fetched first is nothing later ordered =
-    let after : ReplicaDurable → Running ReplicaDurable ReplicaVolatile = λ d. record (replica_view c me live log m w reads fetched) { durable = d } in
+    let after : ReplicaDurable → Running ReplicaDurable ReplicaVolatile =
+    λ d. record (replica_view c me live log m w reads fetched) { durable = d } in
     (λ j. replica_view c me live (is j) m (nothing j) reads fetched)
     ∙ sym (ap after (renewed_folds (replica_durable log m w) first later ordered))

@@ -14,8 +14,8 @@ use Rattle.cx_replica.specs.Room.{HasRoom, IsRoomFor, MachineState, command_coun
 count-append : (client : ℕ) (cs ds : List Command)
     → command_count_of client (cs ++ ds) ≡ command_count_of client cs + command_count_of client ds
 count-append client [] ds = omega arith
-count-append client (c ∷ cs) ds =
-    go (c.client == client) (command_count_of client (cs ++ ds)) (command_count_of client cs) (command_count_of client ds) (count-append client cs ds)
+count-append client (c ∷ cs) ds = go (c.client == client) (command_count_of client (cs ++ ds)) (command_count_of client cs)
+    (command_count_of client ds) (count-append client cs ds)
   where
     go : (b : Bool) (all n m : ℕ) → all ≡ n + m → (if b then all + 1 else all) ≡ (if b then n + 1 else n) + m
     go true all n m e = omega arith

@@ -25,7 +25,8 @@ use Rattle.cx_letter.specs.declared.kept.Record.TheVariants as kept
 use Rattle.cx_model.specs.declared.states.Deferred.{Deferred}
 use Rattle.cx_model.specs.Names.{names_value}
 use Rattle.cx_model.specs.Outcome.{Outcome, by_test}
-use Rattle.cx_model.specs.Replica.{Machine, ReplicaDurable, ReplicaVolatile, are_client_notes, held as held_of, is_renewal_whole, machine_from, with_client}
+use Rattle.cx_model.specs.Replica.{Machine, ReplicaDurable, ReplicaVolatile, are_client_notes, held as held_of, is_renewal_whole}
+use Rattle.cx_model.specs.Replica.{machine_from, with_client}
 use Rattle.cx_base.specs.Noted.{are_rising}
 use Rattle.cx_model.specs.Replica.{replica_rules, replica_fits, still_deferred}
 use Rattle.cx_model.specs.Rules.{Running}
@@ -114,7 +115,8 @@ fits_at c (w ∷ vs) (suc slot) v own e = fits_at c vs slot v (and_parts (is_clu
 
 pub own-append : (c : Cluster) (log vs : List Value) → are_own c log ≡ true → are_own c vs ≡ true
     → are_own c (log ++ vs) ≡ true
-own-append c log vs held new = list_all-append (λ (v : Value). is_cluster_value c v) log vs ∙ and_from (are_own c log) (are_own c vs) held new
+own-append c log vs held new =
+    list_all-append (λ (v : Value). is_cluster_value c v) log vs ∙ and_from (are_own c log) (are_own c vs) held new
 
 pub still_own : (c : Cluster) (held : ℕ) (early : List Placed) → are_own_early c early ≡ true
     → are_own_early c (still_early held early) ≡ true
@@ -147,13 +149,15 @@ log_fits vs h = values_in vs h
 pub logged_own : (c : Cluster) (me : RoleId) (d : ReplicaDurable) (vs : List Value)
     → are_values vs ≡ true → replica_fits c me d (kept.Log vs) ≡ true → are_own c vs ≡ true
 logged_own c me d vs fit own =
-    let named = (and_parts (is_renewal_whole d) (are_named c vs) (and_parts (is_renewal_whole d && are_named c vs) (nat_le (held_of d + length vs) 1099511627776) own).0).1 in
+    let named = (and_parts (is_renewal_whole d) (are_named c vs)
+    (and_parts (is_renewal_whole d && are_named c vs) (nat_le (held_of d + length vs) 1099511627776) own).0).1 in
     own_parts c vs ∙ and_from (are_values vs) (are_named c vs) fit named
 
 pub tailed_own : (c : Cluster) (me : RoleId) (d : ReplicaDurable) (vs : List Value)
     → are_values vs ≡ true → replica_fits c me d (kept.Tail vs) ≡ true → are_own c vs ≡ true
 tailed_own c me d vs fit own =
-    let named = (and_parts (d.pairs == 0 && d.clients == 0) (are_named c vs) (and_parts (d.pairs == 0 && d.clients == 0 && are_named c vs) (length vs == min 32 d.values) own).0).1 in
+    let named = (and_parts (d.pairs == 0 && d.clients == 0) (are_named c vs)
+    (and_parts (d.pairs == 0 && d.clients == 0 && are_named c vs) (length vs == min 32 d.values) own).0).1 in
     own_parts c vs ∙ and_from (are_values vs) (are_named c vs) fit named
 
 pub tailed_few : (c : Cluster) (me : RoleId) (d : ReplicaDurable) (vs : List Value) → replica_fits c me d (kept.Tail vs) ≡ true
@@ -162,11 +166,15 @@ tailed_few c me d vs own =
     let size = (and_parts (d.pairs == 0 && d.clients == 0 && are_named c vs) (length vs == min 32 d.values) own).1 in
     grind (arith, nat_tests, size)
 
-pub noted_parts : (c : Cluster) (me : RoleId) (d : ReplicaDurable) (client floor : ℕ) (notes : List Note) → replica_fits c me d (kept.Notes client floor notes) ≡ true
-    → (nat_lt client c.clients ≡ true) × (are_rising 0 (with_client client floor notes d.machine.table).floors ≡ true) × (are_client_notes floor notes ≡ true)
+pub noted_parts : (c : Cluster) (me : RoleId) (d : ReplicaDurable) (client floor : ℕ) (notes : List Note)
+    → replica_fits c me d (kept.Notes client floor notes) ≡ true
+    → (nat_lt client c.clients ≡ true) × (are_rising 0 (with_client client floor notes d.machine.table).floors ≡ true)
+    × (are_client_notes floor notes ≡ true)
 noted_parts c me d client floor notes own =
-    let p = and_parts (d.pairs == 0 && nat_lt 0 d.clients && nat_lt client c.clients && are_rising 0 (with_client client floor notes d.machine.table).floors) (are_client_notes floor notes) own in
-    let q = and_parts (d.pairs == 0 && nat_lt 0 d.clients && nat_lt client c.clients) (are_rising 0 (with_client client floor notes d.machine.table).floors) p.0 in
+    let p = and_parts (d.pairs == 0 && nat_lt 0 d.clients && nat_lt client c.clients
+    && are_rising 0 (with_client client floor notes d.machine.table).floors) (are_client_notes floor notes) own in
+    let q = and_parts (d.pairs == 0 && nat_lt 0 d.clients && nat_lt client c.clients)
+    (are_rising 0 (with_client client floor notes d.machine.table).floors) p.0 in
     let r = and_parts (d.pairs == 0 && nat_lt 0 d.clients) (nat_lt client c.clients) q.0 in
     (r.1, q.1, p.1)
 
@@ -220,7 +228,8 @@ sound_more c me live log new m n w reads left vs sound none first list own early
     }
 
 -- values that were executed before stand behind those that it has
-pub sound_tail : (c : Cluster) (me : RoleId) (live : Bool) (log new : LogState) (m : Machine) (w : Wanted) (reads : List Deferred) (vs : List Value)
+pub sound_tail : (c : Cluster) (me : RoleId) (live : Bool) (log new : LogState) (m : Machine) (w : Wanted) (reads : List Deferred)
+    (vs : List Value)
     → IsSound c me live log m w reads → live ≡ false → new.first ≡ log.first → new.list ≡ log.list ++ vs → are_own c vs ≡ true
     → are_own_early c new.early ≡ true → length vs ≤ w.values
     → IsSound c me live new m (record w { begun = true; values = w.values - length vs }) reads
@@ -262,7 +271,8 @@ sound_notes c me live log m n w reads sound waits ordered noted = record {
 pub base_held : (f h p n : ℕ) → record_fits (kept.Base f h p n) ≡ true → h ≤ 2 ^ 40
 unfolding kept_record mark u64
 base_held f h p n fit =
-    let most = (and_parts (mark.fits h) (u32.fits p && u8.fits n) (and_parts (mark.fits f) (mark.fits h && (u32.fits p && u8.fits n)) fit).1).0 in
+    let most =
+    (and_parts (mark.fits h) (u32.fits p && u8.fits n) (and_parts (mark.fits f) (mark.fits h && (u32.fits p && u8.fits n)) fit).1).0 in
     grind (arith, nat_tests, most)
 
 pub tail_fits : (vs : List Value) → record_fits (kept.Tail vs) ≡ true → are_values vs ≡ true
@@ -307,4 +317,5 @@ still_reads held reads fit =
 
 pub still_few : (held : ℕ) (reads : List Deferred) (most : ℕ) → length reads ≤ most
     → length (still_deferred held reads) ≤ most
-still_few held reads most few = omega (arith, length-filter (λ (r : Deferred). nat_lt held r.mark) reads, count_by-le-length (λ (r : Deferred). nat_lt held r.mark) reads)
+still_few held reads most few = omega
+    (arith, length-filter (λ (r : Deferred). nat_lt held r.mark) reads, count_by-le-length (λ (r : Deferred). nat_lt held r.mark) reads)

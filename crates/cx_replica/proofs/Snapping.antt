@@ -1,5 +1,7 @@
 -- A renewed list, record by record.
-use Rattle.std.proofs.Common.{◌≡◌, ◌⊎◌, ℕ, zero, suc, ◌+◌, ◌-◌, ◌<◌, ◌≤◌, ◌^◌, Bool, true, false, ◌&&◌, List, [], ◌∷◌, ◌++◌, length, map, filter, take, drop, inl, inr, ap, sym, subst, ◌∙◌, refl, arith, length-drop, append_assoc, append-nil, take-append-drop}
+use Rattle.std.proofs.Common.{◌≡◌, ◌⊎◌, ℕ, zero, suc, ◌+◌, ◌-◌, ◌<◌, ◌≤◌, ◌^◌, Bool, true, false, ◌&&◌, List, [], ◌∷◌, ◌++◌, length, map}
+use Rattle.std.proofs.Common.{filter, take, drop, inl, inr, ap, sym, subst, ◌∙◌, refl, arith, length-drop, append_assoc, append-nil}
+use Rattle.std.proofs.Common.{take-append-drop}
 use Rattle.std.specs.Prelude.{◌==◌, if◌then◌else◌, nat_le, nat_lt, min, Option, None, Some, slice_get, slice_index_or}
 use Rattle.std.specs.List.{list_all, list_any}
 use Rattle.std.proofs.Math.ListN.{drop_of_length-le}
@@ -51,12 +53,13 @@ pieces_enough (suc one) (suc other) size (x ∷ xs) few fewer some =
     ap (λ rest. take size (x ∷ xs) ∷ rest)
     (pieces_enough one other size left (omega (arith, length-drop size (x ∷ xs))) (omega (arith, length-drop size (x ∷ xs))) some)
 
-pub pieces_next : {A : Type 0} (size : ℕ) (xs : List A) → 1 ≤ size → 1 ≤ length xs → pieces size xs ≡ take size xs ∷ pieces size (drop size xs)
+pub pieces_next : {A : Type 0} (size : ℕ) (xs : List A) → 1 ≤ size → 1 ≤ length xs
+    → pieces size xs ≡ take size xs ∷ pieces size (drop size xs)
 unfolding pieces_of
 pieces_next size [] some one = absurd (omega arith)
 pieces_next size (x ∷ xs) some one =
-    ap (λ rest. take size (x ∷ xs) ∷ rest)
-    (pieces_enough (length xs) (length (drop size (x ∷ xs))) size (drop size (x ∷ xs)) (omega (arith, length-drop size (x ∷ xs))) (omega arith) some)
+    ap (λ rest. take size (x ∷ xs) ∷ rest) (pieces_enough (length xs) (length (drop size (x ∷ xs))) size (drop size (x ∷ xs))
+    (omega (arith, length-drop size (x ∷ xs))) (omega arith) some)
 
 -- as many as there are, at most so many
 pub take_least : {A : Type 0} (n : ℕ) (xs : List A) → take (min n (length xs)) xs ≡ take n xs
@@ -76,7 +79,8 @@ pub pieces_left : {A : Type 0} (size count left : ℕ) (xs : List A) → 1 ≤ s
     → pieces size (drop (count - left) xs) ≡ take size (drop (count - left) xs) ∷ pieces size (drop (count - (left - size)) xs)
 pieces_left size count left xs some all one within =
     pieces_next size (drop (count - left) xs) some (omega (arith, length-drop (count - left) xs))
-    ∙ ap (λ rest. take size (drop (count - left) xs) ∷ pieces size rest) (drop-drop size (count - left) xs ∙ rest (cases_Bool (nat_le size left)))
+    ∙ ap (λ rest. take size (drop (count - left) xs) ∷ pieces size rest)
+    (drop-drop size (count - left) xs ∙ rest (cases_Bool (nat_le size left)))
   where
     rest : (nat_le size left ≡ true) ⊎ (nat_le size left ≡ false) → drop (count - left + size) xs ≡ drop (count - (left - size)) xs
     rest (inl t) =
@@ -103,13 +107,15 @@ last_piece of size k done xs all past so_far =
     sym (append-nil done) ∙ there
 
 -- records that fit, and one more
-pub fit_more : (records : List Record) (what : Record) → all_fit records ≡ true → record_fits what ≡ true → all_fit (records ++ what ∷ []) ≡ true
+pub fit_more : (records : List Record) (what : Record) → all_fit records ≡ true → record_fits what ≡ true
+    → all_fit (records ++ what ∷ []) ≡ true
 fit_more records what all fits =
     list_all-append (λ (r : Record). record_fits r) records (what ∷ [])
     ∙ and_from (all_fit records) (record_fits what && true) all (and_from (record_fits what) true fits refl)
 
 -- the first few and the next one
-pub take_next : {A : Type 0} (n i : ℕ) (xs : List A) (x : A) → slice_get xs (n + i) ≡ Some x → take (i + 1) (drop n xs) ≡ take i (drop n xs) ++ x ∷ []
+pub take_next : {A : Type 0} (n i : ℕ) (xs : List A) (x : A) → slice_get xs (n + i) ≡ Some x
+    → take (i + 1) (drop n xs) ≡ take i (drop n xs) ++ x ∷ []
 take_next n i xs x at =
     let within : i < length (drop n xs) = omega (arith, length-drop n xs, slice_get_within xs (n + i) x at) in
     take_more (drop n xs) i x within
@@ -169,7 +175,8 @@ with_one : ℕ → Option ℕ → List Floor → List Floor
 with_one client None floors = floors
 with_one client (Some floor) floors = record { client = client; floor = floor } ∷ floors
 
-floors_at : (n m : ℕ) (floors : List Floor) → are_rising m floors ≡ true → floors_from n floors ≡ with_one n (floor_of n floors) (floors_from (n + 1) floors)
+floors_at : (n m : ℕ) (floors : List Floor) → are_rising m floors ≡ true
+    → floors_from n floors ≡ with_one n (floor_of n floors) (floors_from (n + 1) floors)
 unfolding with_one
 floors_at n m [] rise = refl
 floors_at n m (f ∷ floors) rise =
@@ -203,7 +210,8 @@ pub floor_next : (n floor : ℕ) (floors : List Floor) → are_rising 0 floors �
 unfolding with_one
 floor_next n floor floors rise told = rw told at (floors_at n 0 floors rise)
 
-pub floor_none : (n : ℕ) (floors : List Floor) → are_rising 0 floors ≡ true → floor_of n floors ≡ None → floors_from n floors ≡ floors_from (n + 1) floors
+pub floor_none : (n : ℕ) (floors : List Floor) → are_rising 0 floors ≡ true → floor_of n floors ≡ None
+    → floors_from n floors ≡ floors_from (n + 1) floors
 unfolding with_one
 floor_none n floors rise told = rw told at (floors_at n 0 floors rise)
 
@@ -225,13 +233,15 @@ abbrev are_between : ℕ → ℕ → ℕ → List Answered → Bool
 are_between client low high notes = list_all (is_between client low high) notes
 
 closer : (client low high : ℕ) (a : Answered) (notes : List Answered) → is_between client low high a ≡ true
-    → list_all (λ (b : Answered). comes_before a b) notes ≡ true → are_between client low high notes ≡ true → are_between client a.seq high notes ≡ true
+    → list_all (λ (b : Answered). comes_before a b) notes ≡ true → are_between client low high notes ≡ true
+    → are_between client a.seq high notes ≡ true
 closer client low high a [] own before all = refl
 closer client low high a (b ∷ notes) own before all =
     let first = and_parts (comes_before a b) (list_all (λ (x : Answered). comes_before a x) notes) before in
     let parts = and_parts (is_between client low high b) (are_between client low high notes) all in
     let here : is_between client a.seq high b ≡ true = grind (arith, nat_tests, own, first.0, parts.0) in
-    and_from (is_between client a.seq high b) (are_between client a.seq high notes) here (closer client low high a notes own first.1 parts.1)
+    and_from (is_between client a.seq high b) (are_between client a.seq high notes) here
+    (closer client low high a notes own first.1 parts.1)
 
 few_between : (client low high : ℕ) (notes : List Answered) → rises comes_before notes ≡ true → are_between client low high notes ≡ true
     → length notes ≤ high - low
@@ -239,7 +249,8 @@ few_between client low high [] rise all = omega arith
 few_between client low high (a ∷ notes) rise all =
     let first = and_parts (list_all (λ (b : Answered). comes_before a b) notes) (rises comes_before notes) rise in
     let parts = and_parts (is_between client low high a) (are_between client low high notes) all in
-    let few : length notes ≤ high - a.seq = few_between client a.seq high notes first.1 (closer client low high a notes parts.0 first.0 parts.1) in
+    let few : length notes ≤ high - a.seq =
+    few_between client a.seq high notes first.1 (closer client low high a notes parts.0 first.0 parts.1) in
     let under : low < a.seq = grind (arith, nat_tests, parts.0) in
     let over : a.seq ≤ high = grind (arith, nat_tests, parts.0) in
     omega (arith, few, under, over)
@@ -252,7 +263,8 @@ near_client client floor floors (a ∷ notes) told all =
     go (cases_Bool (a.client == client)) parts.0 (near_client client floor floors notes told parts.1)
   where
     go : ((a.client == client) ≡ true) ⊎ ((a.client == client) ≡ false) → is_near floors a ≡ true
-        → are_between client floor (floor + 64) (of_client client notes) ≡ true → are_between client floor (floor + 64) (of_client client (a ∷ notes)) ≡ true
+        → are_between client floor (floor + 64) (of_client client notes) ≡ true
+        → are_between client floor (floor + 64) (of_client client (a ∷ notes)) ≡ true
     go (inl t) near rest =
         let its : floor_of a.client floors ≡ Some floor = ap (λ k. floor_of k floors) (eqb-true a.client client t) ∙ told in
         let fits : floor_fits a.seq floor ≡ true = rw its at near in
@@ -269,7 +281,8 @@ few_notes c t client floor ordered noted told =
     (near_client client floor t.floors t.notes told noted.near) in
     omega (arith, few)
 
-has_some : (client : ℕ) (notes : List Answered) → list_any (λ (a : Answered). a.client == client) notes ≡ true → 1 ≤ length (of_client client notes)
+has_some : (client : ℕ) (notes : List Answered) → list_any (λ (a : Answered). a.client == client) notes ≡ true
+    → 1 ≤ length (of_client client notes)
 has_some client [] any = cc
 has_some client (a ∷ notes) any = elim (cases_Bool (a.client == client)) as (λ _. 1 ≤ length (of_client client (a ∷ notes))) [
   | inl t ↦ rw t (omega arith)
@@ -289,7 +302,8 @@ told_some client floor (f ∷ floors) notes told all =
     ]
 
 -- one is noted, of a client that told a floor
-pub some_notes : (c : Cluster) (t : Table) (client floor : ℕ) → IsTableOfCluster c t → floor_of client t.floors ≡ Some floor → 1 ≤ length (of_client client t.notes)
+pub some_notes : (c : Cluster) (t : Table) (client floor : ℕ) → IsTableOfCluster c t → floor_of client t.floors ≡ Some floor
+    → 1 ≤ length (of_client client t.notes)
 some_notes c t client floor noted told = has_some client t.notes (told_some client floor t.floors t.notes told noted.some)
 
 -- records in their ranges
@@ -310,7 +324,8 @@ unfolding kept_record
 tail_fit list some room fit = values_fit list some room fit
 
 -- the next pairs, or values, that fit are those of a record
-pub next_pairs_fit : (list : List Pair) → 1 ≤ length list → are_pairs (take 255 list) ≡ true → record_fits (kept.Pairs (take 255 list)) ≡ true
+pub next_pairs_fit : (list : List Pair) → 1 ≤ length list → are_pairs (take 255 list) ≡ true
+    → record_fits (kept.Pairs (take 255 list)) ≡ true
 next_pairs_fit list some fit =
     pairs_fit (take 255 list) (omega (arith, length-take 255 list, some)) (omega (arith, length-take 255 list)) fit
 
@@ -323,8 +338,10 @@ note_fit : (a : Answered) → answered.fits a ≡ true → note.fits (note_of a)
 unfolding answered note
 note_fit a fit = (and_parts _ _ fit).1
 
-noted_fit : (client : ℕ) (notes : List Answered) → are_answers notes ≡ true → list_all (λ (n : Note). note.fits n) (map note_of (of_client client notes)) ≡ true
-noted_fit client notes fit = each (of_client client notes) (all_left (λ (a : Answered). answered.fits a) (λ (a : Answered). a.client == client) notes fit)
+noted_fit : (client : ℕ) (notes : List Answered) → are_answers notes ≡ true
+    → list_all (λ (n : Note). note.fits n) (map note_of (of_client client notes)) ≡ true
+noted_fit client notes fit =
+    each (of_client client notes) (all_left (λ (a : Answered). answered.fits a) (λ (a : Answered). a.client == client) notes fit)
   where
     each : (list : List Answered) → are_answers list ≡ true → list_all (λ (n : Note). note.fits n) (map note_of list) ≡ true
     each [] all = refl
@@ -342,7 +359,8 @@ notes_fit client floor answers who least fit some room =
     let each : each_fits (λ _. note) [] list ≡ true = each_fits-same note [] list ∙ noted_fit client answers fit in
     grind (arith, nat_tests, each, long)
 
-pub base_fit : (first held keys clients : ℕ) → first ≤ 2 ^ 40 → held ≤ 2 ^ 40 → keys < 2 ^ 32 → clients ≤ 64 → record_fits (kept.Base first held keys clients) ≡ true
+pub base_fit : (first held keys clients : ℕ) → first ≤ 2 ^ 40 → held ≤ 2 ^ 40 → keys < 2 ^ 32 → clients ≤ 64
+    → record_fits (kept.Base first held keys clients) ≡ true
 unfolding kept_record mark u64 u32 u8
 base_fit first held keys clients first_fits held_fits keys_fit clients_fit = grind (arith, nat_tests)
 
@@ -350,8 +368,9 @@ pub are_named : (c : Cluster) (vs : List Value) → are_own c vs ≡ true → li
 are_named c [] all = refl
 are_named c (v ∷ vs) all =
     let parts = and_parts (is_cluster_value c v) (are_own c vs) all in
-    and_from (names_value c v) (list_all (λ (w : Value). names_value c w) vs) (and_parts (value.fits v) (names_value c v) parts.0).1 (are_named c vs parts.1)
+    and_from (names_value c v) (list_all (λ (w : Value). names_value c w) vs) (and_parts (value.fits v) (names_value c v) parts.0).1
+    (are_named c vs parts.1)
 
 pub pairs_more : (list : List Pair) (p : Pair) → are_pairs list ≡ true → pair.fits p ≡ true → are_pairs (list ++ p ∷ []) ≡ true
-pairs_more list p all fits =
-    list_all-append (λ (x : Pair). pair.fits x) list (p ∷ []) ∙ and_from (are_pairs list) (pair.fits p && true) all (and_from (pair.fits p) true fits refl)
+pairs_more list p all fits = list_all-append (λ (x : Pair). pair.fits x) list (p ∷ [])
+    ∙ and_from (are_pairs list) (pair.fits p && true) all (and_from (pair.fits p) true fits refl)

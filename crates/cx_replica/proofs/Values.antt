@@ -63,7 +63,8 @@ note_in : (client : ℕ) (n : Note) → u16.fits client ≡ true → note.fits n
 unfolding answered note
 note_in client n who fit = and_from _ _ who fit
 
-all_notes_in : (client : ℕ) (ns : List Note) → u16.fits client ≡ true → list_all (λ (n : Note). note.fits n) ns ≡ true → are_notes client ns ≡ true
+all_notes_in : (client : ℕ) (ns : List Note) → u16.fits client ≡ true → list_all (λ (n : Note). note.fits n) ns ≡ true
+    → are_notes client ns ≡ true
 all_notes_in client [] who all = refl
 all_notes_in client (n ∷ ns) who all =
     let parts = and_parts (note.fits n) (list_all (λ (x : Note). note.fits x) ns) all in

@@ -33,8 +33,8 @@ impl Replica {
         requires empty { out.old.list ≡ [] }
         requires slot { IsTrue (field.slot.fits slot) }
         requires value { IsTrue (is_cluster_value self.old.cluster value.now) }
-        ensures step { IsStep K.append_gives K.tells replica_rules self.old (chosen_row_in self.old slot value.now)
-            result self.new keeper.old keeper.new out.new.list }
+        ensures step { IsStep K.append_gives K.tells replica_rules self.old (chosen_row_in self.old
+            slot value.now) result self.new keeper.old keeper.new out.new.list }
         ensures fits { MayKeep replica_rules self.old (chosen_row_in self.old slot value.now) }
     {
         match self.log.take(self.alloc, slot, value)? {
@@ -57,8 +57,8 @@ impl Replica {
         requires empty { out.old.list ≡ [] }
         requires slot { held self.old.durable < 2 ^ 40 }
         requires value { IsTrue (is_cluster_value self.old.cluster value.now) }
-        ensures { IsStep K.append_gives K.tells replica_rules self.old (applied_in self.old value.now)
-            result self.new keeper.old keeper.new out.new.list }
+        ensures { IsStep K.append_gives K.tells replica_rules self.old
+            (applied_in self.old value.now) result self.new keeper.old keeper.new out.new.list }
     {
         let values = self.log.ready(self.alloc, value)?;
         let count = values.as_slice().len();

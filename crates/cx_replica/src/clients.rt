@@ -55,7 +55,8 @@ fn make_room_beside(
     requires commands { length commands.now ≤ 8 }
     requires room { IsRoomFor table.old.rooms (command_list earlier.now) }
     ensures table { table.new.table ≡ table.old.table }
-    ensures room { OnOk result (IsRoomFor table.new.rooms (command_list earlier.now ++ commands.now)) }
+    ensures room { OnOk result
+        (IsRoomFor table.new.rooms (command_list earlier.now ++ commands.now)) }
 {
     for (index, command) in commands.iter().enumerate() {
         let client = command.client;

@@ -89,7 +89,8 @@ impl Machine {
     pub fn is_behind(&self, clients: u16, client: u16) -> bool
         requires { are_clients_below clients self.now.left.table.floors ≡ true }
         ensures { (floor : ℕ) → result
-            ≡ are_rising 0 (self.now.left.table.floors ++ record { client = client; floor = floor } ∷ []) }
+            ≡ are_rising 0
+            (self.now.left.table.floors ++ record { client = client; floor = floor } ∷ []) }
     {
         // For its contract: the clients of floors rise.
         let _rising = self.table.notes(client);
@@ -106,7 +107,8 @@ impl Machine {
     /// Pairs behind those of the map, for a machine that is opened from records.
     pub fn push_pairs(&mut self, pairs: &[Pair]) -> Result<(), NoMemory>
         requires { rises has_lower_key (self.old.left.map ++ pairs.now) ≡ true }
-        ensures { OnOk result (self.new.left ≡ record self.old.left { map = self.old.left.map ++ pairs.now }) }
+        ensures { OnOk result
+            (self.new.left ≡ record self.old.left { map = self.old.left.map ++ pairs.now }) }
     {
         self.store.push_all(pairs)?;
         Ok(())
@@ -116,7 +118,8 @@ impl Machine {
     pub fn with_client(self, client: u16, floor: u64, notes: &[Note]) -> Result<Self, NoMemory>
         requires fit { IsTrue (are_notes client notes.now) }
         requires some { 1 ≤ length notes.now }
-        requires behind { are_rising 0 (self.left.table.floors ++ record { client = client; floor = floor } ∷ []) ≡ true }
+        requires behind { are_rising 0
+            (self.left.table.floors ++ record { client = client; floor = floor } ∷ []) ≡ true }
         requires above { are_client_notes floor notes.now ≡ true }
         ensures left { IfOk result (λ m. m.left
             ≡ record self.left { table = with_client client floor notes.now self.left.table }) }
@@ -152,7 +155,8 @@ impl Machine {
         requires room { HasRoom self.old (command.now ∷ []) }
         requires answers { vec_len answers.old < vec_capacity answers.old }
         ensures machine { self.new.left ≡ (acting at self.old.left command.now).machine }
-        ensures answers { answers.new.items ≡ answers.old.items ++ (acting at self.old.left command.now).answers }
+        ensures answers { answers.new.items
+            ≡ answers.old.items ++ (acting at self.old.left command.now).answers }
         ensures fit { IsTrue (are_answers answers.new.items) }
         ensures room { LeavesRoom self.old (command.now ∷ []) self.new }
         ensures len { vec_len answers.new ≤ vec_len answers.old + 1 }
@@ -186,7 +190,8 @@ impl Machine {
         requires room { HasRoom self.old (command.now ∷ []) }
         requires answers { vec_len answers.old < vec_capacity answers.old }
         ensures machine { self.new.left ≡ (execute at self.old.left command.now).machine }
-        ensures answers { answers.new.items ≡ answers.old.items ++ (execute at self.old.left command.now).answers }
+        ensures answers { answers.new.items
+            ≡ answers.old.items ++ (execute at self.old.left command.now).answers }
         ensures fit { IsTrue (are_answers answers.new.items) }
         ensures room { LeavesRoom self.old (command.now ∷ []) self.new }
         ensures len { vec_len answers.new ≤ vec_len answers.old + 1 }
@@ -284,7 +289,8 @@ impl Machine {
         requires rooms { length values.now ≤ rooms }
         requires spare { length values.now ≤ out.old.spare }
         ensures machine { self.new.left ≡ machine_from first self.old.left values.now }
-        ensures sends { out.new.list ≡ out.old.list ++ results_from cluster.now me first self.old.left values.now }
+        ensures sends { out.new.list
+            ≡ out.old.list ++ results_from cluster.now me first self.old.left values.now }
         ensures spare { out.old.spare ≤ out.new.spare + length values.now }
     {
         for (index, value) in values.iter().enumerate() {

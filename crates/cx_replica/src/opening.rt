@@ -29,7 +29,8 @@ fn names_values(cluster: &Cluster, values: &[Value]) -> bool
 
 impl Replica {
     fn fits_log(&self, values: &[Value]) -> bool
-        ensures { result ≡ replica_fits self.now.cluster self.now.me self.now.durable (kept.Log values.now) }
+        ensures { result
+            ≡ replica_fits self.now.cluster self.now.me self.now.durable (kept.Log values.now) }
     {
         self.wanted.is_whole()
             && names_values(&self.cluster, values)
@@ -37,14 +38,16 @@ impl Replica {
     }
 
     fn fits_pairs(&self, pairs: &[Pair]) -> bool
-        ensures { result ≡ replica_fits self.now.cluster self.now.me self.now.durable (kept.Pairs pairs.now) }
+        ensures { result
+            ≡ replica_fits self.now.cluster self.now.me self.now.durable (kept.Pairs pairs.now) }
     {
         pairs.len() as u64 == FULL.min(self.wanted.pairs) && self.machine.may_push(pairs)
     }
 
     fn fits_notes(&self, client: u16, floor: u64, notes: &[Note]) -> bool
         ensures { result
-            ≡ replica_fits self.now.cluster self.now.me self.now.durable (kept.Notes client floor notes.now) }
+            ≡ replica_fits self.now.cluster self.now.me self.now.durable
+            (kept.Notes client floor notes.now) }
     {
         // Behind all pairs, one record for each client, and the clients rise.
         self.wanted.pairs == 0
@@ -55,7 +58,8 @@ impl Replica {
     }
 
     fn fits_tail(&self, values: &[Value]) -> bool
-        ensures { result ≡ replica_fits self.now.cluster self.now.me self.now.durable (kept.Tail values.now) }
+        ensures { result
+            ≡ replica_fits self.now.cluster self.now.me self.now.durable (kept.Tail values.now) }
     {
         self.wanted.pairs == 0
             && self.wanted.clients == 0
@@ -120,10 +124,13 @@ impl Replica {
     // A renewed list begins: its values are those from `first` to before `held`, and what all before `held` left follows.
     fn remember_base(self, first: u64, held: u64, pairs: u32, clients: u8) -> Self
         requires held { held ≤ 2 ^ 40 }
-        requires own { replica_fits self.cluster self.me self.durable (kept.Base first held pairs clients) ≡ true }
+        requires own { replica_fits self.cluster self.me self.durable
+            (kept.Base first held pairs clients) ≡ true }
         requires none_early { self.volatile.early ≡ [] }
         requires waits { self.live ≡ false }
-        ensures { result ≡ record self { durable = replica_after self.durable (kept.Base first held pairs clients) } }
+        ensures { result ≡ record self {
+          durable = replica_after self.durable (kept.Base first held pairs clients);
+        } }
     {
         let mut replica = self;
         replica.log.restore_at(first);
@@ -137,7 +144,8 @@ impl Replica {
     }
 
     fn remember_pairs(self, pairs: &[Pair]) -> Result<Self, NoMemory>
-        requires own { replica_fits self.cluster self.me self.durable (kept.Pairs pairs.now) ≡ true }
+        requires own { replica_fits self.cluster self.me self.durable (kept.Pairs pairs.now)
+            ≡ true }
         requires waits { self.live ≡ false }
         ensures { IfOk result (λ replica. replica
             ≡ record self { durable = replica_after self.durable (kept.Pairs pairs.now) }) }
@@ -152,10 +160,13 @@ impl Replica {
     fn remember_notes(self, client: u16, floor: u64, notes: &[Note]) -> Result<Self, NoMemory>
         requires fit { IsTrue (are_notes client notes.now) }
         requires some { 1 ≤ length notes.now }
-        requires own { replica_fits self.cluster self.me self.durable (kept.Notes client floor notes.now) ≡ true }
+        requires own { replica_fits self.cluster self.me self.durable
+            (kept.Notes client floor notes.now) ≡ true }
         requires waits { self.live ≡ false }
         ensures { IfOk result (λ replica. replica
-            ≡ record self { durable = replica_after self.durable (kept.Notes client floor notes.now) }) }
+            ≡ record self {
+              durable = replica_after self.durable (kept.Notes client floor notes.now);
+            }) }
     {
         let Replica {
             alloc,
@@ -187,7 +198,8 @@ impl Replica {
     // These values aren't executed: pairs and notes are what they left.
     fn remember_tail(self, values: &[Value]) -> Result<Self, NoMemory>
         requires ranges { IsTrue (are_values values.now) }
-        requires own { replica_fits self.cluster self.me self.durable (kept.Tail values.now) ≡ true }
+        requires own { replica_fits self.cluster self.me self.durable (kept.Tail values.now)
+            ≡ true }
         requires none_early { self.volatile.early ≡ [] }
         requires waits { self.live ≡ false }
         ensures { IfOk result (λ replica. replica
@@ -206,7 +218,8 @@ impl Replica {
         requires own { replica_fits self.cluster self.me self.durable what.now ≡ true }
         requires none_early { self.volatile.early ≡ [] }
         requires waits { self.live ≡ false }
-        ensures { IfOk result (λ replica. replica ≡ record self { durable = replica_after self.durable what.now }) }
+        ensures { IfOk result
+            (λ replica. replica ≡ record self { durable = replica_after self.durable what.now }) }
     {
         match what {
             Record::Log { values } => self.remember_log(values.as_slice()),

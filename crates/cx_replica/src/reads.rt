@@ -39,8 +39,8 @@ impl Replica {
     pub(crate) fn read(&mut self, one: Deferred, out: &mut Outbox) -> Result<Why, NoMemory>
         requires token { IsTrue (field.token.fits one.token) }
         requires empty { out.old.list ≡ [] }
-        ensures { IsReply replica_rules self.old (read_row self.old.me self.old.durable self.old.volatile one)
-            result self.new out.new.list }
+        ensures { IsReply replica_rules self.old (read_row self.old.me self.old.durable
+            self.old.volatile one) result self.new out.new.list }
     {
         let held = self.log.held();
         if one.mark <= held {

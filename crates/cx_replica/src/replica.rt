@@ -46,16 +46,19 @@ impl Model for Replica {
     ghost Value = { Running ReplicaDurable ReplicaVolatile };
 
     ghost view = { λ r.
-        replica_view r.cluster r.me r.live r.log r.machine.left r.wanted r.deferred.items r.fetched };
+        replica_view r.cluster r.me r.live r.log r.machine.left r.wanted r.deferred.items
+        r.fetched };
 
-    ghost invariant = { λ r. IsSound r.cluster r.me r.live r.log r.machine.left r.wanted r.deferred.items };
+    ghost invariant = { λ r.
+        IsSound r.cluster r.me r.live r.log r.machine.left r.wanted r.deferred.items };
 }
 
 // A read that a client sends itself, in a session, and so doesn't name its client.
 #[tactic(auto, unfolding(cx_field::specs::Fields::token, cx_wire::specs::Format::u16))]
 fn session_read(client: u16, seq: u64, mark: u64, key: Key) -> Deferred
     requires { IsTrue (field.seq.fits seq) }
-    ensures read { result ≡ record { token = record { client = client; seq = seq }; mark = mark; key = key } }
+    ensures read { result
+        ≡ record { token = record { client = client; seq = seq }; mark = mark; key = key } }
     ensures fits { IsTrue (field.token.fits result.token) }
 {
     Deferred {
@@ -75,7 +78,8 @@ impl Replica {
 
     /// What its records left, before it takes a step again.
     fn stopped(self) -> Self
-        ensures { result ≡ record self { live = false; volatile = replica_rules.fresh self.cluster } }
+        ensures { result
+            ≡ record self { live = false; volatile = replica_rules.fresh self.cluster } }
     {
         let mut replica = self;
         replica.live = false;

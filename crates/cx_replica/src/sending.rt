@@ -44,7 +44,8 @@ pub fn tell_held(cluster: &Cluster, me: RoleId, mark: u64, out: &mut Outbox)
     requires kind { me.kind ≡ kind.Replica }
     requires mark { IsTrue (field.mark.fits mark) }
     requires spare { cluster.now.leaders ≤ out.old.spare }
-    ensures list { out.new.list ≡ out.old.list ++ map (held_to me mark) (below cluster.now.leaders) }
+    ensures list { out.new.list
+        ≡ out.old.list ++ map (held_to me mark) (below cluster.now.leaders) }
     ensures spare { out.old.spare ≤ out.new.spare + cluster.now.leaders }
 {
     for leader in 0..cluster.leaders {

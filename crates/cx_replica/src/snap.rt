@@ -44,7 +44,8 @@ fn pairs_between(
 ) -> Result<Vec<Pair>, NoMemory>
     requires order { from ≤ end }
     requires within { end ≤ length machine.now.left.map }
-    ensures items { IfOk result (λ pairs. pairs.items ≡ take (end - from) (drop from machine.now.left.map)) }
+    ensures items { IfOk result
+        (λ pairs. pairs.items ≡ take (end - from) (drop from machine.now.left.map)) }
     ensures len { IfOk result (λ pairs. vec_len pairs ≡ end - from) }
     ensures fit { IfOk result (λ pairs. IsTrue (are_pairs pairs.items)) }
 {
@@ -60,7 +61,8 @@ fn pairs_between(
 // A record of the next pairs from a place on.
 fn pairs_record(alloc: Global, machine: &Machine, from: usize) -> Result<Record, NoMemory>
     requires { from < length machine.now.left.map }
-    ensures is { IfOk result (λ what. what ≡ kept.Pairs (take 255 (drop from machine.now.left.map))) }
+    ensures is { IfOk result
+        (λ what. what ≡ kept.Pairs (take 255 (drop from machine.now.left.map))) }
     ensures fits { IfOk result (λ what. IsTrue (record_fits what)) }
 {
     let end = from + PAIRS.min(machine.keys() - from);
@@ -184,7 +186,8 @@ fn tail_record(alloc: Global, log: &Log, slot: u64) -> Result<Record, NoMemory>
     requires first { log.now.first ≤ slot }
     requires within { slot < held_in log.now }
     requires fit { IsTrue (are_values log.now.list) }
-    ensures is { IfOk result (λ what. what ≡ kept.Tail (take 32 (drop (slot - log.now.first) log.now.list))) }
+    ensures is { IfOk result
+        (λ what. what ≡ kept.Tail (take 32 (drop (slot - log.now.first) log.now.list))) }
     ensures fits { IfOk result (λ what. IsTrue (record_fits what)) }
 {
     let end = slot + WINDOW.min(log.held() - slot);
@@ -240,10 +243,12 @@ impl Replica {
     // The list without the values below the first slot of the tail, which has all others.
     fn renewed(&self, tail: &Log) -> Result<Vec<Record>, NoMemory>
         requires first { self.now.durable.first ≤ tail.now.first }
-        requires list { tail.now.list ≡ drop (tail.now.first - self.now.durable.first) self.now.durable.log }
+        requires list { tail.now.list
+            ≡ drop (tail.now.first - self.now.durable.first) self.now.durable.log }
         requires held { held_in tail.now ≡ held self.now.durable }
         requires short { length self.now.durable.machine.map < 2 ^ 32 }
-        ensures items { IfOk result (λ records. records.items ≡ replica_renewed self.now.durable tail.now.first) }
+        ensures items { IfOk result
+            (λ records. records.items ≡ replica_renewed self.now.durable tail.now.first) }
         ensures fit { IfOk result (λ records. IsTrue (all_fit records.items)) }
     {
         // Made before the base, which says how many they are.
@@ -263,12 +268,15 @@ impl Replica {
 
     // Below which slot it may forget values, if it may: a base counts the map's pairs in four bytes, so not of more pairs.
     fn snap_slot(&self) -> Option<u64>
-        ensures slot { result ≡ replica_snap self.now.cluster self.now.me self.now.durable self.now.volatile }
+        ensures slot { result
+            ≡ replica_snap self.now.cluster self.now.me self.now.durable self.now.volatile }
         ensures later { (first : ℕ) → result ≡ Some first → self.now.durable.first ≤ first }
         ensures within { (first : ℕ) → result ≡ Some first → first ≤ held self.now.durable }
-        ensures short { (first : ℕ) → result ≡ Some first → length self.now.durable.machine.map < 2 ^ 32 }
+        ensures short { (first : ℕ) → result ≡ Some first
+            → length self.now.durable.machine.map < 2 ^ 32 }
         ensures fits { (first : ℕ) → result ≡ Some first
-            → refused replica_rules self.now.cluster self.now.me (replica_renewed self.now.durable first) ≡ None }
+            → refused replica_rules self.now.cluster self.now.me
+            (replica_renewed self.now.durable first) ≡ None }
     {
         let held = self.log.held();
         // Only the replica before this one asks it for values, from `fetched` on; nobody asks the only one.
@@ -310,8 +318,10 @@ impl Replica {
             (replica_snap self.old.cluster self.old.me self.old.durable self.old.volatile)
             result self.new keeper.old keeper.new _out.new.list }
         ensures fits { (first : ℕ)
-            → replica_snap self.old.cluster self.old.me self.old.durable self.old.volatile ≡ Some first
-            → refused replica_rules self.old.cluster self.old.me (replica_renewed self.old.durable first) ≡ None }
+            → replica_snap self.old.cluster self.old.me self.old.durable self.old.volatile
+            ≡ Some first
+            → refused replica_rules self.old.cluster self.old.me
+            (replica_renewed self.old.durable first) ≡ None }
     {
         match self.snap_slot() {
             Some(first) => self.forget_below(keeper, first),

@@ -1,5 +1,6 @@
 -- What a ring's places hold after each step.
-use Rattle.std.proofs.Common.{◌≡◌, ◌≢◌, ℕ, zero, suc, ◌+◌, ◌-◌, ◌*◌, ◌/◌, ◌%◌, ◌^◌, ◌<◌, ◌≤◌, ◌⊎◌, inl, inr, Bool, true, ◌==◌, min, List, [], ◌∷◌, length, get_or, replicate, All, Option, Some, None, refl, ap, sym, ◌∙◌, arith, slice_set}
+use Rattle.std.proofs.Common.{◌≡◌, ◌≢◌, ℕ, zero, suc, ◌+◌, ◌-◌, ◌*◌, ◌/◌, ◌%◌, ◌^◌, ◌<◌, ◌≤◌, ◌⊎◌, inl, inr, Bool, true, ◌==◌, min, List}
+use Rattle.std.proofs.Common.{[], ◌∷◌, length, get_or, replicate, All, Option, Some, None, refl, ap, sym, ◌∙◌, arith, slice_set}
 use Rattle.std.proofs.lemmas.Bool.Decides.{nat_tests}
 use Rattle.std.proofs.lemmas.Nat.{div-add-mod', mod_below}
 use Rattle.std.proofs.lemmas.List.{get_or-set_other, get_or-set_same, length-set}
@@ -7,7 +8,8 @@ use Rattle.std.proofs.lemmas.List.Elements.{All-nil}
 use Rattle.std.proofs.Math.Nat.{add-mul-mod_self_right}
 use Rattle.cx_ring.specs.Ring.{IsNear, IsRing, value_at, with_value, values_from_slot}
 use Rattle.cx_ring.specs.Places.{emptied}
-use Rattle.cx_ring.proofs.Window.{places_apart, outside, value_at-with_same, value_at-with_other, All-with_value, value_at-from, near_from, length-emptied, emptied_is, emptied_other}
+use Rattle.cx_ring.proofs.Window.{places_apart, outside, value_at-with_same, value_at-with_other, All-with_value, value_at-from, near_from}
+use Rattle.cx_ring.proofs.Window.{length-emptied, emptied_is, emptied_other}
 
 same_or_not : (a b : ℕ) → (a ≡ b) ⊎ (a ≢ b)
 same_or_not a b = grind (arith, nat_tests)
@@ -27,13 +29,14 @@ module _ {A : Type 0} (at : A → ℕ) (first : ℕ) (places : List (Option A)) 
     limit = is.limit;
     size = inr (length-set places (at one % 32) (Some one) ∙ size);
     near = All-with_value at (λ x. IsNear first (at x)) one items near is.near;
-    found = λ s h. elim (same_or_not s (at one)) as (λ _. get_or (slice_set places (at one % 32) (Some one)) (s % 32) None ≡ value_at at s (with_value at one items)) [
-      | inl same ↦
-          rw same (get_or-set_same places (at one % 32) (Some one) None (within (at one) size) ∙ sym (value_at-with_same at one items))
-      | inr other ↦
-          get_or-set_other places (at one % 32) (s % 32) (Some one) None (places_apart first s (at one) h near other)
-          ∙ is.found s h ∙ sym (value_at-with_other at one s items other)
-    ];
+    found = λ s h. elim (same_or_not s
+        (at one)) as (λ _. get_or (slice_set places (at one % 32) (Some one)) (s % 32) None ≡ value_at at s (with_value at one items)) [
+          | inl same ↦
+              rw same (get_or-set_same places (at one % 32) (Some one) None (within (at one) size) ∙ sym (value_at-with_same at one items))
+          | inr other ↦
+              get_or-set_other places (at one % 32) (s % 32) (Some one) None (places_apart first s (at one) h near other)
+              ∙ is.found s h ∙ sym (value_at-with_other at one s items other)
+        ];
   })
     where
       within : (n : ℕ) → length places ≡ 32 → n % 32 < length places
@@ -43,7 +46,8 @@ module _ {A : Type 0} (at : A → ℕ) (first : ℕ) (places : List (Option A)) 
   empty_size n = elim is.size [ inl z ↦ inl (length-emptied first n places ∙ z) | inr z ↦ inr (length-emptied first n places ∙ z) ]
 
   -- a later beginning
-  pub from_later : (more n : ℕ) → first ≤ more → more ≤ 2 ^ 40 → n ≡ min (more - first) 32 → IsRing at more (emptied first n places) (values_from_slot at more items)
+  pub from_later : (more n : ℕ) → first ≤ more → more ≤ 2 ^ 40 → n ≡ min (more - first) 32
+      → IsRing at more (emptied first n places) (values_from_slot at more items)
   from_later more n l limit e = record {
     limit = limit;
     size = empty_size n;
@@ -55,7 +59,8 @@ module _ {A : Type 0} (at : A → ℕ) (first : ℕ) (places : List (Option A)) 
       at_slot s h = elim (below s) as (λ _. get_or (emptied first n places) (s % 32) None ≡ value_at at s items) [
         | inl b ↦
             let near : IsNear first s = record { low = omega (arith, h.low); high = b } in
-            emptied_other first n (s % 32) places (λ k m. places_apart first s (first + k) near (record { low = omega arith; high = omega arith }) (omega (arith, h.low)))
+            emptied_other first n (s % 32) places
+            (λ k m. places_apart first s (first + k) near (record { low = omega arith; high = omega arith }) (omega (arith, h.low)))
             ∙ is.found s near
         | inr b ↦
             let k = (s - first) % 32 in
@@ -81,7 +86,8 @@ module _ {A : Type 0} (at : A → ℕ) (first : ℕ) (places : List (Option A)) 
     near = All-nil (λ x. IsNear first (at x));
     found = λ s h.
         let small : (s - first) % 32 < 32 = mod_below (s - first) 32 (omega arith) in
-        sym (ap (λ i. get_or (emptied first 32 places) i None) (around first s h.low)) ∙ emptied_is first 32 ((s - first) % 32) places small;
+        sym (ap (λ i. get_or (emptied first 32 places) i None) (around first s h.low))
+        ∙ emptied_is first 32 ((s - first) % 32) places small;
   }
 
 none_replicated : {A : Type 0} (n i : ℕ) → get_or (replicate {A = Option A} n None) i None ≡ None

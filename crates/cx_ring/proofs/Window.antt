@@ -1,5 +1,6 @@
 -- Values of a window, and the places where they are.
-use Rattle.std.proofs.Common.{◌≡◌, ◌≢◌, ℕ, zero, suc, ◌+◌, ◌%◌, ◌<◌, ◌≤◌, ◌⊎◌, inl, inr, true, false, ◌==◌, List, [], ◌∷◌, length, get_or, All, Option, Some, None, refl, ap, sym, ◌∙◌, arith, nat_le, slice_set}
+use Rattle.std.proofs.Common.{◌≡◌, ◌≢◌, ℕ, zero, suc, ◌+◌, ◌%◌, ◌<◌, ◌≤◌, ◌⊎◌, inl, inr, true, false, ◌==◌, List, [], ◌∷◌, length, get_or}
+use Rattle.std.proofs.Common.{All, Option, Some, None, refl, ap, sym, ◌∙◌, arith, nat_le, slice_set}
 use Rattle.std.proofs.lemmas.Bool.{cases_Bool}
 use Rattle.std.proofs.lemmas.Bool.Decides.{nat_tests}
 use Rattle.std.proofs.lemmas.Nat.{div-add-mod'}
@@ -27,28 +28,31 @@ module _ {A : Type 0} (at : A → ℕ) where
   outside first s [] h o = refl
   outside first s (x ∷ xs) h o =
       let near : IsNear first (at x) = All-head (λ y. IsNear first (at y)) x xs h in
-      let other : (at x == s) ≡ false = elim o [ inl l ↦ grind (arith, nat_tests, near.low) | inr l ↦ grind (arith, nat_tests, near.high) ] in
+      let other : (at x == s) ≡ false =
+      elim o [ inl l ↦ grind (arith, nat_tests, near.low) | inr l ↦ grind (arith, nat_tests, near.high) ] in
       rw other (outside first s xs (All-tail (λ y. IsNear first (at y)) x xs h) o)
 
   pub value_at-with_same : (one : A) (xs : List A) → value_at at (at one) (with_value at one xs) ≡ Some one
   value_at-with_same one [] = let t : (at one == at one) ≡ true = grind (arith, nat_tests) in rw t refl
-  value_at-with_same one (x ∷ xs) = elim (cases_Bool (at x == at one)) as (λ _. value_at at (at one) (with_value at one (x ∷ xs)) ≡ Some one) [
-    | inl e ↦ let t : (at one == at one) ≡ true = grind (arith, nat_tests) in rw e (rw t refl)
-    | inr e ↦ rw e (rw e (value_at-with_same one xs))
-  ]
+  value_at-with_same one (x ∷ xs) =
+      elim (cases_Bool (at x == at one)) as (λ _. value_at at (at one) (with_value at one (x ∷ xs)) ≡ Some one) [
+        | inl e ↦ let t : (at one == at one) ≡ true = grind (arith, nat_tests) in rw e (rw t refl)
+        | inr e ↦ rw e (rw e (value_at-with_same one xs))
+      ]
 
   pub value_at-with_other : (one : A) (s : ℕ) (xs : List A) → s ≢ at one → value_at at s (with_value at one xs) ≡ value_at at s xs
   value_at-with_other one s [] n = let t : (at one == s) ≡ false = grind (arith, nat_tests) in rw t refl
-  value_at-with_other one s (x ∷ xs) n = elim (cases_Bool (at x == at one)) as (λ _. value_at at s (with_value at one (x ∷ xs)) ≡ value_at at s (x ∷ xs)) [
-    | inl e ↦
-        let t : (at one == s) ≡ false = grind (arith, nat_tests) in
-        let u : (at x == s) ≡ false = grind (arith, nat_tests) in
-        rw e (rw (t, u) refl)
-    | inr e ↦ rw e (elim (cases_Bool (at x == s)) as (λ _. value_at at s (x ∷ with_value at one xs) ≡ value_at at s (x ∷ xs)) [
-      | inl t ↦ rw t refl
-      | inr t ↦ rw t (value_at-with_other one s xs n)
-    ])
-  ]
+  value_at-with_other one s (x ∷ xs) n =
+      elim (cases_Bool (at x == at one)) as (λ _. value_at at s (with_value at one (x ∷ xs)) ≡ value_at at s (x ∷ xs)) [
+        | inl e ↦
+            let t : (at one == s) ≡ false = grind (arith, nat_tests) in
+            let u : (at x == s) ≡ false = grind (arith, nat_tests) in
+            rw e (rw (t, u) refl)
+        | inr e ↦ rw e (elim (cases_Bool (at x == s)) as (λ _. value_at at s (x ∷ with_value at one xs) ≡ value_at at s (x ∷ xs)) [
+          | inl t ↦ rw t refl
+          | inr t ↦ rw t (value_at-with_other one s xs n)
+        ])
+      ]
 
   pub All-with_value : (P : A → Type 0) (one : A) (xs : List A) → P one → All P xs → All P (with_value at one xs)
   All-with_value P one [] h all = All-cons P one [] h (All-nil P)
@@ -59,23 +63,27 @@ module _ {A : Type 0} (at : A → ℕ) where
 
   pub value_at-from : (first s : ℕ) (xs : List A) → first ≤ s → value_at at s (values_from_slot at first xs) ≡ value_at at s xs
   value_at-from first s [] l = refl
-  value_at-from first s (x ∷ xs) l = elim (cases_Bool (nat_le first (at x))) as (λ _. value_at at s (values_from_slot at first (x ∷ xs)) ≡ value_at at s (x ∷ xs)) [
-    | inl e ↦ rw e (elim (cases_Bool (at x == s)) as (λ _. value_at at s (x ∷ values_from_slot at first xs) ≡ value_at at s (x ∷ xs)) [
-      | inl t ↦ rw t refl
-      | inr t ↦ rw t (value_at-from first s xs l)
-    ])
-    | inr e ↦ let t : (at x == s) ≡ false = grind (arith, nat_tests) in rw e (rw t (value_at-from first s xs l))
-  ]
+  value_at-from first s (x ∷ xs) l =
+      elim (cases_Bool (nat_le first (at x))) as (λ _. value_at at s (values_from_slot at first (x ∷ xs)) ≡ value_at at s (x ∷ xs)) [
+        | inl e ↦ rw e (elim (cases_Bool (at x == s)) as (λ _. value_at at s (x ∷ values_from_slot at first xs) ≡ value_at at s (x ∷ xs)) [
+          | inl t ↦ rw t refl
+          | inr t ↦ rw t (value_at-from first s xs l)
+        ])
+        | inr e ↦ let t : (at x == s) ≡ false = grind (arith, nat_tests) in rw e (rw t (value_at-from first s xs l))
+      ]
 
-  pub near_from : (first more : ℕ) (xs : List A) → first ≤ more → All (λ x. IsNear first (at x)) xs → All (λ x. IsNear more (at x)) (values_from_slot at more xs)
+  pub near_from : (first more : ℕ) (xs : List A) → first ≤ more → All (λ x. IsNear first (at x)) xs
+      → All (λ x. IsNear more (at x)) (values_from_slot at more xs)
   near_from first more [] l all = All-nil (λ x. IsNear more (at x))
-  near_from first more (x ∷ xs) l all = elim (cases_Bool (nat_le more (at x))) as (λ _. All (λ y. IsNear more (at y)) (values_from_slot at more (x ∷ xs))) [
-    | inl e ↦
-        let near : IsNear first (at x) = All-head (λ y. IsNear first (at y)) x xs all in
-        let is : IsNear more (at x) = record { low = grind (arith, nat_tests); high = omega (arith, near.high) } in
-        rw e (All-cons (λ y. IsNear more (at y)) x (values_from_slot at more xs) is (near_from first more xs l (All-tail (λ y. IsNear first (at y)) x xs all)))
-    | inr e ↦ rw e (near_from first more xs l (All-tail (λ y. IsNear first (at y)) x xs all))
-  ]
+  near_from first more (x ∷ xs) l all =
+      elim (cases_Bool (nat_le more (at x))) as (λ _. All (λ y. IsNear more (at y)) (values_from_slot at more (x ∷ xs))) [
+        | inl e ↦
+            let near : IsNear first (at x) = All-head (λ y. IsNear first (at y)) x xs all in
+            let is : IsNear more (at x) = record { low = grind (arith, nat_tests); high = omega (arith, near.high) } in
+            rw e (All-cons (λ y. IsNear more (at y)) x (values_from_slot at more xs) is
+            (near_from first more xs l (All-tail (λ y. IsNear first (at y)) x xs all)))
+        | inr e ↦ rw e (near_from first more xs l (All-tail (λ y. IsNear first (at y)) x xs all))
+      ]
 
 -- what is at a place once others are emptied
 module _ {A : Type 0} where
@@ -83,7 +91,8 @@ module _ {A : Type 0} where
   length-emptied first zero places = refl
   length-emptied first (suc n) places = length-set (emptied first n places) ((first + n) % 32) None ∙ length-emptied first n places
 
-  set_none : (places : List (Option A)) (i j : ℕ) → ((j ≡ i) ⊎ (get_or places j None ≡ None)) → get_or (slice_set places i None) j None ≡ None
+  set_none : (places : List (Option A)) (i j : ℕ) → ((j ≡ i) ⊎ (get_or places j None ≡ None))
+      → get_or (slice_set places i None) j None ≡ None
   set_none [] i j h = refl
   set_none (p ∷ places) zero zero h = refl
   set_none (p ∷ places) zero (suc j) (inl e) = absurd (omega arith)
@@ -103,7 +112,8 @@ module _ {A : Type 0} where
       last : (k n : ℕ) → k < suc n → (k ≡ n) ⊎ (k < n)
       last k n l = grind (arith, nat_tests)
 
-  pub emptied_other : (first n j : ℕ) (places : List (Option A)) → ((k : ℕ) → k < n → j ≢ (first + k) % 32) → get_or (emptied first n places) j None ≡ get_or places j None
+  pub emptied_other : (first n j : ℕ) (places : List (Option A)) → ((k : ℕ) → k < n → j ≢ (first + k) % 32)
+      → get_or (emptied first n places) j None ≡ get_or places j None
   emptied_other first zero j places h = refl
   emptied_other first (suc n) j places h =
       get_or-set_other (emptied first n places) ((first + n) % 32) j None None (h n (omega arith))

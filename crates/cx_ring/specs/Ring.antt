@@ -1,5 +1,6 @@
 -- Values of the slots of a window.
-use Rattle.std.specs.Prelude.{◌≡◌, ℕ, ◌+◌, ◌%◌, ◌^◌, ◌<◌, ◌≤◌, ◌==◌, Bool, max, nat_le, if◌then◌else◌, List, [], ◌∷◌, length, get_or, find, filter, All, Option, None, ◌⊎◌}
+use Rattle.std.specs.Prelude.{◌≡◌, ℕ, ◌+◌, ◌%◌, ◌^◌, ◌<◌, ◌≤◌, ◌==◌, Bool, max, nat_le, if◌then◌else◌, List, [], ◌∷◌, length, get_or, find}
+use Rattle.std.specs.Prelude.{filter, All, Option, None, ◌⊎◌}
 
 -- where the window begins, its values in the order in which their slots came, and whether there is room for more
 pub record RingState (A : Type 0) : Type 0 where

@@ -28,7 +28,8 @@ impl<T: Drop, S: Slotted<T>> Model for Ring<T, S> {
 
     ghost Value = { RingState T };
 
-    ghost view = { λ r. record { first = r.first; items = r.values.items; room = vec_len r.places == 32 } };
+    ghost view = { λ r.
+        record { first = r.first; items = r.values.items; room = vec_len r.places == 32 } };
 
     ghost invariant = { λ r. IsRing S.at r.first r.places.items r.values.items };
 }

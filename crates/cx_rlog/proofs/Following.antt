@@ -16,16 +16,17 @@ following_more early slot next later left v n l h = rw (l, n, h) refl
 -- a value moves from the front of what is left to the end of what is done
 pub moved : (done more : List Value) (v w : Value) (left rest all : List Value) → more ≡ done ++ w ∷ [] → w ≡ v
     → left ≡ v ∷ rest → done ++ left ≡ all → more ++ rest ≡ all
-moved done more v w left rest all e same l h =
-    ap (λ (x : List Value). x ++ rest) e ∙ append_assoc done (w ∷ []) rest ∙ ap (λ (x : Value). done ++ x ∷ rest) same ∙ ap (λ (x : List Value). done ++ x) (sym l) ∙ h
+moved done more v w left rest all e same l h = ap (λ (x : List Value). x ++ rest) e ∙ append_assoc done (w ∷ []) rest
+    ∙ ap (λ (x : Value). done ++ x ∷ rest) same ∙ ap (λ (x : List Value). done ++ x) (sym l) ∙ h
 
 pub still_early-filter : (held : ℕ) (early : List Placed)
     → filter (λ p. nat_le held p.slot) early ≡ still_early held early
 still_early-filter held [] = refl
-still_early-filter held (p ∷ early) = elim (cases_Bool (nat_le held p.slot)) as (λ _. filter (λ p. nat_le held p.slot) (p ∷ early) ≡ still_early held (p ∷ early)) [
-  | inl e ↦ rw e (ap (λ (rest : List Placed). p ∷ rest) (still_early-filter held early))
-  | inr e ↦ rw e (still_early-filter held early)
-]
+still_early-filter held (p ∷ early) =
+    elim (cases_Bool (nat_le held p.slot)) as (λ _. filter (λ p. nat_le held p.slot) (p ∷ early) ≡ still_early held (p ∷ early)) [
+      | inl e ↦ rw e (ap (λ (rest : List Placed). p ∷ rest) (still_early-filter held early))
+      | inr e ↦ rw e (still_early-filter held early)
+    ]
 
 -- those that still wait once the window begins at the slots held
 pub still_raised : (s new : ℕ) (r later : RingState Placed) → later ≡ raise_ring (λ (p : Placed). p.slot) s r

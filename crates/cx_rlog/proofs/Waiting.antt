@@ -25,7 +25,8 @@ kept_end : (held new : ℕ) (early : List Placed) → AreEarly held early → he
     → AreEarly new (still_early new early)
 kept_end held new [] h l e = tt
 kept_end held new (p ∷ early) h l e = elim (cases_Bool (nat_le new p.slot)) as (λ _. AreEarly new (still_early new (p ∷ early))) [
-  | inl t ↦ absurd (elim e [ inl a ↦ omega (arith, leb-true new p.slot t, h.0.near) | inr a ↦ omega (arith, leb-true new p.slot t, h.0.real) ])
+  | inl t ↦
+      absurd (elim e [ inl a ↦ omega (arith, leb-true new p.slot t, h.0.near) | inr a ↦ omega (arith, leb-true new p.slot t, h.0.real) ])
   | inr t ↦ rw t (kept_end held new early h.1 l e)
 ]
 
@@ -57,7 +58,8 @@ following_step : (early : List Placed) (slot most : ℕ) (v : Option Value) → 
 following_step early slot most None e h = inr (rw e (rw add-zero e))
 following_step early slot most (Some v) e (inl h) = inl (rw e (ap suc h))
 following_step early slot most (Some v) e (inr h) =
-    inr (rw e (let n : slot + suc (length (following early (slot + 1) most)) ≡ slot + 1 + length (following early (slot + 1) most) = omega arith in rw n h))
+    inr (rw e (let n : slot + suc (length (following early (slot + 1) most)) ≡ slot + 1 + length (following early (slot + 1) most) =
+    omega arith in rw n h))
 
 following_stops : (early : List Placed) (slot most : ℕ)
     → (length (following early slot most) ≡ most) ⊎ (value_for (slot + length (following early slot most)) early ≡ None)

@@ -57,7 +57,8 @@ pub fn wait(alloc: Global, early: &mut Early, slot: u64, value: &Value) -> Resul
 /// A value for the slot held, and the waiting ones that follow it.
 pub fn ready(alloc: Global, early: &Early, held: u64, value: &Value) -> Result<Vec<Value>, NoMemory>
     requires { held < 2 ^ 40 }
-    ensures values { IfOk result (λ values. values.items ≡ ready_values held early.now.items value.now) }
+    ensures values { IfOk result
+        (λ values. values.items ≡ ready_values held early.now.items value.now) }
     ensures some { IfOk result (λ values. 1 ≤ vec_len values) }
     ensures few { IfOk result (λ values. vec_len values ≤ 32) }
     ensures short { IfOk result (λ values. held + vec_len values ≤ 2 ^ 40) }

@@ -41,13 +41,15 @@ impl Model for Log {
     } };
 
     ghost invariant = { λ log.
-        IsLog log.first (vec_len log.list) (vec_capacity log.list) log.spare log.early.first log.early.items };
+        IsLog log.first (vec_len log.list) (vec_capacity log.list) log.spare log.early.first
+        log.early.items };
 }
 
 impl Log {
     /// The empty log.
     pub fn new(alloc: Global) -> Result<Self, NoMemory>
-        ensures { IfOk result (λ log. log ≡ record { first = 0; list = []; early = []; spare = 0 }) }
+        ensures { IfOk result
+            (λ log. log ≡ record { first = 0; list = []; early = []; spare = 0 }) }
     {
         Ok(Log {
             first: 0,
@@ -92,7 +94,8 @@ impl Log {
         requires { slot < 2 ^ 40 }
         ensures answer { IfOk result (λ taken. taken ≡ taken_at (held self.old) slot) }
         ensures early { IfOk result (λ taken.
-            self.new ≡ record self.old { early = early_after taken slot value.now self.old.early }) }
+            self.new
+            ≡ record self.old { early = early_after taken slot value.now self.old.early }) }
         ensures err { OnErr result (self.new ≡ self.old) }
         ensures spared { OnErr result (taken_at (held self.old) slot ≡ Early) }
     {
@@ -118,7 +121,8 @@ impl Log {
         value: &Value,
     ) -> Result<Few<Value, 1, WINDOW_LENGTH>, NoMemory>
         requires { held self.old < 2 ^ 40 }
-        ensures values { IfOk result (λ values. values ≡ ready_values (held self.old) self.old.early value.now) }
+        ensures values { IfOk result
+            (λ values. values ≡ ready_values (held self.old) self.old.early value.now) }
         ensures ready { IfOk result (AreReadyValues self.new) }
         ensures room { IfOk result (λ values. length values ≤ self.new.spare) }
         ensures short { IfOk result (λ values. held self.new + length values ≤ 2 ^ 40) }

@@ -63,7 +63,8 @@ impl ShortCommand {
     fn of(client: u16, seq: u64, verb: Verb, key: &[u8], text: &[u8]) -> Option<Self>
         requires key { IsName 32 key.now }
         requires text { HasText verb text.now }
-        ensures { IfSome result (λ short. short ≡ command_of client seq verb (length key.now) (key.now ++ text.now)) }
+        ensures { IfSome result
+            (λ short. short ≡ command_of client seq verb (length key.now) (key.now ++ text.now)) }
     {
         let end = key.len() + text.len();
         if end > ROOM {

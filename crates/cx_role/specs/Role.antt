@@ -19,14 +19,16 @@ Keeps append_gives None old new = new ≡ old
 Keeps append_gives (Some r) old new = append_gives old r (Ok tt) new
 
 -- a whole step is the row: its word, its record, its state and its sends
-pub record Steps {K D V : Type 0} (append_gives : Appending K) (rules : Rules D V) (before : Running D V) (outcome : Outcome V) (w : Why) (old new : K) (after : Running D V) (sent : List Letter) : Type 0 where
+pub record Steps {K D V : Type 0} (append_gives : Appending K) (rules : Rules D V) (before : Running D V) (outcome : Outcome V) (w : Why)
+    (old new : K) (after : Running D V) (sent : List Letter) : Type 0 where
   pub why : w ≡ outcome.why
   pub kept : Keeps append_gives outcome.kept old new
   pub state : after ≡ running_after rules before outcome
   pub sends : sent ≡ outcome.sends
 
 -- a step of a row that keeps nothing
-pub record Replies {D V : Type 0} (rules : Rules D V) (before : Running D V) (outcome : Outcome V) (w : Why) (after : Running D V) (sent : List Letter) : Type 0 where
+pub record Replies {D V : Type 0} (rules : Rules D V) (before : Running D V) (outcome : Outcome V) (w : Why) (after : Running D V)
+    (sent : List Letter) : Type 0 where
   pub why : w ≡ outcome.why
   pub nothing : outcome.kept ≡ None
   pub state : after ≡ running_after rules before outcome
@@ -43,7 +45,8 @@ pub record StaysAt {K S : Type 0} (append_gives : Appending K) (before after : S
   pub sends : sent ≡ []
 
 -- the row's append failed, nothing was sent, and the role has to be opened again
-pub record FailsAt {K D V : Type 0} (append_gives : Appending K) (outcome : Outcome V) (old new : K) (after : Running D V) (sent : List Letter) : Type 0 where
+pub record FailsAt {K D V : Type 0} (append_gives : Appending K) (outcome : Outcome V) (old new : K) (after : Running D V)
+    (sent : List Letter) : Type 0 where
   pub append : (r : Record) × (outcome.kept ≡ Some r) × append_gives old r (Err Failed) new
   pub dead : after.live ≡ false
   pub sends : sent ≡ []
@@ -70,8 +73,8 @@ takes_no_memory w = false
 
 -- What a step does: it is the row, or leaves everything as it was when out of memory, which a row that takes none never is; or its append
 -- fails, and then it sends nothing and what the records left stays. Whether the store tells of its faults stays the same.
-pub record IsStep {K D V : Type 0} (append_gives : Appending K) (tells : K → Bool) (rules : Rules D V) (before : Running D V) (row : Outcome V)
-    (result : Result Why KeepFault) (after : Running D V) (old new : K) (sent : List Letter) : Type 0 where
+pub record IsStep {K D V : Type 0} (append_gives : Appending K) (tells : K → Bool) (rules : Rules D V) (before : Running D V)
+    (row : Outcome V) (result : Result Why KeepFault) (after : Running D V) (old new : K) (sent : List Letter) : Type 0 where
   pub ok : IfOk result (λ w. Steps append_gives rules before row w old new after sent)
   pub no_memory : IsErrOf result NoMemory → StaysAt append_gives before after old new sent
   pub spared : IsErrOf result NoMemory → takes_no_memory row.why ≡ false

@@ -30,7 +30,8 @@ snapped_by rules s None = s
 snapped_by rules s (Some first) = record s { durable = written_after rules s.durable (written.Snap first) }
 
 -- a whole snap is what the rules say: its word, the list and the state that it leaves; it sends nothing
-pub record Snaps {K D V : Type 0} (renew_gives : Renewing K) (rules : Rules D V) (before : Running D V) (first : Option ℕ) (w : Why) (old new : K) (after : Running D V) (sent : List Letter) : Type 0 where
+pub record Snaps {K D V : Type 0} (renew_gives : Renewing K) (rules : Rules D V) (before : Running D V) (first : Option ℕ) (w : Why)
+    (old new : K) (after : Running D V) (sent : List Letter) : Type 0 where
   pub why : w ≡ snap_word first
   pub list : Renews renew_gives rules before.durable first old new
   pub state : after ≡ snapped_by rules before first
@@ -43,15 +44,16 @@ pub record SnapStays {K S : Type 0} (renew_gives : Renewing K) (before after : S
   pub sends : sent ≡ []
 
 -- the renewal failed, nothing was sent, and the role has to be opened again
-pub record SnapFails {K D V : Type 0} (renew_gives : Renewing K) (rules : Rules D V) (before : Running D V) (first : Option ℕ) (old new : K) (after : Running D V) (sent : List Letter) : Type 0 where
+pub record SnapFails {K D V : Type 0} (renew_gives : Renewing K) (rules : Rules D V) (before : Running D V) (first : Option ℕ) (old new : K)
+    (after : Running D V) (sent : List Letter) : Type 0 where
   pub renewal : (n : ℕ) × (first ≡ Some n) × renew_gives old (rules.renewed before.durable n) (Err Failed) new
   pub dead : after.live ≡ false
   pub sends : sent ≡ []
 
 -- What a snap does: it is what the rules say, or leaves everything as it was when out of memory, which one that forgets nothing never is;
 -- or its renewal fails, and then it sends nothing and what the records left stays. Whether the store tells of its faults stays the same.
-pub record IsSnap {K D V : Type 0} (renew_gives : Renewing K) (tells : K → Bool) (rules : Rules D V) (before : Running D V) (first : Option ℕ)
-    (result : Result Why KeepFault) (after : Running D V) (old new : K) (sent : List Letter) : Type 0 where
+pub record IsSnap {K D V : Type 0} (renew_gives : Renewing K) (tells : K → Bool) (rules : Rules D V) (before : Running D V)
+    (first : Option ℕ) (result : Result Why KeepFault) (after : Running D V) (old new : K) (sent : List Letter) : Type 0 where
   pub ok : IfOk result (λ w. Snaps renew_gives rules before first w old new after sent)
   pub no_memory : IsErrOf result NoMemory → SnapStays renew_gives before after old new sent
   pub spared : IsErrOf result NoMemory → takes_no_memory (snap_word first) ≡ false

@@ -14,7 +14,8 @@ pub fn keep<K: Keeper>(keeper: &mut K, live: &mut bool, what: &Record) -> Result
     requires { IsTrue (fits what.now) }
     ensures kept { IfOk result (λ _. K.append_gives keeper.old what.now (Ok tt) keeper.new) }
     ensures lives { OnOk result (live.new ≡ live.old) }
-    ensures refused { IsErrOf result StepFault.NoMemory → Refuses K.append_gives keeper.old keeper.new }
+    ensures refused { IsErrOf result StepFault.NoMemory
+        → Refuses K.append_gives keeper.old keeper.new }
     ensures tells_same { K.tells keeper.new ≡ K.tells keeper.old }
     ensures lives_on { IsErrOf result StepFault.NoMemory → live.new ≡ live.old }
     ensures failed { IsErrOf result StepFault.Failed

@@ -13,6 +13,8 @@ use crate::Role;
 /// `fits` of `take` and of `order`). So a role that refused none of the records from which it was opened refuses none of those
 /// that its steps append after them.
 pub fn own_records_open<R: Role>()
-    ensures { (c : Cluster) (me : RoleId) (records own : List Record) → refused R.rules c me records ≡ None
-        → FitAlong R.rules c me (folded R.rules records) own → refused R.rules c me (records ++ own) ≡ None }
+    ensures { (c : Cluster) (me : RoleId) (records own : List Record)
+        → refused R.rules c me records ≡ None
+        → FitAlong R.rules c me (folded R.rules records) own
+        → refused R.rules c me (records ++ own) ≡ None }
 {}

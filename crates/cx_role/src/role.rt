@@ -88,7 +88,8 @@ pub trait Role: Sized {
         requires records { IsTrue (all_fit records.now) }
         ensures role { IfOk result (λ role. state role ≡ reopened rules (state self) records.now) }
         ensures whole { IfOk result (λ _. refused_behind rules (state self) records.now ≡ None) }
-        ensures fault { IfErr result (IsWakeFault (refused_behind rules (state self) records.now)) };
+        ensures fault { IfErr result
+            (IsWakeFault (refused_behind rules (state self) records.now)) };
 
     /// One datagram. It first answers `stranger`, and nothing changes, where the datagram isn't to this role, no row of this
     /// role names its kind, or a name in it lies outside the cluster.
@@ -103,7 +104,8 @@ pub trait Role: Sized {
         ensures step { IsStep K.append_gives K.tells rules (state self.old)
             (outcome_of rules (state self.old) (input.Take datagram.now))
             result (state self.new) keeper.old keeper.new out.new.list }
-        ensures fits { MayKeep rules (state self.old) (outcome_of rules (state self.old) (input.Take datagram.now)) };
+        ensures fits { MayKeep rules (state self.old)
+            (outcome_of rules (state self.old) (input.Take datagram.now)) };
 
     /// One order, by the same law; only leaders and replacers have rows for orders.
     fn order<K: Keeper>(
@@ -117,14 +119,15 @@ pub trait Role: Sized {
         ensures step { IsStep K.append_gives K.tells rules (state self.old)
             (outcome_of rules (state self.old) (input.Order order.now))
             result (state self.new) keeper.old keeper.new out.new.list }
-        ensures fits { MayKeep rules (state self.old) (outcome_of rules (state self.old) (input.Order order.now)) };
+        ensures fits { MayKeep rules (state self.old)
+            (outcome_of rules (state self.old) (input.Order order.now)) };
 
     /// One tick: what is waited for is sent again. A tick keeps nothing.
     fn tick(&mut self, out: &mut Outbox) -> Result<Why, NoMemory>
         requires live { (state self.old).live ≡ true }
         requires empty { out.old.list ≡ [] }
-        ensures { IsReply rules (state self.old) (outcome_of rules (state self.old) input.Tick) result
-            (state self.new) out.new.list };
+        ensures { IsReply rules (state self.old) (outcome_of rules (state self.old) input.Tick)
+            result (state self.new) out.new.list };
 
     /// Whether the role may take a step: until an append fails.
     fn live(&self) -> bool

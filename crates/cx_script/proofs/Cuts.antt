@@ -1,5 +1,6 @@
 -- The parts of a list round the first place where a test passes.
-use Rattle.std.proofs.Common.{◌≡◌, ℕ, ◌<◌, ◌+◌, Bool, true, false, List, [], ◌∷◌, take, drop, get_or, length, None, Some, refl, ap, subst, ◌∙◌, if◌then◌else◌, nat_lt, arith}
+use Rattle.std.proofs.Common.{◌≡◌, ℕ, ◌<◌, ◌+◌, Bool, true, false, List, [], ◌∷◌, take, drop, get_or, length, None, Some, refl, ap, subst}
+use Rattle.std.proofs.Common.{◌∙◌, if◌then◌else◌, nat_lt, arith}
 use Rattle.std.specs.List.{slice_split, position, position_or_len, list_any, onto_first}
 use Rattle.std.proofs.lemmas.Bool.{or_parts}
 use Rattle.std.proofs.lemmas.Bool.Decides.{nat_tests}
@@ -32,11 +33,13 @@ none_passes p xs h k l =
 pub split_none : (p : ℕ → Bool) (xs : List ℕ) → position p xs ≡ None → slice_split p xs ≡ xs ∷ []
 split_none p xs h = slice_split_none p xs (All-from_get_or (λ x. p x ≡ false) xs 0 (none_passes p xs h))
 
-pub split_some : (p : ℕ → Bool) (xs : List ℕ) (i : ℕ) → position p xs ≡ Some i → slice_split p xs ≡ take i xs ∷ slice_split p (drop (i + 1) xs)
+pub split_some : (p : ℕ → Bool) (xs : List ℕ) (i : ℕ) → position p xs ≡ Some i
+    → slice_split p xs ≡ take i xs ∷ slice_split p (drop (i + 1) xs)
 split_some p xs i h =
     let n = position_or_len p xs in
     let found = chosen (nat_lt n (length xs)) n i h in
-    subst (λ (k : ℕ). slice_split p xs ≡ take k xs ∷ slice_split p (drop (k + 1) xs)) found.1 (slice_split_first p xs 0 (below n (length xs) found.0))
+    subst (λ (k : ℕ). slice_split p xs ≡ take k xs ∷ slice_split p (drop (k + 1) xs)) found.1
+    (slice_split_first p xs 0 (below n (length xs) found.0))
 
 pub split_free : (p : ℕ → Bool) (part : List ℕ) → list_any p part ≡ false → slice_split p part ≡ part ∷ []
 split_free p [] free = refl

@@ -1,5 +1,6 @@
 -- A number, digit by digit.
-use Rattle.std.proofs.Common.{◌≡◌, ◌≤◌, ◌+◌, ◌*◌, ◌^◌, ◌&&◌, ℕ, Bool, true, false, List, [], ◌∷◌, Option, Some, None, nat_lt, if◌then◌else◌, ◌<◌, length, refl, inl, inr, arith}
+use Rattle.std.proofs.Common.{◌≡◌, ◌≤◌, ◌+◌, ◌*◌, ◌^◌, ◌&&◌, ℕ, Bool, true, false, List, [], ◌∷◌, Option, Some, None, nat_lt, if◌then◌else◌}
+use Rattle.std.proofs.Common.{◌<◌, length, refl, inl, inr, arith}
 use Rattle.std.proofs.lemmas.Bool.{cases_Bool}
 use Rattle.std.proofs.lemmas.Bool.Decides.{nat_tests}
 use Rattle.cx_script.specs.Words.{word_number}
@@ -10,7 +11,8 @@ use Rattle.std.specs.Char.{digit_value}
 
 -- the number of the digits so far, and those that follow
 abbrev pub after : ℕ → List ℕ → Option ℕ
-after n word = if list_all is_ascii_digit word && nat_lt (digits_value_after 10 n word) (2 ^ 64) then Some (digits_value_after 10 n word) else None
+after n word =
+    if list_all is_ascii_digit word && nat_lt (digits_value_after 10 n word) (2 ^ 64) then Some (digits_value_after 10 n word) else None
 
 pub grows : (n : ℕ) (word : List ℕ) → n ≤ digits_value_after 10 n word
 grows n [] = omega arith
@@ -24,13 +26,16 @@ too_many true n m large more = rw (past n m (2 ^ 64) large more) refl
 too_many false n m large more = refl
 
 -- a byte that is no digit, or too many of them
-pub stopped : (n b : ℕ) (bs : List ℕ) → None ≡ (if is_ascii_digit b && nat_lt (n * 10 + digit_value b) (2 ^ 64) then Some (n * 10 + digit_value b) else None) → after n (b ∷ bs) ≡ None
-stopped n b bs =
-    elim (cases_Bool (is_ascii_digit b)) as (λ x. None ≡ (if is_ascii_digit b && nat_lt (n * 10 + digit_value b) (2 ^ 64) then Some (n * 10 + digit_value b) else None) → after n (b ∷ bs) ≡ None) [
-      | inl digit ↦ elim (cases_Bool (nat_lt (n * 10 + digit_value b) (2 ^ 64))) as (λ x. None ≡ (if is_ascii_digit b && nat_lt (n * 10 + digit_value b) (2 ^ 64) then Some (n * 10 + digit_value b) else None) → after n (b ∷ bs) ≡ None) [
-        | inl small ↦ λ none. absurd (cc (rw (digit, small) at none))
-        | inr large ↦ λ none. too_many (list_all is_ascii_digit (b ∷ bs)) (n * 10 + digit_value b) (digits_value_after 10 (n * 10 + digit_value b) bs) large (grows (n * 10 + digit_value b) bs)
-      ]
+pub stopped : (n b : ℕ) (bs : List ℕ) → None ≡ (if is_ascii_digit b && nat_lt (n * 10 + digit_value b) (2 ^ 64)
+    then Some (n * 10 + digit_value b) else None) → after n (b ∷ bs) ≡ None
+stopped n b bs = elim (cases_Bool (is_ascii_digit b)) as (λ x. None ≡ (if is_ascii_digit b && nat_lt (n * 10 + digit_value b) (2 ^ 64)
+    then Some (n * 10 + digit_value b) else None) → after n (b ∷ bs) ≡ None) [
+      | inl digit ↦ elim (cases_Bool (nat_lt (n * 10 + digit_value b) (2 ^ 64))) as (λ x. None ≡ (if is_ascii_digit b
+          && nat_lt (n * 10 + digit_value b) (2 ^ 64) then Some (n * 10 + digit_value b) else None) → after n (b ∷ bs) ≡ None) [
+            | inl small ↦ λ none. absurd (cc (rw (digit, small) at none))
+            | inr large ↦ λ none. too_many (list_all is_ascii_digit (b ∷ bs)) (n * 10 + digit_value b)
+                (digits_value_after 10 (n * 10 + digit_value b) bs) large (grows (n * 10 + digit_value b) bs)
+          ]
       | inr other ↦ λ none. rw other refl
     ]
 

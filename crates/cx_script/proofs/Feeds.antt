@@ -1,5 +1,6 @@
 -- Whole lines, a line that isn't ended, and the bytes after them, as parts round the line feeds.
-use Rattle.std.proofs.Common.{◌≡◌, ◌≤◌, ◌<◌, ◌+◌, ◌-◌, ◌==◌, ◌++◌, ℕ, Bool, true, false, cond, List, [], ◌∷◌, length, map, take, refl, sym, ap, ◌∙◌, append_assoc, append-nil, arith, length-append}
+use Rattle.std.proofs.Common.{◌≡◌, ◌≤◌, ◌<◌, ◌+◌, ◌-◌, ◌==◌, ◌++◌, ℕ, Bool, true, false, cond, List, [], ◌∷◌, length, map, take, refl, sym}
+use Rattle.std.proofs.Common.{ap, ◌∙◌, append_assoc, append-nil, arith, length-append}
 use Rattle.std.specs.Cmp.Lexicographic.{bytes_decides}
 use Rattle.std.specs.List.{join_with_byte, list_any, onto_first, slice_index}
 use Rattle.std.specs.Prelude.{codes}
@@ -43,10 +44,15 @@ split_more [] more free = let f = some_first (parts more) (some_part more) in re
 split_more (b ∷ last) more free =
     let tests = or_parts (b == 10) (list_any (λ b. b == 10) last) free in
     let later = split_more last more tests.1 in
-    record { first = later.first; rest = later.rest; is = slice_split-cons_no (λ b. b == 10) b (last ++ more) tests.0 ∙ ap (onto_first b) later.is }
+    record {
+      first = later.first;
+      rest = later.rest;
+      is = slice_split-cons_no (λ b. b == 10) b (last ++ more) tests.0 ∙ ap (onto_first b) later.is;
+    }
 
 -- no part has a line feed
-free_onto : (b : ℕ) (test : Bool) (ps : List (List ℕ)) → (b == 10) ≡ test → 0 < length ps → AreFree ps → AreFree (cond test ([] ∷ ps) (onto_first b ps))
+free_onto : (b : ℕ) (test : Bool) (ps : List (List ℕ)) → (b == 10) ≡ test → 0 < length ps → AreFree ps
+    → AreFree (cond test ([] ∷ ps) (onto_first b ps))
 free_onto b true ps e some free = (refl, free)
 free_onto b false [] e some free = absurd (omega arith)
 free_onto b false (p ∷ ps) e some free = (or_from (b == 10) (list_any (λ b. b == 10) p) e free.0, free.1)
@@ -86,15 +92,19 @@ map_append : (f : List ℕ → List ℕ) (xs ys : List (List ℕ)) → map f (xs
 map_append f [] ys = refl
 map_append f (x ∷ xs) ys = ap (λ (l : List (List ℕ)). f x ∷ l) (map_append f xs ys)
 
-lines_in_text : (ls : List (List ℕ)) (bytes : List ℕ) → AreFree ls → lines_in (parts (lines_text ls ++ bytes)) ≡ ls ++ lines_in (parts bytes)
+lines_in_text : (ls : List (List ℕ)) (bytes : List ℕ) → AreFree ls
+    → lines_in (parts (lines_text ls ++ bytes)) ≡ ls ++ lines_in (parts bytes)
 lines_in_text [] bytes free = refl
 lines_in_text (l ∷ ls) bytes free =
     let split : parts (lines_text (l ∷ ls) ++ bytes) ≡ l ∷ parts (lines_text ls ++ bytes) =
     ap parts (append_assoc l (10 ∷ lines_text ls) bytes) ∙ split_feed l (lines_text ls ++ bytes) free.0 in
-    ap lines_in split ∙ before_others l (parts (lines_text ls ++ bytes)) (some_part (lines_text ls ++ bytes)) ∙ ap (λ rest. l ∷ rest) (lines_in_text ls bytes free.1)
+    ap lines_in split ∙ before_others l (parts (lines_text ls ++ bytes)) (some_part (lines_text ls ++ bytes))
+    ∙ ap (λ rest. l ∷ rest) (lines_in_text ls bytes free.1)
 
-pub lines_of_text : (ls : List (List ℕ)) (bytes : List ℕ) → AreFree ls → lines_of (lines_text ls ++ bytes) ≡ map strip_carriage_return ls ++ lines_of bytes
-lines_of_text ls bytes free = ap (map strip_carriage_return) (lines_in_text ls bytes free) ∙ map_append strip_carriage_return ls (lines_in (parts bytes))
+pub lines_of_text : (ls : List (List ℕ)) (bytes : List ℕ) → AreFree ls
+    → lines_of (lines_text ls ++ bytes) ≡ map strip_carriage_return ls ++ lines_of bytes
+lines_of_text ls bytes free =
+    ap (map strip_carriage_return) (lines_in_text ls bytes free) ∙ map_append strip_carriage_return ls (lines_in (parts bytes))
 
 -- a carriage return is one byte
 pub strip_short : (l : List ℕ) → length (strip_carriage_return l) ≤ length l
@@ -117,7 +127,8 @@ pub rule_length : (line : List ℕ) → is_rule line ≡ true → length line �
 rule_length line rule = ap length ((bytes_decides line (codes "---")).0 rule)
 
 pub long_no_rule : (line : List ℕ) → 3 < length line → is_rule line ≡ false
-long_no_rule line long = cond_both (is_rule line) true false (λ b. is_rule line ≡ false) (λ e. absurd (omega (arith, rule_length line e))) (λ e. e)
+long_no_rule line long =
+    cond_both (is_rule line) true false (λ b. is_rule line ≡ false) (λ e. absurd (omega (arith, rule_length line e))) (λ e. e)
 
 -- the line that isn't ended as a line of its own, where it has a byte
 pub lines_of_unended : (last : List ℕ) → IsFree last → 0 < length last → lines_of last ≡ strip_carriage_return last ∷ []

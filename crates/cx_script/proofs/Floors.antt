@@ -1,5 +1,7 @@
 -- Which words and lines tell a floor.
-use Rattle.std.proofs.Common.{◌≡◌, ℕ, ◌<◌, ◌+◌, ◌-◌, Bool, true, false, not, nat_lt, List, [], ◌∷◌, length, codes, filter, get_or, drop, Option, None, Some, option_and_then, ok_or, Result, Ok, Err, IfOk, IfSome, refl, sym, subst, ◌==◌, ◌&&◌, inl, inr, arith, eqb-true, if◌then◌else◌}
+use Rattle.std.proofs.Common.{◌≡◌, ℕ, ◌<◌, ◌+◌, ◌-◌, Bool, true, false, not, nat_lt, List, [], ◌∷◌, length, codes, filter, get_or, drop}
+use Rattle.std.proofs.Common.{Option, None, Some, option_and_then, ok_or, Result, Ok, Err, IfOk, IfSome, refl, sym, subst, ◌==◌, ◌&&◌, inl}
+use Rattle.std.proofs.Common.{inr, arith, eqb-true, if◌then◌else◌}
 use Rattle.std.specs.Bool.{⊤}
 use Rattle.std.specs.Char.{is_ascii_digit}
 use Rattle.std.specs.List.{list_all, list_any, onto_first, position, slice_split}
@@ -20,7 +22,8 @@ use Rattle.cx_base.specs.declared.event.Cut.TheVariants.{Whole}
 use Rattle.cx_base.specs.declared.role.Kind.TheVariants.{Client, Batcher, Leader, Replica, Reader, Replacer}
 use Rattle.cx_script.specs.declared.fault.LineFault.{LineFault}
 use Rattle.cx_script.specs.declared.fault.LineFault.TheVariants.{Long, Number}
-use Rattle.cx_script.specs.Grammar.{◌>>=◌, next_word, op_at, cut_at, write_event, read_event, session_event, deliver_event, grid_order_of, collect_event, snap_event, replace_event, server_of, event_of, is_comment, event_in, line_event}
+use Rattle.cx_script.specs.Grammar.{◌>>=◌, next_word, op_at, cut_at, write_event, read_event, session_event, deliver_event, grid_order_of}
+use Rattle.cx_script.specs.Grammar.{collect_event, snap_event, replace_event, server_of, event_of, is_comment, event_in, line_event}
 use Rattle.cx_script.specs.Places.{fitting, seq_and_floor, seq_word, number_word, key_word, index_word, set_word}
 use Rattle.cx_script.specs.Requests.{has_slash, request_line, tells_no_floor, without_floor}
 use Rattle.cx_script.specs.Words.{is_blank, is_empty, word_number, parts_of, words_of}
@@ -50,20 +53,22 @@ no_floor : (o : Option ℕ) → option_and_then (λ n. option_and_then (fitting 
 no_floor None = refl
 no_floor (Some n) = refl
 
-pub read_at_slash : (seq : List ℕ) (behind : Option (List ℕ))
-    → seq_and_floor (seq ∷ parts_of 47 behind) ≡ option_and_then (λ n. option_and_then (fitting n) (option_map_or word_number behind (Some (n - 1)))) (word_number seq)
+pub read_at_slash : (seq : List ℕ) (behind : Option (List ℕ)) → seq_and_floor (seq ∷ parts_of 47 behind)
+    ≡ option_and_then (λ n. option_and_then (fitting n) (option_map_or word_number behind (Some (n - 1)))) (word_number seq)
 read_at_slash seq None = refl
 read_at_slash seq (Some rest) = by_place (position (λ b. b == 47) rest) refl
   where
-    by_place : (o : Option ℕ) → position (λ b. b == 47) rest ≡ o
-        → seq_and_floor (seq ∷ slice_split (λ b. b == 47) rest) ≡ option_and_then (λ n. option_and_then (fitting n) (word_number rest)) (word_number seq)
+    by_place : (o : Option ℕ) → position (λ b. b == 47) rest ≡ o → seq_and_floor (seq ∷ slice_split (λ b. b == 47) rest)
+        ≡ option_and_then (λ n. option_and_then (fitting n) (word_number rest)) (word_number seq)
     by_place None none = rw (split_none (λ b. b == 47) rest none) refl
     by_place (Some i) found =
-        let more : 0 < length (slice_split (λ b. b == 47) (drop (i + 1) rest)) = omega (arith, length-slice_split (λ b. b == 47) (drop (i + 1) rest)) in
+        let more : 0 < length (slice_split (λ b. b == 47) (drop (i + 1) rest)) =
+        omega (arith, length-slice_split (λ b. b == 47) (drop (i + 1) rest)) in
         rw (split_some (λ b. b == 47) rest i found, of_three seq _ _ more, slashed rest i found, no_floor (word_number seq)) refl
 
 -- the words of a line without a slash have none
-onto_plain : (b : ℕ) (parts : List (List ℕ)) → (b == 47) ≡ false → list_any has_slash parts ≡ false → list_any has_slash (onto_first b parts) ≡ false
+onto_plain : (b : ℕ) (parts : List (List ℕ)) → (b == 47) ≡ false → list_any has_slash parts ≡ false
+    → list_any has_slash (onto_first b parts) ≡ false
 onto_plain b [] other free = rw other refl
 onto_plain b (part ∷ parts) other free = rw other free
 
@@ -90,8 +95,10 @@ words_plain : (line : List ℕ) → has_slash line ≡ false → list_any has_sl
 words_plain line free = among has_slash (λ word. not (is_empty word)) (slice_split is_blank line) (parts_plain line free)
 
 -- what the next of such words says, and the words after it
-next_plain : {A : Type 0} (P : A → Type 0) (place : List ℕ → Result A LineFault) → ((word : List ℕ) → has_slash word ≡ false → IfOk (place word) P)
-    → (words : List (List ℕ)) → list_any has_slash words ≡ false → IfOk (next_word place words) (λ part. P part.0 × (list_any has_slash part.1 ≡ false))
+next_plain : {A : Type 0} (P : A → Type 0) (place : List ℕ → Result A LineFault)
+    → ((word : List ℕ) → has_slash word ≡ false → IfOk (place word) P)
+    → (words : List (List ℕ)) → list_any has_slash words ≡ false
+    → IfOk (next_word place words) (λ part. P part.0 × (list_any has_slash part.1 ≡ false))
 next_plain P place each [] free = tt
 next_plain P place each (word ∷ words) free =
     let tests = or_parts (has_slash word) (list_any has_slash words) free in
@@ -108,8 +115,8 @@ fitting_plain n false none = tt
 seq_plain : (word : List ℕ) → has_slash word ≡ false → IfOk (seq_word word) IsPlain
 seq_plain word free =
     subst (λ (parts : List (List ℕ)). IfOk (ok_or (seq_and_floor parts) Number) IsPlain) (sym (split_free (λ b. b == 47) word free))
-    (some_ok IsPlain (seq_and_floor (word ∷ [])) Number
-    (and_then_some (λ n. ⊤) IsPlain (word_number word) (λ n. fitting n (n - 1)) (anything (word_number word)) (λ n h. fitting_plain n (floor_fits n (n - 1)) refl)))
+    (some_ok IsPlain (seq_and_floor (word ∷ [])) Number (and_then_some (λ n. ⊤) IsPlain (word_number word) (λ n. fitting n (n - 1))
+    (anything (word_number word)) (λ n h. fitting_plain n (floor_fits n (n - 1)) refl)))
 
 -- the event of such words tells no floor of its own
 abbrev TellsNone : Event → Type 0
@@ -117,30 +124,30 @@ TellsNone e = tells_no_floor e ≡ true
 
 write_plain : (c : Cluster) (words : List (List ℕ)) → list_any has_slash words ≡ false → IfOk (write_event c words) TellsNone
 unfolding write_event
-write_plain c words free =
-    then_ok _ TellsNone (next_word (index_word c Client) words) _ (next_plain (λ i. ⊤) (index_word c Client) (λ word h. whatever (index_word c Client word)) words free) (λ (client, words) h.
+write_plain c words free = then_ok _ TellsNone (next_word (index_word c Client) words)
+    _ (next_plain (λ i. ⊤) (index_word c Client) (λ word h. whatever (index_word c Client word)) words free) (λ (client, words) h.
     then_ok _ TellsNone (next_word seq_word words) _ (next_plain IsPlain seq_word seq_plain words h.1) (λ (numbers, words) k.
-    then_ok _ TellsNone (next_word (index_word c Batcher) words) _ (whatever (next_word (index_word c Batcher) words)) (λ (batcher, words) l.
-    then_ok _ TellsNone (op_at words) _ (whatever (op_at words)) (λ (op, words) m.
+    then_ok _ TellsNone (next_word (index_word c Batcher) words) _ (whatever (next_word (index_word c Batcher) words))
+    (λ (batcher, words) l. then_ok _ TellsNone (op_at words) _ (whatever (op_at words)) (λ (op, words) m.
     ended_ok TellsNone (Write (record { client = client; seq = numbers.0; floor = numbers.1; op = op }) batcher) words k.0))))
 
 read_plain : (c : Cluster) (words : List (List ℕ)) → list_any has_slash words ≡ false → IfOk (read_event c words) TellsNone
 unfolding read_event
-read_plain c words free =
-    then_ok _ TellsNone (next_word (index_word c Client) words) _ (next_plain (λ i. ⊤) (index_word c Client) (λ word h. whatever (index_word c Client word)) words free) (λ (client, words) h.
+read_plain c words free = then_ok _ TellsNone (next_word (index_word c Client) words)
+    _ (next_plain (λ i. ⊤) (index_word c Client) (λ word h. whatever (index_word c Client word)) words free) (λ (client, words) h.
     then_ok _ TellsNone (next_word seq_word words) _ (next_plain IsPlain seq_word seq_plain words h.1) (λ (numbers, words) k.
     then_ok _ TellsNone (next_word (index_word c Reader) words) _ (whatever (next_word (index_word c Reader) words)) (λ (reader, words) l.
-    then_ok _ TellsNone (next_word (index_word c Replica) words) _ (whatever (next_word (index_word c Replica) words)) (λ (replica, words) m.
-    then_ok _ TellsNone (next_word key_word words) _ (whatever (next_word key_word words)) (λ (key, words) n.
+    then_ok _ TellsNone (next_word (index_word c Replica) words) _ (whatever (next_word (index_word c Replica) words))
+    (λ (replica, words) m. then_ok _ TellsNone (next_word key_word words) _ (whatever (next_word key_word words)) (λ (key, words) n.
     ended_ok TellsNone (Read client numbers.0 numbers.1 reader replica key) words k.0)))))
 
 session_plain : (c : Cluster) (words : List (List ℕ)) → list_any has_slash words ≡ false → IfOk (session_event c words) TellsNone
 unfolding session_event
-session_plain c words free =
-    then_ok _ TellsNone (next_word (index_word c Client) words) _ (next_plain (λ i. ⊤) (index_word c Client) (λ word h. whatever (index_word c Client word)) words free) (λ (client, words) h.
+session_plain c words free = then_ok _ TellsNone (next_word (index_word c Client) words)
+    _ (next_plain (λ i. ⊤) (index_word c Client) (λ word h. whatever (index_word c Client word)) words free) (λ (client, words) h.
     then_ok _ TellsNone (next_word seq_word words) _ (next_plain IsPlain seq_word seq_plain words h.1) (λ (numbers, words) k.
-    then_ok _ TellsNone (next_word (index_word c Replica) words) _ (whatever (next_word (index_word c Replica) words)) (λ (replica, words) l.
-    then_ok _ TellsNone (next_word key_word words) _ (whatever (next_word key_word words)) (λ (key, words) m.
+    then_ok _ TellsNone (next_word (index_word c Replica) words) _ (whatever (next_word (index_word c Replica) words))
+    (λ (replica, words) l. then_ok _ TellsNone (next_word key_word words) _ (whatever (next_word key_word words)) (λ (key, words) m.
     ended_ok TellsNone (Session client numbers.0 numbers.1 replica key) words k.0))))
 
 deliver_plain : (words : List (List ℕ)) → IfOk (deliver_event words) TellsNone
@@ -157,23 +164,24 @@ collect_plain c words =
 
 snap_plain : (c : Cluster) (words : List (List ℕ)) → IfOk (snap_event c words) TellsNone
 unfolding snap_event
-snap_plain c words =
-    then_ok _ TellsNone (next_word (index_word c Replica) words) _ (whatever (next_word (index_word c Replica) words)) (λ (replica, words) h.
-    then_ok _ TellsNone (cut_at words) _ (whatever (cut_at words)) (λ cut k. refl))
+snap_plain c words = then_ok _ TellsNone (next_word (index_word c Replica) words) _ (whatever (next_word (index_word c Replica) words))
+    (λ (replica, words) h. then_ok _ TellsNone (cut_at words) _ (whatever (cut_at words)) (λ cut k. refl))
 
 replace_plain : (c : Cluster) (words : List (List ℕ)) → IfOk (replace_event c words) TellsNone
 unfolding replace_event
-replace_plain c words =
-    then_ok _ TellsNone (next_word (index_word c Replacer) words) _ (whatever (next_word (index_word c Replacer) words)) (λ (replacer, words) h.
+replace_plain c words = then_ok _ TellsNone (next_word (index_word c Replacer) words) _ (whatever (next_word (index_word c Replacer) words))
+    (λ (replacer, words) h.
     then_ok _ TellsNone (next_word (set_word c) words) _ (whatever (next_word (set_word c) words)) (λ (set, words) k.
     then_ok _ TellsNone (cut_at words) _ (whatever (cut_at words)) (λ cut l. refl)))
 
-event_plain : (c : Cluster) (verb : List ℕ) (words : List (List ℕ)) → list_any has_slash words ≡ false → IfOk (event_of c verb words) TellsNone
+event_plain : (c : Cluster) (verb : List ℕ) (words : List (List ℕ)) → list_any has_slash words ≡ false
+    → IfOk (event_of c verb words) TellsNone
 unfolding event_of
 event_plain c verb words free =
     let server = whatever (server_of c words) in
     let round = whatever (grid_order_of c words) in
-    let or_else : (b : Bool) (r s : Result Event LineFault) → IfOk r TellsNone → IfOk s TellsNone → IfOk (if b then r else s) TellsNone = λ b r s. either_ok TellsNone b r s in
+    let or_else : (b : Bool) (r s : Result Event LineFault) → IfOk r TellsNone → IfOk s TellsNone → IfOk (if b then r else s) TellsNone =
+    λ b r s. either_ok TellsNone b r s in
     or_else (bytes_eq verb (codes "write")) _ _ (write_plain c words free) (
     or_else (bytes_eq verb (codes "read")) _ _ (read_plain c words free) (
     or_else (bytes_eq verb (codes "session")) _ _ (session_plain c words free) (
@@ -191,15 +199,17 @@ in_plain : (c : Cluster) (words : List (List ℕ)) → list_any has_slash words 
 in_plain c [] free = tt
 in_plain c (verb ∷ words) free =
     either_ok (λ o. IfSome o TellsNone) (is_comment verb) (Ok None) (event_of c verb words >>= (λ event. Ok (Some event))) tt
-    (then_ok TellsNone (λ o. IfSome o TellsNone) (event_of c verb words) (λ event. Ok (Some event)) (event_plain c verb words (or_parts (has_slash verb) (list_any has_slash words) free).1) (λ event h. h))
+    (then_ok TellsNone (λ o. IfSome o TellsNone) (event_of c verb words) (λ event. Ok (Some event))
+    (event_plain c verb words (or_parts (has_slash verb) (list_any has_slash words) free).1) (λ event h. h))
 
 line_plain : (c : Cluster) (line : List ℕ) → has_slash line ≡ false → IfOk (line_event c line) (λ o. IfSome o TellsNone)
 unfolding line_event
-line_plain c line free =
-    either_ok (λ o. IfSome o TellsNone) (nat_lt 1024 (length line)) (Err Long) (event_in c (words_of line)) tt (in_plain c (words_of line) (words_plain line free))
+line_plain c line free = either_ok (λ o. IfSome o TellsNone) (nat_lt 1024 (length line)) (Err Long) (event_in c (words_of line)) tt
+    (in_plain c (words_of line) (words_plain line free))
 
 -- a request of a node's file is one of a schedule, on a line without a slash
-taken_line : (line : List ℕ) (r : Result (Option Event) LineFault) (e : Event) → without_floor line r ≡ Ok (Some e) → (r ≡ Ok (Some e)) × (has_slash line ≡ false)
+taken_line : (line : List ℕ) (r : Result (Option Event) LineFault) (e : Event) → without_floor line r ≡ Ok (Some e)
+    → (r ≡ Ok (Some e)) × (has_slash line ≡ false)
 taken_line line (Err fault) e is = cc
 taken_line line (Ok None) e is = cc
 taken_line line (Ok (Some x)) e is =

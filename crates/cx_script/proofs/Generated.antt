@@ -1,5 +1,6 @@
 -- The world takes each generated event, and its names lie in the generator's cluster.
-use Rattle.std.proofs.Common.{◌≡◌, ◌<◌, ◌+◌, ◌%◌, ◌==◌, ℕ, Bool, true, false, nat_lt, nat_le, refl, inl, inr, arith, if◌then◌else◌, true≢false}
+use Rattle.std.proofs.Common.{◌≡◌, ◌<◌, ◌+◌, ◌%◌, ◌==◌, ℕ, Bool, true, false, nat_lt, nat_le, refl, inl, inr, arith, if◌then◌else◌}
+use Rattle.std.proofs.Common.{true≢false}
 use Rattle.std.proofs.lemmas.Bool.{cases_Bool}
 use Rattle.std.proofs.lemmas.Bool.Decides.{nat_tests}
 use Rattle.std.proofs.lemmas.List.Folds.{list_all_at}
@@ -8,7 +9,8 @@ use Rattle.cx_base.specs.declared.event.Event.{Event}
 use Rattle.cx_base.specs.declared.role.Kind.TheVariants.{Batcher}
 use Rattle.cx_base.specs.Grid.{Shape}
 use Rattle.cx_base.specs.Role.{role}
-use Rattle.cx_script.specs.Generator.{GeneratorState, gen_cluster, gen_servers, gen_server, gen_first_grid, gen_grid, later_event, gen_event, drawn, second_draw, third_draw, fourth_draw, next_event}
+use Rattle.cx_script.specs.Generator.{GeneratorState, gen_cluster, gen_servers, gen_server, gen_first_grid, gen_grid, later_event}
+use Rattle.cx_script.specs.Generator.{gen_event, drawn, second_draw, third_draw, fourth_draw, next_event}
 use Rattle.cx_script.specs.Names.{names_members, names_server}
 use Rattle.cx_script.proofs.Takes.{IsGood}
 
@@ -43,7 +45,8 @@ grid_named c =
 
 later_good : (made sent a b c d : ℕ) → IsGood gen_cluster (later_event made sent a b c d)
 later_good made sent a b c d =
-    let or_else : (test : Bool) (x y : Event) → IsGood gen_cluster x → IsGood gen_cluster y → IsGood gen_cluster (if test then x else y) = λ test x y. either (IsGood gen_cluster) test x y in
+    let or_else : (test : Bool) (x y : Event) → IsGood gen_cluster x → IsGood gen_cluster y → IsGood gen_cluster (if test then x else y) =
+    λ test x y. either (IsGood gen_cluster) test x y in
     let half_b = half b in
     let half_d = half d in
     let quarter_b = quarter b in
@@ -60,7 +63,8 @@ later_good made sent a b c d =
 
 event_good : (made sent a b c d : ℕ) → IsGood gen_cluster (gen_event made sent a b c d)
 unfolding gen_event
-event_good made sent a b c d = either (IsGood gen_cluster) (made == 0) _ _ (record { taken = refl; named = refl }) (later_good made sent (a % 100) b c d)
+event_good made sent a b c d =
+    either (IsGood gen_cluster) (made == 0) _ _ (record { taken = refl; named = refl }) (later_good made sent (a % 100) b c d)
 
 pub generated_is_good : (g : GeneratorState) (sent : ℕ) → IsGood gen_cluster (next_event g sent)
 unfolding next_event

@@ -1,5 +1,7 @@
 -- What whole lines spell stays as other bytes come after them.
-use Rattle.std.proofs.Common.{◌≡◌, ◌<◌, ◌+◌, ◌++◌, ℕ, Bool, true, false, List, [], ◌∷◌, length, map, refl, sym, ap, ◌∙◌, subst, append_assoc, append-nil, arith, nat_lt, if◌then◌else◌, Option, Some, None, option_map, option_to_list, Result, Ok, Err}
+use Rattle.std.proofs.Common.{◌≡◌, ◌<◌, ◌+◌, ◌++◌, ℕ, Bool, true, false, List, [], ◌∷◌, length, map, refl, sym, ap, ◌∙◌, subst}
+use Rattle.std.proofs.Common.{append_assoc, append-nil, arith, nat_lt, if◌then◌else◌, Option, Some, None, option_map, option_to_list}
+use Rattle.std.proofs.Common.{Result, Ok, Err}
 use Rattle.std.specs.Str.Lines.{strip_carriage_return}
 use Rattle.std.proofs.lemmas.Bool.{cond_both}
 use Rattle.std.proofs.lemmas.Bool.Decides.{nat_tests}
@@ -28,7 +30,8 @@ pub on_test : (test : Bool) (n : ℕ) (s all : ParsedLines) → SpelledOn s all
 on_test true n s all on = stays (record { events = []; bad = Some n })
 on_test false n s all on = on
 
-pub on_line : (n : ℕ) (r : Result (Option Event) LineFault) (s all : ParsedLines) → SpelledOn s all → SpelledOn (with_line n r s) (with_line n r all)
+pub on_line : (n : ℕ) (r : Result (Option Event) LineFault) (s all : ParsedLines) → SpelledOn s all
+    → SpelledOn (with_line n r s) (with_line n r all)
 on_line n (Err fault) s all on = stays (record { events = []; bad = Some n })
 on_line n (Ok event) s all on = record {
   bad = λ line e. ap (with_line n (Ok event)) (on.bad line e);
@@ -36,7 +39,8 @@ on_line n (Ok event) s all on = record {
   events = ap (λ l. option_to_list event ++ l) on.events ∙ sym (append_assoc (option_to_list event) s.events on.more);
 }
 
-on_lines : (c : Cluster) (n : ℕ) (ls before behind : List (List ℕ)) → ((m : ℕ) → SpelledOn (spelled_from c m before) (spelled_from c m behind))
+on_lines : (c : Cluster) (n : ℕ) (ls before behind : List (List ℕ))
+    → ((m : ℕ) → SpelledOn (spelled_from c m before) (spelled_from c m behind))
     → SpelledOn (spelled_from c n (ls ++ before)) (spelled_from c n (ls ++ behind))
 on_lines c n [] before behind on = on n
 on_lines c n (l ∷ ls) before behind on =
@@ -49,10 +53,12 @@ long_line c l long =
     let test : nat_lt 1024 (length l) ≡ true = grind (arith, nat_tests) in
     rw test refl
 
-pub spelled_long : (c : Cluster) (n : ℕ) (l : List ℕ) (ls : List (List ℕ)) → 1024 < length l → spelled_from c n (l ∷ ls) ≡ record { events = []; bad = Some n }
+pub spelled_long : (c : Cluster) (n : ℕ) (l : List ℕ) (ls : List (List ℕ)) → 1024 < length l
+    → spelled_from c n (l ∷ ls) ≡ record { events = []; bad = Some n }
 spelled_long c n l ls long =
     let bad : ParsedLines = record { events = []; bad = Some n } in
-    cond_both (nat_lt 65535 n) bad (with_line n (line_event c l) (spelled_from c (n + 1) ls)) (λ s. s ≡ bad) (λ e. refl) (λ e. rw (long_line c l long) refl)
+    cond_both (nat_lt 65535 n) bad (with_line n (line_event c l) (spelled_from c (n + 1) ls)) (λ s. s ≡ bad) (λ e. refl)
+    (λ e. rw (long_line c l long) refl)
 
 -- the bytes of a line that isn't ended where it is longer than `most`
 abbrev pub overlong : ℕ → List ℕ → List ℕ
@@ -66,14 +72,15 @@ some_byte (b ∷ last) some = omega arith
 pub last_on : (spell : List (List ℕ) → ParsedLines) (n : ℕ) → spell [] ≡ record { events = []; bad = None }
     → ((l : List ℕ) (ls : List (List ℕ)) → 1024 < length l → spell (l ∷ ls) ≡ record { events = []; bad = Some n })
     → (last more : List ℕ) → IsFree last → SpelledOn (spell (lines_of (overlong 1024 last))) (spell (lines_of (last ++ more)))
-last_on spell n empty long_is_bad last more free =
-    cond_both (nat_lt 1024 (length (strip_carriage_return last))) last [] (λ l. SpelledOn (spell (lines_of l)) (spell (lines_of (last ++ more))))
-    (λ e.
+last_on spell n empty long_is_bad last more free = cond_both (nat_lt 1024 (length (strip_carriage_return last))) last []
+    (λ l. SpelledOn (spell (lines_of l)) (spell (lines_of (last ++ more)))) (λ e.
     let long : 1024 < length (strip_carriage_return last) = grind (arith, nat_tests) in
     let some = some_byte last (omega (arith, long)) in
     let first = first_line_of last more free some in
-    let begun : spell (lines_of last) ≡ record { events = []; bad = Some n } = ap spell (lines_of_unended last free some) ∙ long_is_bad (strip_carriage_return last) [] long in
-    let all : spell (lines_of (last ++ more)) ≡ record { events = []; bad = Some n } = rw first.is (long_is_bad first.line first.lines (omega (arith, long, first.longer))) in
+    let begun : spell (lines_of last) ≡ record { events = []; bad = Some n } =
+    ap spell (lines_of_unended last free some) ∙ long_is_bad (strip_carriage_return last) [] long in
+    let all : spell (lines_of (last ++ more)) ≡ record { events = []; bad = Some n } =
+    rw first.is (long_is_bad first.line first.lines (omega (arith, long, first.longer))) in
     rw (begun, all) (stays (record { events = []; bad = Some n })))
     (λ e. subst (λ s. SpelledOn s (spell (lines_of (last ++ more)))) (sym empty)
     (record { bad = λ line h. cc; more = (spell (lines_of (last ++ more))).events; events = refl }))
@@ -96,12 +103,13 @@ abbrev pub in_front : List ℕ → List ℕ × List (List ℕ) → List ℕ × L
 in_front line (header, behind) = ((line ++ 10 ∷ []) ++ header, behind)
 
 in_front_on : (l : List ℕ) (ls : List (List ℕ)) (bytes : List ℕ) (found : Option (List ℕ × List (List ℕ)))
-    → option_map (in_front (strip_carriage_return l)) (header_on found ls bytes) ≡ header_on (option_map (in_front (strip_carriage_return l)) found) (l ∷ ls) bytes
+    → option_map (in_front (strip_carriage_return l)) (header_on found ls bytes)
+    ≡ header_on (option_map (in_front (strip_carriage_return l)) found) (l ∷ ls) bytes
 in_front_on l ls bytes (Some (header, behind)) = refl
 in_front_on l ls bytes None = later (header_in (parts bytes))
   where
-    later : (found : Option (List ℕ × List (List ℕ)))
-        → option_map (in_front (strip_carriage_return l)) (option_map (λ (front, rest). (lines_text (map strip_carriage_return ls) ++ front, rest)) found)
+    later : (found : Option (List ℕ × List (List ℕ))) → option_map (in_front (strip_carriage_return l))
+        (option_map (λ (front, rest). (lines_text (map strip_carriage_return ls) ++ front, rest)) found)
         ≡ option_map (λ (front, rest). (lines_text (map strip_carriage_return (l ∷ ls)) ++ front, rest)) found
     later None = refl
     later (Some (front, rest)) =
@@ -109,7 +117,8 @@ in_front_on l ls bytes None = later (header_in (parts bytes))
         let text = lines_text (map strip_carriage_return ls) in
         ap (λ (h : List ℕ). Some (h, rest)) (append_assoc line (10 ∷ []) (text ++ front) ∙ sym (append_assoc line (10 ∷ text) front))
 
-pub header_in_on : (ls : List (List ℕ)) (bytes : List ℕ) → AreFree ls → header_in (parts (lines_text ls ++ bytes)) ≡ header_on (header_in ls) ls bytes
+pub header_in_on : (ls : List (List ℕ)) (bytes : List ℕ) → AreFree ls
+    → header_in (parts (lines_text ls ++ bytes)) ≡ header_on (header_in ls) ls bytes
 header_in_on [] bytes free = none_on (header_in (parts bytes))
   where
     none_on : (found : Option (List ℕ × List (List ℕ))) → found ≡ option_map (λ (front, rest). ([] ++ front, rest)) found
@@ -118,12 +127,14 @@ header_in_on [] bytes free = none_on (header_in (parts bytes))
 header_in_on (l ∷ ls) bytes free =
     let split : parts (lines_text (l ∷ ls) ++ bytes) ≡ l ∷ parts (lines_text ls ++ bytes) =
     ap parts (append_assoc l (10 ∷ lines_text ls) bytes) ∙ split_feed l (lines_text ls ++ bytes) free.0 in
-    let later = ap (option_map (in_front (strip_carriage_return l))) (header_in_on ls bytes free.1) ∙ in_front_on l ls bytes (header_in ls) in
+    let later =
+    ap (option_map (in_front (strip_carriage_return l))) (header_in_on ls bytes free.1) ∙ in_front_on l ls bytes (header_in ls) in
     ap header_in split ∙ by_rule (is_rule (strip_carriage_return l)) later
   where
-    by_rule : (rule : Bool)
-        → option_map (in_front (strip_carriage_return l)) (header_in (parts (lines_text ls ++ bytes))) ≡ header_on (option_map (in_front (strip_carriage_return l)) (header_in ls)) (l ∷ ls) bytes
-        → (if rule then Some ([], parts (lines_text ls ++ bytes)) else option_map (in_front (strip_carriage_return l)) (header_in (parts (lines_text ls ++ bytes))))
+    by_rule : (rule : Bool) → option_map (in_front (strip_carriage_return l)) (header_in (parts (lines_text ls ++ bytes)))
+        ≡ header_on (option_map (in_front (strip_carriage_return l)) (header_in ls)) (l ∷ ls) bytes
+        → (if rule then Some ([], parts (lines_text ls ++ bytes))
+        else option_map (in_front (strip_carriage_return l)) (header_in (parts (lines_text ls ++ bytes))))
         ≡ header_on (if rule then Some ([], ls) else option_map (in_front (strip_carriage_return l)) (header_in ls)) (l ∷ ls) bytes
     by_rule true later = refl
     by_rule false later = later

@@ -1,5 +1,7 @@
 -- The header of whole lines, as other bytes come after them, and how long it is.
-use Rattle.std.proofs.Common.{◌≡◌, ◌==◌, ◌≤◌, ◌<◌, ◌+◌, ◌++◌, ℕ, Bool, true, false, List, [], ◌∷◌, length, map, refl, sym, ap, ◌∙◌, append_assoc, arith, nat_lt, nat_le, if◌then◌else◌, Option, Some, None, IfSome, option_map, option_and_then, length-append}
+use Rattle.std.proofs.Common.{◌≡◌, ◌==◌, ◌≤◌, ◌<◌, ◌+◌, ◌++◌, ℕ, Bool, true, false, List, [], ◌∷◌, length, map, refl, sym, ap, ◌∙◌}
+use Rattle.std.proofs.Common.{append_assoc, arith, nat_lt, nat_le, if◌then◌else◌, Option, Some, None, IfSome, option_map, option_and_then}
+use Rattle.std.proofs.Common.{length-append}
 use Rattle.std.specs.Str.Lines.{strip_carriage_return}
 use Rattle.std.proofs.lemmas.Bool.{cond_both}
 use Rattle.std.proofs.lemmas.Bool.Decides.{nat_tests}
@@ -32,8 +34,8 @@ too_long text (Some (front, rest)) long =
     let test : nat_le (length (text ++ front)) 16384 ≡ false = grind (arith, nat_tests, length-append text front) in
     rw test refl
 
-pub header_too_long : (ls : List (List ℕ)) (bytes : List ℕ) → AreFree ls → header_in ls ≡ None
-    → IfSome (header_in (parts bytes)) (λ p. 16384 < length (lines_text (map strip_carriage_return ls)) + length p.0) → header_and_rest (lines_text ls ++ bytes) ≡ None
+pub header_too_long : (ls : List (List ℕ)) (bytes : List ℕ) → AreFree ls → header_in ls ≡ None → IfSome (header_in (parts bytes))
+    (λ p. 16384 < length (lines_text (map strip_carriage_return ls)) + length p.0) → header_and_rest (lines_text ls ++ bytes) ≡ None
 unfolding header_and_rest
 header_too_long ls bytes free none long =
     ap (option_and_then of_length) (header_in_on ls bytes free ∙ ap (λ (f : Option (List ℕ × List (List ℕ))). header_on f ls bytes) none)
@@ -53,10 +55,11 @@ none_long None text none = tt
 none_long (Some p) text none = cc
 
 -- the header of whole lines and a long line has not ended
-pub header_not_ended : (ls : List (List ℕ)) (last : List ℕ) → AreFree ls → IsFree last → header_in ls ≡ None → header_and_rest (lines_text ls ++ overlong 1024 last) ≡ None
+pub header_not_ended : (ls : List (List ℕ)) (last : List ℕ) → AreFree ls → IsFree last → header_in ls ≡ None
+    → header_and_rest (lines_text ls ++ overlong 1024 last) ≡ None
 header_not_ended ls last free last_free none =
-    header_too_long ls (overlong 1024 last) free none
-    (none_long (header_in (parts (overlong 1024 last))) (lines_text (map strip_carriage_return ls)) (no_rule_in 1024 last (omega arith) last_free))
+    header_too_long ls (overlong 1024 last) free none (none_long (header_in (parts (overlong 1024 last)))
+    (lines_text (map strip_carriage_return ls)) (no_rule_in 1024 last (omega arith) last_free))
 
 -- lines and further lines as text
 text_append : (xs ys : List (List ℕ)) → lines_text (xs ++ ys) ≡ lines_text xs ++ lines_text ys
@@ -64,25 +67,28 @@ text_append [] ys = refl
 text_append (x ∷ xs) ys = ap (λ l. x ++ 10 ∷ l) (text_append xs ys) ∙ sym (append_assoc x (10 ∷ lines_text xs) (lines_text ys))
 
 -- how long the lines of a header are that hasn't ended
-pub open_length : (ls : List (List ℕ)) (bytes : List ℕ) → AreFree ls
-    → length (lines_text (lines_of (lines_text ls ++ bytes))) ≡ length (lines_text (map strip_carriage_return ls)) + length (lines_text (lines_of bytes))
+pub open_length : (ls : List (List ℕ)) (bytes : List ℕ) → AreFree ls → length (lines_text (lines_of (lines_text ls ++ bytes)))
+    ≡ length (lines_text (map strip_carriage_return ls)) + length (lines_text (lines_of bytes))
 open_length ls bytes free =
     ap (λ l. length (lines_text l)) (lines_of_text ls bytes free) ∙ ap length (text_append (map strip_carriage_return ls) (lines_of bytes))
     ∙ length-append (lines_text (map strip_carriage_return ls)) (lines_text (lines_of bytes))
 
-front_long : (line : List ℕ) (n : ℕ) (found : Option (List ℕ × List (List ℕ))) → n < length line → IfSome (option_map (in_front line) found) (λ p. n < length p.0)
+front_long : (line : List ℕ) (n : ℕ) (found : Option (List ℕ × List (List ℕ))) → n < length line
+    → IfSome (option_map (in_front line) found) (λ p. n < length p.0)
 front_long line n None long = tt
 front_long line n (Some (header, behind)) long = omega (arith, length-append (line ++ 10 ∷ []) header, length-append line (10 ∷ []))
 
 -- a line that is too long for a header, and goes on
-last_long : (last more : List ℕ) → IsFree last → 16384 < length (strip_carriage_return last) → IfSome (header_in (parts (last ++ more))) (λ p. 16384 < length p.0)
+last_long : (last more : List ℕ) → IsFree last → 16384 < length (strip_carriage_return last)
+    → IfSome (header_in (parts (last ++ more))) (λ p. 16384 < length p.0)
 last_long last more free long =
     let begins = split_more last more free in
     let line = strip_carriage_return (last ++ begins.first) in
     let longer : 16384 < length line = omega (arith, long, strip_more last begins.first) in
     rw (begins.is, long_no_rule line (omega (arith, longer))) (front_long line 16384 (header_in begins.rest) longer)
 
-more_text : (found : Option (List ℕ × List (List ℕ))) (n : ℕ) → IfSome found (λ p. 16384 < length p.0) → IfSome found (λ p. 16384 < n + length p.0)
+more_text : (found : Option (List ℕ × List (List ℕ))) (n : ℕ) → IfSome found (λ p. 16384 < length p.0)
+    → IfSome found (λ p. 16384 < n + length p.0)
 more_text None n long = tt
 more_text (Some p) n long = omega (arith, long)
 
@@ -102,7 +108,8 @@ long_header_stays ls last more free last_free none long =
         → IfSome (header_in (parts (last ++ more))) (λ p. 16384 < length (lines_text (map strip_carriage_return ls)) + length p.0)
     by_last true e long =
         let last_is : 16384 < length (strip_carriage_return last) = grind (arith, nat_tests) in
-        more_text (header_in (parts (last ++ more))) (length (lines_text (map strip_carriage_return ls))) (last_long last more last_free last_is)
+        more_text (header_in (parts (last ++ more))) (length (lines_text (map strip_carriage_return ls)))
+        (last_long last more last_free last_is)
     by_last false e long =
         let all = open_length ls [] free in
         let whole : 16384 < length (lines_text (map strip_carriage_return ls)) = grind (arith, nat_tests) in

@@ -1,5 +1,6 @@
 -- The parts of a schedule round its line feeds, one by one.
-use Rattle.std.proofs.Common.{◌≡◌, ◌≤◌, ◌<◌, ◌==◌, ◌++◌, ℕ, List, [], ◌∷◌, Option, None, Some, option_map, option_and_then, unwrap_or, length, true, false, nat_le, refl, sym, ap, ◌∙◌, append-nil, arith}
+use Rattle.std.proofs.Common.{◌≡◌, ◌≤◌, ◌<◌, ◌==◌, ◌++◌, ℕ, List, [], ◌∷◌, Option, None, Some, option_map, option_and_then, unwrap_or}
+use Rattle.std.proofs.Common.{length, true, false, nat_le, refl, sym, ap, ◌∙◌, append-nil, arith}
 use Rattle.std.proofs.lemmas.Bool.Decides.{nat_tests}
 use Rattle.std.proofs.lemmas.List.Splits.{join_with_byte-slice_split, length-slice_split}
 use Rattle.std.specs.List.{slice_split, join_with_byte}
@@ -27,8 +28,8 @@ not_empty [] some = absurd (omega arith)
 not_empty (b ∷ bs) some = refl
 
 -- the first line, and those after it
-pub line_first : (bytes part : List ℕ) (behind : Option (List ℕ)) → 0 < length bytes → slice_split (λ b. b == 10) bytes ≡ part ∷ parts_of 10 behind
-    → lines_of bytes ≡ strip_carriage_return part ∷ lines_of (unwrap_or behind [])
+pub line_first : (bytes part : List ℕ) (behind : Option (List ℕ)) → 0 < length bytes → slice_split (λ b. b == 10) bytes
+    ≡ part ∷ parts_of 10 behind → lines_of bytes ≡ strip_carriage_return part ∷ lines_of (unwrap_or behind [])
 line_first bytes part None some parts =
     let whole : part ≡ bytes = ap (join_with_byte 10) (sym parts) ∙ join_with_byte-slice_split 10 bytes in
     let filled : 0 < length part = rw whole some in
@@ -38,7 +39,8 @@ line_first bytes part (Some rest) some parts =
 
 -- the line that ends a header
 pub rule_found : (header part : List ℕ) (behind : Option (List ℕ)) → is_rule (strip_carriage_return part) ≡ true → length header ≤ 16384
-    → option_and_then of_length (option_map (λ (front, rest). (header ++ front, rest)) (header_in (part ∷ parts_of 10 behind))) ≡ Some (header, unwrap_or behind [])
+    → option_and_then of_length (option_map (λ (front, rest). (header ++ front, rest)) (header_in (part ∷ parts_of 10 behind)))
+    ≡ Some (header, unwrap_or behind [])
 rule_found header part behind rule room =
     let fits : nat_le (length header) 16384 ≡ true = grind (arith, nat_tests) in
     rw (rule, append-nil header, fits, joined behind) refl

@@ -1,5 +1,6 @@
 -- The words of a line, from the first on.
-use Rattle.std.proofs.Common.{◌≡◌, ℕ, zero, suc, ◌<◌, ◌+◌, true, false, not, List, [], ◌∷◌, get_or, take, drop, length, None, Some, refl, sym, ap, ◌∙◌, arith, true≢false}
+use Rattle.std.proofs.Common.{◌≡◌, ℕ, zero, suc, ◌<◌, ◌+◌, true, false, not, List, [], ◌∷◌, get_or, take, drop, length, None, Some, refl}
+use Rattle.std.proofs.Common.{sym, ap, ◌∙◌, arith, true≢false}
 use Rattle.std.specs.List.{position}
 use Rattle.std.proofs.lemmas.Bool.{not-false}
 use Rattle.std.proofs.lemmas.List.{drop_more, drop_all}
@@ -28,7 +29,8 @@ of_blanks line none =
     ∙ ap words_of (drop_all (length line) line (omega arith))
 
 -- the part before a blank is the first word, where it isn't empty
-pub before_blank : (from : List ℕ) (end : ℕ) → is_blank (get_or from 0 0) ≡ false → position is_blank from ≡ Some end → words_of from ≡ take end from ∷ words_of (drop end from)
+pub before_blank : (from : List ℕ) (end : ℕ) → is_blank (get_or from 0 0) ≡ false → position is_blank from ≡ Some end
+    → words_of from ≡ take end from ∷ words_of (drop end from)
 before_blank from zero letter found = absurd (true≢false (sym (position-Some is_blank from zero 0 found).1 ∙ letter))
 before_blank [] (suc end) letter found = absurd (omega (arith, (position-Some is_blank [] (suc end) 0 found).0))
 before_blank (b ∷ bs) (suc end) letter found =

@@ -1,5 +1,6 @@
 -- What a word says in its place, or the place's fault.
-use Rattle.std.specs.Prelude.{ℕ, ◌-◌, ◌+◌, ◌*◌, Bool, ◌==◌, ◌&&◌, nat_le, nat_lt, List, [], ◌∷◌, length, find, is_none, Option, Some, None, option_map, option_and_then, ok_or, Result, Err, if◌then◌else◌}
+use Rattle.std.specs.Prelude.{ℕ, ◌-◌, ◌+◌, ◌*◌, Bool, ◌==◌, ◌&&◌, nat_le, nat_lt, List, [], ◌∷◌, length, find, is_none, Option, Some, None}
+use Rattle.std.specs.Prelude.{option_map, option_and_then, ok_or, Result, Err, if◌then◌else◌}
 use Rattle.std.specs.List.{before_first, after_first, slice_split}
 use Rattle.std.specs.Str.{bytes_eq}
 use Rattle.cx_base.specs.Asked.{floor_fits}
@@ -91,7 +92,8 @@ abbrev pub grid_from_ids : ℕ → ℕ → List ℕ → Option Shape
 grid_from_ids rows cols ids = if is_none (grid_fault rows cols ids) then Some (make_grid rows cols ids) else None
 
 abbrev pub members_word : Cluster → ℕ → ℕ → List ℕ → Result Shape LineFault
-members_word c rows cols word = ok_or (option_and_then (grid_from_ids rows cols) (ids_of c.acceptors (slice_split (λ b. b == 44) word))) Grid
+members_word c rows cols word =
+    ok_or (option_and_then (grid_from_ids rows cols) (ids_of c.acceptors (slice_split (λ b. b == 44) word))) Grid
 
 -- a,b,..: a set of matchmakers of the cluster, 2f + 1 ids that rise
 abbrev pub set_in : Cluster → List ℕ → Option (List ℕ)

@@ -22,7 +22,8 @@ fn is_rule(line: &[u8]) -> bool
 /// feed.
 #[tactic(auto, unfolding(crate::specs::Header::header_and_rest))]
 pub fn split_header(alloc: Global, bytes: &[u8]) -> Result<Option<(Vec<u8>, &[u8])>, NoMemory>
-    ensures { IfOk result (λ split. option_map (λ p. (p.0.items, p.1.now)) split ≡ header_and_rest bytes.now) }
+    ensures { IfOk result
+        (λ split. option_map (λ p. (p.0.items, p.1.now)) split ≡ header_and_rest bytes.now) }
 {
     let mut header = Vec::new(alloc);
     let mut rest = Some(bytes);

@@ -26,7 +26,8 @@ fn asker(event: &Event) -> Option<(u16, u64)>
 fn number_rises(greatest: &mut Greatest, client: u16, seq: u64) -> bool
     requires { client < 64 }
     ensures above { result ≡ nat_lt (get_or greatest.old client 0) seq }
-    ensures noted { greatest.new ≡ (if result then slice_set greatest.old client seq else greatest.old) }
+    ensures noted { greatest.new
+        ≡ (if result then slice_set greatest.old client seq else greatest.old) }
     ensures clients { length greatest.old ≡ 64 }
 {
     let above = greatest.is_above(client, seq);

@@ -66,7 +66,8 @@ pub fn parted(word: &[u8], at: u8) -> (&[u8], &[u8])
 
 /// The first of the parts round such bytes, and what comes after it, or None where there is no such byte.
 pub fn first_part(bytes: &[u8], at: u8) -> (&[u8], Option<&[u8]>)
-    ensures parts { slice_split (λ b. b == at) bytes.now ≡ result.0.now ∷ parts_of at (option_copied result.1) }
+    ensures parts { slice_split (λ b. b == at) bytes.now
+        ≡ result.0.now ∷ parts_of at (option_copied result.1) }
     ensures shorter { IfSome result.1 (λ rest. length rest.now < length bytes.now) }
 {
     match byte_place(bytes, at) {

@@ -107,7 +107,8 @@ cut_act : (c : Cluster) (roles : RoleId → State) (kept : List KeptRecord) (i :
     (k : Kind) → (act_of c roles kept (Give i Whole) to k).kept ≡ kept_by me (Some what)
     → CutKeeps me what ((act_of c roles kept (Give i Torn) to k).kept) ((act_of c roles kept (Give i Kept) to k).kept)
 cut_act c roles kept i to me what k =
-    acts_by (λ at. (at (Give i Whole)).kept ≡ kept_by me (Some what) → CutKeeps me what ((at (Give i Torn)).kept) ((at (Give i Kept)).kept)) c roles kept to k
+    acts_by (λ at. (at (Give i Whole)).kept ≡ kept_by me (Some what) → CutKeeps me what ((at (Give i Torn)).kept) ((at (Give i Kept)).kept))
+    c roles kept to k
     (λ h. none_kept me what h) (λ D V rules make running h. cut_given rules c to me what (durable_part rules to kept) i running h)
 
 cut_come : (w : World) (me : RoleId) (what : Written) (o : Option Letter)
@@ -186,8 +187,8 @@ renewed_tagged d first =
     let notes = map (notes_of d.machine.table) d.machine.table.floors in
     let tail = map (λ vs. kept_record.Tail vs) (pieces 32 (drop (first - d.first) d.log)) in
     tagged_both kind.Replica (base ++ pairs ++ notes) tail
-    (tagged_both kind.Replica (base ++ pairs) notes
-    (tagged_both kind.Replica base pairs refl (tagged_each kind.Replica (λ ps. kept_record.Pairs ps) (pieces 255 d.machine.map) (λ ps. refl)))
+    (tagged_both kind.Replica (base ++ pairs) notes (tagged_both kind.Replica base pairs refl
+    (tagged_each kind.Replica (λ ps. kept_record.Pairs ps) (pieces 255 d.machine.map) (λ ps. refl)))
     (tagged_each kind.Replica (notes_of d.machine.table) d.machine.table.floors (λ f. refl)))
     (tagged_each kind.Replica (λ vs. kept_record.Tail vs) (pieces 32 (drop (first - d.first) d.log)) (λ vs. refl))
 
@@ -204,7 +205,8 @@ module _ {D V : Type 0} (rules : Rules D V) (me : RoleId)
   tagged_from list [] are h = h
   tagged_from list (k ∷ ks) are h = elim (cases_Bool (same_role me k.role)) [
     | inl own ↦
-        let is : IsWriter me.kind k.what = subst (λ (who : RoleId). IsWriter who.kind k.what) (sym (same_role-true me k.role own)) (are k (inl refl)) in
+        let is : IsWriter me.kind k.what =
+        subst (λ (who : RoleId). IsWriter who.kind k.what) (sym (same_role-true me k.role own)) (are k (inl refl)) in
         rw own (tagged_from (list_after rules list k.what) ks (λ other m. are other (inr m)) (tagged_after list k.what is h))
     | inr other ↦ rw other (tagged_from list ks (λ x m. are x (inr m)) h)
   ]
@@ -214,8 +216,8 @@ as_replica me d first is = subst (λ (k : Kind). are_tagged k (replica_renewed d
 
 stored_tagged : (me : RoleId) (ks : List KeptRecord) → ((k : KeptRecord) → Member k ks → IsWriter k.role.kind k.what) → (k : Kind)
     → are_tagged me.kind (stored_as me ks k) ≡ true
-stored_tagged me ks are k =
-    stored_by (λ list. are_tagged me.kind (list ks) ≡ true) me k (λ client. refl) (tagged_from replica_rules me (as_replica me) [] ks are refl)
+stored_tagged me ks are k = stored_by (λ list. are_tagged me.kind (list ks) ≡ true) me k (λ client. refl)
+    (tagged_from replica_rules me (as_replica me) [] ks are refl)
     (λ D V rules none. tagged_from rules me (λ d first is. ap (are_tagged me.kind) (none d first)) [] ks are refl)
 
 -- so it may have the list, where the fields of its records are in their ranges

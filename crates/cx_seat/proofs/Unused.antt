@@ -14,7 +14,8 @@ use Rattle.cx_journal.specs.declared.store.RecordStore.{RecordStore}
 use Rattle.cx_letter.specs.declared.kept.Record.{Record}
 use Rattle.cx_seat.specs.declared.guest.Guest.{Guest}
 use Rattle.cx_seat.specs.Guest.{keeper_of, who}
-use Rattle.cx_seat.specs.Opening.{AreOpened, HasStore, IsBadAs, IsFirstUsed, IsOpened, first_holding, holds_record, is_durable, is_store_used}
+use Rattle.cx_seat.specs.Opening.{AreOpened, HasStore, IsBadAs, IsFirstUsed, IsOpened, first_holding, holds_record, is_durable}
+use Rattle.cx_seat.specs.Opening.{is_store_used}
 use Rattle.cx_seat.specs.Stores.{has_second}
 use Rattle.cx_seat.proofs.OpenedRoles.{get_beside, good_opened, name_is}
 

@@ -21,15 +21,14 @@ use cx_disk::Disk;
 /// whole event. It is a store of the role's own kind, on one disk or over two, and each of these runs is lawful. So a node
 /// that is stopped at any write and opened anew goes on in a run of the model.
 pub fn stops_are_crashes<D: Disk>()
-    ensures within { (c : Cluster) (es : List Event) (e : Event) (me : RoleId) (what : Written) (old new : RecordStore D)
-        (answer : Result (Unit {0}) KeepFault) (files : Files)
+    ensures within { (c : Cluster) (es : List Event) (e : Event) (me : RoleId) (what : Written)
+        (old new : RecordStore D) (answer : Result (Unit {0}) KeepFault) (files : Files)
         → IsNextChange D.seen c es e me what old
-        → IsStoreChange D.Disk old (change_for (files_records (store_told D.seen old)) what) answer new
-        → StoreLeftSince D.moment D.left_since old new files
+        → IsStoreChange D.Disk old (change_for (files_records (store_told D.seen old)) what) answer
+        new → StoreLeftSince D.moment D.left_since old new files
         → IsOfRun c es e Torn me files ⊎ IsOfRun c es e Kept me files }
-    ensures after { (c : Cluster) (es : List Event) (e : Event) (me : RoleId) (what : Written) (old new : RecordStore D)
-        (files : Files)
-        → IsNextChange D.seen c es e me what old
-        → IsStoreChange D.Disk old (change_for (files_records (store_told D.seen old)) what) (Ok tt) new
-        → StoreMayLeave D.may_leave new files → IsOfRun c es e Whole me files }
+    ensures after { (c : Cluster) (es : List Event) (e : Event) (me : RoleId) (what : Written)
+        (old new : RecordStore D) (files : Files) → IsNextChange D.seen c es e me what old
+        → IsStoreChange D.Disk old (change_for (files_records (store_told D.seen old)) what) (Ok tt)
+        new → StoreMayLeave D.may_leave new files → IsOfRun c es e Whole me files }
 {}

@@ -50,7 +50,8 @@ fn own_event(me: RoleId, what: &Doing) -> Option<Event>
 
 // The request that a client sends by a datagram, with the floor that it tells, if it is one.
 fn request_by(floor: u64, letter: &Datagram) -> Option<Event>
-    ensures { option_to_list result ≡ request_by floor letter.now.from letter.now.to letter.now.msg }
+    ensures { option_to_list result
+        ≡ request_by floor letter.now.from letter.now.to letter.now.msg }
 {
     let client = letter.from().index;
     let to = letter.to().index;
@@ -105,7 +106,8 @@ pub fn note_requests(
     events: &mut Vec<Event>,
 ) -> Result<(), NoMemory>
     ensures { OnOk result (events.new.items
-        ≡ events.old.items ++ flat_map (λ (d : Letter). request_by floor d.from d.to d.msg) sends.now) }
+        ≡ events.old.items
+        ++ flat_map (λ (d : Letter). request_by floor d.from d.to d.msg) sends.now) }
 {
     for letter in sends {
         keep(events, &request_by(floor, letter))?;
@@ -139,7 +141,8 @@ pub fn take_down(
 ) -> Result<(), NoMemory>
     requires { has_room_for recorder.old events.now ≡ true }
     ensures text { OnOk result (text.new.items ≡ shown recorder.old events.now text.old.items) }
-    ensures counted { OnOk result (recorder.new ≡ option_map (with_more_lines (length events.now)) recorder.old) }
+    ensures counted { OnOk result
+        (recorder.new ≡ option_map (with_more_lines (length events.now)) recorder.old) }
 {
     if let Some(recorder) = recorder {
         text.clear();

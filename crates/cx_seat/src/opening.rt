@@ -71,12 +71,14 @@ fn open_durable<D: Depot, R: Role>(
     requires one { has_second me.kind ≡ false }
     requires named { IsTrue (names_role cluster.now me) }
     requires in_depot { NoneIsOut me (D.out depot.old) }
-    ensures role { IfOk result (λ p. IsDurablyOpened R.rules D.Store.Disk.seen D.Store.Disk.faults cluster.now
-        (D.tells depot.old) (files_of (D.stored depot.old) me) me p.0 (R.state p.1)) }
-    ensures lends { LendsFor D.Depot me result (λ p. places_of (disks_of me (Some p.0))) depot.old depot.new }
+    ensures role { IfOk result (λ p. IsDurablyOpened R.rules D.Store.Disk.seen D.Store.Disk.faults
+        cluster.now (D.tells depot.old) (files_of (D.stored depot.old) me) me p.0 (R.state p.1)) }
+    ensures lends { LendsFor D.Depot me result (λ p. places_of (disks_of me (Some p.0)))
+        depot.old depot.new }
     ensures bad { (role : RoleId) (at : ℕ) → result ≡ Err (open_stop.BadStore role at)
         → (role ≡ me)
-        × (D.tells depot.old ≡ true → IsBadStore R.rules cluster.now me (files_of (D.stored depot.old) me) at) }
+        × (D.tells depot.old ≡ true
+        → IsBadStore R.rules cluster.now me (files_of (D.stored depot.old) me) at) }
     ensures failed { (role : RoleId) → result ≡ Err (open_stop.StoreFault role)
         → (role ≡ me) × Rises (D.faults depot.old me) (D.faults depot.new me) }
     ensures not_used { (role : RoleId) → result ≡ Err (open_stop.NotFresh role) → ⊥ }
@@ -104,12 +106,15 @@ fn open_twin<D: Depot>(
     requires kind { me.kind ≡ kind.Replica }
     requires named { IsTrue (names_role cluster.now me) }
     requires in_depot { NoneIsOut me (D.out depot.old) }
-    ensures role { IfOk result (λ p. IsDurablyOpened replica_rules D.Store.Disk.seen D.Store.Disk.faults cluster.now
+    ensures role { IfOk result
+        (λ p. IsDurablyOpened replica_rules D.Store.Disk.seen D.Store.Disk.faults cluster.now
         (D.tells depot.old) (files_of (D.stored depot.old) me) me p.0 p.1) }
-    ensures lends { LendsFor D.Depot me result (λ p. places_of (disks_of me (Some p.0))) depot.old depot.new }
+    ensures lends { LendsFor D.Depot me result (λ p. places_of (disks_of me (Some p.0)))
+        depot.old depot.new }
     ensures bad { (role : RoleId) (at : ℕ) → result ≡ Err (open_stop.BadStore role at)
         → (role ≡ me)
-        × (D.tells depot.old ≡ true → IsBadStore replica_rules cluster.now me (files_of (D.stored depot.old) me) at) }
+        × (D.tells depot.old ≡ true
+        → IsBadStore replica_rules cluster.now me (files_of (D.stored depot.old) me) at) }
     ensures failed { (role : RoleId) → result ≡ Err (open_stop.StoreFault role)
         → (role ≡ me) × Rises (D.faults depot.old me) (D.faults depot.new me) }
     ensures not_used { (role : RoleId) → result ≡ Err (open_stop.NotFresh role) → ⊥ }
@@ -157,7 +162,8 @@ fn open_client(
     requires scripts { (client : ℕ) → IsScript cluster.now client (script_of client events.now) }
     requires some_window { 1 ≤ options.window }
     requires window { options.window ≤ 64 }
-    ensures role { IfOk result (λ role. role ≡ client_opened cluster.now me (script_of me.index events.now) options) }
+    ensures role { IfOk result
+        (λ role. role ≡ client_opened cluster.now me (script_of me.index events.now) options) }
     ensures only { OnErr result (result ≡ Err open_stop.NoMemory) }
 {
     match script(alloc, me.index, events) {
@@ -180,10 +186,12 @@ fn open_guest<D: Depot>(
     requires some_window { 1 ≤ options.window }
     requires window { options.window ≤ 64 }
     requires in_depot { NoneIsOut me (D.out depot.old) }
-    ensures opened { IfOk result (λ guest. IsOpened D.Store.Disk.seen D.Store.Disk.faults cluster.now options events.now
+    ensures opened { IfOk result
+        (λ guest. IsOpened D.Store.Disk.seen D.Store.Disk.faults cluster.now options events.now
         (D.tells depot.old) (files_of (D.stored depot.old) me) me guest) }
     ensures lends { LendsFor D.Depot me result (λ guest. lent_to (guest ∷ [])) depot.old depot.new }
-    ensures bad { (role : RoleId) (at : ℕ) → result ≡ Err (open_stop.BadStore role at) → D.tells depot.old ≡ true
+    ensures bad { (role : RoleId) (at : ℕ) → result ≡ Err (open_stop.BadStore role at)
+        → D.tells depot.old ≡ true
         → IsBadAs cluster.now role (files_of (D.stored depot.old) role) at role.kind }
     ensures own { (role : RoleId) (at : ℕ) → result ≡ Err (open_stop.BadStore role at) → role ≡ me }
     ensures failed { (role : RoleId) → result ≡ Err (open_stop.StoreFault role)
@@ -246,7 +254,8 @@ pub fn open_seats<D: Depot>(
     depot: &mut D,
     seats: &mut Vec<Seat<RecordStore<D::Store>>>,
 ) -> Result<(), OpenStop>
-    requires named { (i : ℕ) (me : RoleId) → slice_get roles.now i ≡ Some me → IsTrue (names_role cluster.now me) }
+    requires named { (i : ℕ) (me : RoleId) → slice_get roles.now i ≡ Some me
+        → IsTrue (names_role cluster.now me) }
     requires distinct { AreApart roles.now }
     requires scripts { (client : ℕ) → IsScript cluster.now client (script_of client events.now) }
     requires some_window { 1 ≤ options.window }
@@ -260,8 +269,10 @@ pub fn open_seats<D: Depot>(
     ensures tells_same { D.tells depot.new ≡ D.tells depot.old }
 
     // The records of a store stay, also where it could not be opened.
-    ensures stored { D.tells depot.old ≡ true → SameRecords (files_of (D.stored depot.old)) (files_of (D.stored depot.new)) }
-    ensures bad { (role : RoleId) (at : ℕ) → result ≡ Err (open_stop.BadStore role at) → D.tells depot.old ≡ true
+    ensures stored { D.tells depot.old ≡ true
+        → SameRecords (files_of (D.stored depot.old)) (files_of (D.stored depot.new)) }
+    ensures bad { (role : RoleId) (at : ℕ) → result ≡ Err (open_stop.BadStore role at)
+        → D.tells depot.old ≡ true
         → IsFirstBad roles.now cluster.now (files_of (D.stored depot.old)) role at }
     ensures later { (role : RoleId) → D.faults depot.old role ≤ D.faults depot.new role }
 
@@ -311,7 +322,8 @@ pub fn open_all<D: Depot>(
     depot: &mut D,
     seats: &mut Vec<Seat<RecordStore<D::Store>>>,
 ) -> Result<(), OpenStop>
-    requires named { (i : ℕ) (me : RoleId) → slice_get roles.now i ≡ Some me → IsTrue (names_role cluster.now me) }
+    requires named { (i : ℕ) (me : RoleId) → slice_get roles.now i ≡ Some me
+        → IsTrue (names_role cluster.now me) }
     requires distinct { AreApart roles.now }
     requires scripts { (client : ℕ) → IsScript cluster.now client (script_of client events.now) }
     requires some_window { 1 ≤ options.window }
@@ -324,8 +336,10 @@ pub fn open_all<D: Depot>(
     ensures fresh { recording ≡ true → OnOk result (first_holding seats.new.items ≡ None) }
     ensures out { D.out depot.new ≡ lent_to seats.new.items }
     ensures tells_same { D.tells depot.new ≡ D.tells depot.old }
-    ensures stored { D.tells depot.old ≡ true → SameRecords (files_of (D.stored depot.old)) (files_of (D.stored depot.new)) }
-    ensures bad { (role : RoleId) (at : ℕ) → result ≡ Err (open_stop.BadStore role at) → D.tells depot.old ≡ true
+    ensures stored { D.tells depot.old ≡ true
+        → SameRecords (files_of (D.stored depot.old)) (files_of (D.stored depot.new)) }
+    ensures bad { (role : RoleId) (at : ℕ) → result ≡ Err (open_stop.BadStore role at)
+        → D.tells depot.old ≡ true
         → IsFirstBad roles.now cluster.now (files_of (D.stored depot.old)) role at }
 
     // The first store that has a record, after all were opened.

@@ -87,9 +87,12 @@ fn step_alone<R: Role>(
     requires live { (R.state role.old).live ≡ true }
     requires empty { out.old.list ≡ [] }
     ensures state { OnOk result (R.state role.new
-        ≡ running_after R.rules (R.state role.old) (outcome_of R.rules (R.state role.old) input.now)) }
-    ensures sends { OnOk result (out.new.list ≡ (outcome_of R.rules (R.state role.old) input.now).sends) }
-    ensures name { OnErr result ((R.state role.new).live ≡ true → (R.state role.new).me ≡ (R.state role.old).me) }
+        ≡ running_after R.rules (R.state role.old)
+        (outcome_of R.rules (R.state role.old) input.now)) }
+    ensures sends { OnOk result
+        (out.new.list ≡ (outcome_of R.rules (R.state role.old) input.now).sends) }
+    ensures name { OnErr result
+        ((R.state role.new).live ≡ true → (R.state role.new).me ≡ (R.state role.old).me) }
 {
     let mut keeper = MemKeeper::new(alloc);
     match step(role, &mut keeper, input, out) {
@@ -156,10 +159,11 @@ fn give<K: Renew>(
     requires live { IsTrue (is_live_role (hosted_of guest.old)) }
     requires empty { out.old.list ≡ [] }
     requires no_text { text.old.items ≡ [] }
-    ensures step { Performs (changing K.append_gives K.renew_gives) (given (hosted_of guest.old) input.now)
-        result guest.old guest.new out.new.list text.new.items }
+    ensures step { Performs (changing K.append_gives K.renew_gives) (given (hosted_of guest.old)
+        input.now) result guest.old guest.new out.new.list text.new.items }
     ensures name { OnOk result (who guest.new ≡ who guest.old) }
-    ensures no_name { OnErr result (IsTrue (is_live_role (hosted_of guest.new)) → who guest.new ≡ who guest.old) }
+    ensures no_name { OnErr result
+        (IsTrue (is_live_role (hosted_of guest.new)) → who guest.new ≡ who guest.old) }
 {
     match guest {
         Guest::Client { role } => give_client(role, index, input, out, text)?,
@@ -183,7 +187,8 @@ fn snap<K: Renew>(guest: &mut Guest<K>, out: &mut Outbox) -> Result<(), StepFaul
     ensures step { Performs (changing K.append_gives K.renew_gives) (snapped (hosted_of guest.old))
         result guest.old guest.new out.new.list [] }
     ensures name { OnOk result (who guest.new ≡ who guest.old) }
-    ensures no_name { OnErr result (IsTrue (is_live_role (hosted_of guest.new)) → who guest.new ≡ who guest.old) }
+    ensures no_name { OnErr result
+        (IsTrue (is_live_role (hosted_of guest.new)) → who guest.new ≡ who guest.old) }
 {
     if let Guest::Replica { role, keeper } = guest {
         role.snap(keeper, out)?;
@@ -257,7 +262,8 @@ impl<K: Renew> Seat<K> {
 
     /// Whether it is a leader that never began a round.
     pub fn is_new(&self) -> bool
-        ensures { result ≡ is_leader_so (λ l. is_new_leader l.durable) (leader_of (hosted_of self.now)) }
+        ensures { result
+            ≡ is_leader_so (λ l. is_new_leader l.durable) (leader_of (hosted_of self.now)) }
     {
         match &self.guest {
             Guest::Leader { role, .. } => role.is_new(),
@@ -267,7 +273,8 @@ impl<K: Renew> Seat<K> {
 
     /// Whether it is a leader that an order to collect would have begin.
     pub fn can_collect(&self) -> bool
-        ensures { result ≡ is_leader_so (λ l. can_collect l.volatile) (leader_of (hosted_of self.now)) }
+        ensures { result
+            ≡ is_leader_so (λ l. can_collect l.volatile) (leader_of (hosted_of self.now)) }
     {
         match &self.guest {
             Guest::Leader { role, .. } => role.can_collect(),
@@ -357,7 +364,8 @@ impl<K: Renew> Seat<K> {
         sends: &[Datagram],
         events: &mut Vec<Event>,
     ) -> Result<bool, NoMemory>
-        ensures events { OnOk result (events.new.items ≡ events.old.items ++ requests_by (hosted_of self.now) sends.now) }
+        ensures events { OnOk result
+            (events.new.items ≡ events.old.items ++ requests_by (hosted_of self.now) sends.now) }
         ensures room { has_room (length events.old.items) recorder.now ≡ true
             → IfOk result (λ room. room ≡ has_room (length events.new.items) recorder.now) }
         ensures none { IfOk result (λ room. room ≡ false → keeper_of self.now ≡ None) }
@@ -392,8 +400,8 @@ impl<K: Renew> Seat<K> {
         requires live { IsTrue (is_live_role (hosted_of self.old)) }
         requires empty { out.old.list ≡ [] }
         requires no_text { text.old.items ≡ [] }
-        ensures step { Performs (changing K.append_gives K.renew_gives) (does (hosted_of self.old) what.now)
-            result self.old self.new out.new.list text.new.items }
+        ensures step { Performs (changing K.append_gives K.renew_gives) (does (hosted_of self.old)
+            what.now) result self.old self.new out.new.list text.new.items }
         ensures name { who self.new ≡ who self.old }
     {
         match what {

@@ -43,18 +43,22 @@ pub fn wake<D: Disk, R: Role>(
 ) -> Result<(Journal<D>, R), (WakeStop, D)>
     requires kind { me.kind ≡ R.rules.kind }
     requires named { IsTrue (names_role cluster.now me) }
-    ensures role { IfOk result (λ p. IsWoken R.rules cluster.now me (one_told (D.seen disk)) (one_told (D.seen p.0.disk))
-        p.0.gates (R.state p.1)) }
+    ensures role { IfOk result (λ p. IsWoken R.rules cluster.now me (one_told (D.seen disk))
+        (one_told (D.seen p.0.disk)) p.0.gates (R.state p.1)) }
     ensures whole { IfOk result (λ p. p.0.whole ≡ true) }
     ensures lasts { is_some (D.seen disk) ≡ true
-        → IfOk result (λ p. (c : List ℕ) → D.may_leave p.0.disk c → IsImageOf (told_records (D.seen p.0.disk)) c) }
+        → IfOk result (λ p.
+        (c : List ℕ) → D.may_leave p.0.disk c → IsImageOf (told_records (D.seen p.0.disk)) c) }
     ensures bad { (file : List ℕ) (at : ℕ) → D.seen disk ≡ Some file
-        → IfErr result (λ e. e.0 ≡ wake_stop.Bad at → IsBadStore R.rules cluster.now me (OneFile file) at) }
+        → IfErr result
+        (λ e. e.0 ≡ wake_stop.Bad at → IsBadStore R.rules cluster.now me (OneFile file) at) }
     ensures same { (file now : List ℕ) → D.seen disk ≡ Some file
         → IfErr result (λ e. D.seen e.1 ≡ Some now → SameImage now file) }
     ensures tells { IfErr result (λ e. is_some (D.seen e.1) ≡ is_some (D.seen disk)) }
-    ensures failed { IfErr result (λ e. e.0 ≡ wake_stop.Failed → Rises (D.faults disk) (D.faults e.1)) }
-    ensures later { MatchResult result (λ p. D.faults disk ≤ D.faults p.0.disk) (λ e. D.faults disk ≤ D.faults e.1) }
+    ensures failed { IfErr result
+        (λ e. e.0 ≡ wake_stop.Failed → Rises (D.faults disk) (D.faults e.1)) }
+    ensures later { MatchResult result (λ p. D.faults disk ≤ D.faults p.0.disk)
+        (λ e. D.faults disk ≤ D.faults e.1) }
     ensures still { MatchResult result (λ p. D.faults p.0.disk ≡ D.faults disk)
         (λ e. (e.0 ≡ wake_stop.Failed → ⊥) → D.faults e.1 ≡ D.faults disk) }
 {
@@ -85,19 +89,22 @@ pub fn wake_twin<D: Disk>(
 ) -> Result<(Twin<D>, Replica), (WakeStop, D, D)>
     requires kind { me.kind ≡ kind.Replica }
     requires named { IsTrue (names_role cluster.now me) }
-    ensures role { IfOk result (λ p. IsWoken replica_rules cluster.now me (both_told (D.seen first) (D.seen second))
-        (both_told (D.seen p.0.first) (D.seen p.0.second)) p.0.gates p.1) }
+    ensures role { IfOk result (λ p. IsWoken replica_rules cluster.now me (both_told (D.seen first)
+        (D.seen second)) (both_told (D.seen p.0.first) (D.seen p.0.second)) p.0.gates p.1) }
     ensures whole { IfOk result (λ p. p.0.whole ≡ true) }
     ensures lasts { BothTell D.seen first second
         → IfOk result (λ p. (a b : List ℕ) → D.may_leave p.0.first a → D.may_leave p.0.second b
         → IsPairImageOf (seen_pair_records D.seen p.0.first p.0.second) a b) }
     ensures bad { (a b : List ℕ) (at : ℕ) → D.seen first ≡ Some a → D.seen second ≡ Some b
-        → IfErr result (λ e. e.0 ≡ wake_stop.Bad at → IsBadStore replica_rules cluster.now me (TwoFiles a b) at) }
+        → IfErr result
+        (λ e. e.0 ≡ wake_stop.Bad at → IsBadStore replica_rules cluster.now me (TwoFiles a b) at) }
     ensures same { (a b now now_second : List ℕ) → D.seen first ≡ Some a → D.seen second ≡ Some b
-        → IfErr result (λ e. D.seen e.1 ≡ Some now → D.seen e.2 ≡ Some now_second → SamePair now now_second a b) }
+        → IfErr result
+        (λ e. D.seen e.1 ≡ Some now → D.seen e.2 ≡ Some now_second → SamePair now now_second a b) }
     ensures first_tells { IfErr result (λ e. is_some (D.seen e.1) ≡ is_some (D.seen first)) }
     ensures second_tells { IfErr result (λ e. is_some (D.seen e.2) ≡ is_some (D.seen second)) }
-    ensures failed { IfErr result (λ e. e.0 ≡ wake_stop.Failed → OneRises D.faults first second e.1 e.2) }
+    ensures failed { IfErr result
+        (λ e. e.0 ≡ wake_stop.Failed → OneRises D.faults first second e.1 e.2) }
     ensures first_later { MatchResult result (λ p. D.faults first ≤ D.faults p.0.first)
         (λ e. D.faults first ≤ D.faults e.1) }
     ensures second_later { MatchResult result (λ p. D.faults second ≤ D.faults p.0.second)

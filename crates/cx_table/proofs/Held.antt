@@ -81,13 +81,17 @@ module _ (client : ℕ) (entry : ClientEntry) (es ns : List (ℕ × ClientEntry)
     where
       one_floor : (k : ℕ) → (nat_eq client k ≡ true) ⊎ (nat_eq client k ≡ false)
           → floor_of_entry (lookup (nat_eq k) ns) ≡ floor_of k u.floors
-      one_floor k (inl t) = (let same : (client == k) ≡ true = grind (arith, nat_tests, t) in rw (own_entry k t) (sym (rw same at (floors k))))
-      one_floor k (inr t) = (let other : (client == k) ≡ false = grind (arith, nat_tests, t) in rw (other_entry k t) (sound.floors k ∙ sym (rw other at (floors k))))
+      one_floor k (inl t) =
+          (let same : (client == k) ≡ true = grind (arith, nat_tests, t) in rw (own_entry k t) (sym (rw same at (floors k))))
+      one_floor k (inr t) = (let other : (client == k) ≡ false = grind (arith, nat_tests, t) in rw (other_entry k t)
+          (sound.floors k ∙ sym (rw other at (floors k))))
 
       all_notes : (k : ℕ) → (nat_eq client k ≡ true) ⊎ (nat_eq client k ≡ false)
           → notes_in (lookup (nat_eq k) ns) ≡ of_client k u.notes
-      all_notes k (inl t) = (let same : (client == k) ≡ true = grind (arith, nat_tests, t) in rw (own_entry k t) (sym (rw same at (notes k))))
-      all_notes k (inr t) = (let other : (client == k) ≡ false = grind (arith, nat_tests, t) in rw (other_entry k t) (sound.notes k ∙ sym (rw other at (notes k))))
+      all_notes k (inl t) =
+          (let same : (client == k) ≡ true = grind (arith, nat_tests, t) in rw (own_entry k t) (sym (rw same at (notes k))))
+      all_notes k (inr t) = (let other : (client == k) ≡ false = grind (arith, nat_tests, t) in rw (other_entry k t)
+          (sound.notes k ∙ sym (rw other at (notes k))))
 
   -- an entry with the same floor and answers holds the same
   pub held_still : (t : Table) (old : ClientEntry) → lookup (nat_eq client) es ≡ Some old → entry.floor ≡ old.floor
@@ -127,7 +131,8 @@ key_is client k (x ∷ es) e = go (cases_Bool (nat_eq client x.0)) (key_is clien
 pub set_there : (es : List (ℕ × ClientEntry)) (place client : ℕ) (old new : ClientEntry) → slice_get es place ≡ Some (client, old)
     → slice_get (set_value_at es place new) place ≡ Some (client, new)
 set_there [] place client old new e = cc
-set_there (x ∷ es) zero client old new e = (let same : x ≡ (client, old) = same_Some x (client, old) e in ap (λ (p : ℕ × ClientEntry). Some (p.0, new)) same)
+set_there (x ∷ es) zero client old new e =
+    (let same : x ≡ (client, old) = same_Some x (client, old) e in ap (λ (p : ℕ × ClientEntry). Some (p.0, new)) same)
 set_there (x ∷ es) (suc place) client old new e = set_there es place client old new e
 
 value_at : (es : List (ℕ × ClientEntry)) (place client : ℕ) (entry value : ClientEntry) → slice_get es place ≡ Some (client, entry)
@@ -153,7 +158,8 @@ room_found client count es place is = rw (room_is client es, is.at.found) is.roo
 
 pub room_there : (client count : ℕ) (es : List (ℕ × ClientEntry)) (place : ℕ) (value : ClientEntry) → IsRoomAt client count es place
     → slice_get (values_of es) place ≡ Some value → count ≤ room_in (Some value)
-room_there client count es place value is v = (let same : is.at.entry ≡ value = value_at es place client is.at.entry value is.at.there v in subst (λ (e : ClientEntry). count ≤ room_in (Some e)) same is.room)
+room_there client count es place value is v = (let same : is.at.entry ≡ value = value_at es place client is.at.entry value is.at.there v in
+    subst (λ (e : ClientEntry). count ≤ room_in (Some e)) same is.room)
 
 -- where an entry's place is found
 pub entry_at : (client place k : ℕ) (entry : ClientEntry) (es : List (ℕ × ClientEntry)) → slice_get es place ≡ Some (k, entry)
@@ -194,7 +200,8 @@ module _ {S : Type 0} (m : IndexMap ℕ ClientEntry S) (place client : ℕ) (old
 
   pub write_held : new.floor ≡ old.floor → new.notes.items ≡ old.notes.items → (t : Table) → AreClientEntries t m.entries
       → AreClientEntries t (set_value_at m.entries place new)
-  write_held same_floor same_notes t sound = held_still client new m.entries (set_value_at m.entries place new) write_changed t old write_found same_floor same_notes sound
+  write_held same_floor same_notes t sound =
+      held_still client new m.entries (set_value_at m.entries place new) write_changed t old write_found same_floor same_notes sound
 
   pub write_kept : room_in (Some old) ≤ room_in (Some new)
       → KeepsRoom (rooms_in m.entries) (rooms_in (set_value_at m.entries place new))
@@ -230,7 +237,11 @@ module _ (client : ℕ) (entry : ClientEntry) (es ns : List (ℕ × ClientEntry)
   pub enter_room : (count place : ℕ) → place ≡ position_or_len (nat_eq client) (keys_of es)
       → count ≤ room_in (Some entry) → IsRoomAt client count ns place
   enter_room count place at room = record {
-    at = record { entry = entry; there = rw (is, at) (placed client entry es none); found = own_entry client entry es ns changed client (grind (arith, nat_tests)) };
+    at = record {
+      entry = entry;
+      there = rw (is, at) (placed client entry es none);
+      found = own_entry client entry es ns changed client (grind (arith, nat_tests));
+    };
     room = room;
   }
 

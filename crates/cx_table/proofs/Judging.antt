@@ -47,14 +47,16 @@ noted_is client seq (x ∷ notes) a e = go (cases_Bool (is_answer_of client seq 
     go (inl t) e rest =
         let p = and_parts (x.client == client) (x.seq == seq) t in
         let same = same_Some x a (rw t at e) in
-        subst (λ (y : Answered). y ≡ record { client = client; seq = seq; at = y.at; reply = y.reply }) same (record_is x client seq (eqb-true x.client client p.0) (eqb-true x.seq seq p.1))
+        subst (λ (y : Answered). y ≡ record { client = client; seq = seq; at = y.at; reply = y.reply }) same
+        (record_is x client seq (eqb-true x.client client p.0) (eqb-true x.seq seq p.1))
     go (inr t) e rest = rest (rw t at e)
 
 -- what is so of each answer is so of that noted for a number
 pub noted_holds : (p : Answered → Bool) (client seq : ℕ) (notes : List Answered) (a : Answered)
     → list_all p notes ≡ true → noted_for client seq notes ≡ Some a → p a ≡ true
 noted_holds p client seq [] a all e = cc
-noted_holds p client seq (x ∷ notes) a all e = go (cases_Bool (is_answer_of client seq x)) (and_parts (p x) (list_all p notes) all) e (noted_holds p client seq notes a)
+noted_holds p client seq (x ∷ notes) a all e =
+    go (cases_Bool (is_answer_of client seq x)) (and_parts (p x) (list_all p notes) all) e (noted_holds p client seq notes a)
   where
     go : (is_answer_of client seq x ≡ true) ⊎ (is_answer_of client seq x ≡ false)
         → (p x ≡ true) × (list_all p notes ≡ true) → noted_for client seq (x ∷ notes) ≡ Some a

@@ -40,14 +40,16 @@ pub rise_by_number : (client : ℕ) (notes : List Answered) → are_of client no
 rise_by_number client [] own = refl
 rise_by_number client (a ∷ notes) own =
     let o = and_parts (a.client == client) (are_of client notes) own in
-    ap (λ b. b && rises comes_before notes) (all_lower client a notes o.0 o.1) ∙ ap (λ b. list_all (is_lower a) notes && b) (rise_by_number client notes o.1)
+    ap (λ b. b && rises comes_before notes) (all_lower client a notes o.0 o.1)
+    ∙ ap (λ b. list_all (is_lower a) notes && b) (rise_by_number client notes o.1)
   where
     all_lower : (client : ℕ) (a : Answered) (notes : List Answered) → (a.client == client) ≡ true
         → are_of client notes ≡ true → list_all (comes_before a) notes ≡ list_all (is_lower a) notes
     all_lower client a [] one own = refl
     all_lower client a (b ∷ notes) one own =
         let o = and_parts (b.client == client) (are_of client notes) own in
-        ap (λ t. t && list_all (comes_before a) notes) (by_number a b (same_client client a b one o.0)) ∙ ap (λ t. nat_lt a.seq b.seq && t) (all_lower client a notes one o.1)
+        ap (λ t. t && list_all (comes_before a) notes) (by_number a b (same_client client a b one o.0))
+        ∙ ap (λ t. nat_lt a.seq b.seq && t) (all_lower client a notes one o.1)
 
 -- those of lower numbers stand in front
 pub parted : (seq : ℕ) (notes : List Answered) → rises is_lower notes ≡ true
@@ -59,11 +61,13 @@ parted seq (a ∷ notes) rising zero (suc j) d ij l low =
     let less : nat_lt a.seq (get_or notes j d).seq ≡ true = all_at (is_lower a) notes j d r.0 (omega arith) in
     grind (arith, nat_tests, less, low)
 parted seq (a ∷ notes) rising (suc i) zero d ij l low = absurd (omega arith)
-parted seq (a ∷ notes) rising (suc i) (suc j) d ij l low = parted seq notes (and_parts (list_all (is_lower a) notes) (rises is_lower notes) rising).1 i j d (omega arith) (omega arith) low
+parted seq (a ∷ notes) rising (suc i) (suc j) d ij l low =
+    parted seq notes (and_parts (list_all (is_lower a) notes) (rises is_lower notes) rising).1 i j d (omega arith) (omega arith) low
 
 place_after : (seq : ℕ) (a : Answered) (notes : List Answered) (place : ℕ) → IsPlace seq (a ∷ notes) (suc place)
     → IsPlace seq notes place
-place_after seq a notes place is = (λ k d low high. is.0 (suc k) d (omega arith) (omega arith), λ k d low high. is.1 (suc k) d (omega arith) (omega arith))
+place_after seq a notes place is =
+    (λ k d low high. is.0 (suc k) d (omega arith) (omega arith), λ k d low high. is.1 (suc k) d (omega arith) (omega arith))
 
 -- the answer at a place, where it is to this number
 abbrev pub answer_at : ℕ → Option Answered → Option Answered
@@ -127,7 +131,8 @@ put_in a (b ∷ notes) (suc place) own new is inside =
     let turned : (a.client == b.client) ≡ true = grind (arith, nat_tests, o.0) in
     let not_less : nat_lt a.seq b.seq ≡ false = grind (arith, nat_tests, low) in
     let rest : noted_for a.client a.seq notes ≡ None = rw (o.0, other) at new in
-    rw (by_number a b turned, not_less) (ap (λ (l : List Answered). b ∷ l) (put_in a notes place o.1 rest (place_after a.seq b notes place is) (omega arith)))
+    rw (by_number a b turned, not_less)
+    (ap (λ (l : List Answered). b ∷ l) (put_in a notes place o.1 rest (place_after a.seq b notes place is) (omega arith)))
 
 -- the greatest number stands last
 abbrev pub ends_at_most : ℕ → Option Answered → Bool
@@ -170,7 +175,8 @@ at_end a (b ∷ notes) own new all =
     let most = p.0 in
     let turned : (a.client == b.client) ≡ true = grind (arith, nat_tests, o.0) in
     let behind : nat_lt a.seq b.seq ≡ false = grind (arith, nat_tests, most) in
-    rw (by_number a b turned, behind) (ap (λ (l : List Answered). b ∷ l) (at_end a notes o.1 (rest (cases_Bool (b.seq == a.seq)) o.0 new) p.1))
+    rw (by_number a b turned, behind)
+    (ap (λ (l : List Answered). b ∷ l) (at_end a notes o.1 (rest (cases_Bool (b.seq == a.seq)) o.0 new) p.1))
   where
     rest : ((b.seq == a.seq) ≡ true) ⊎ ((b.seq == a.seq) ≡ false) → (b.client == a.client) ≡ true
         → noted_for a.client a.seq (b ∷ notes) ≡ None → noted_for a.client a.seq notes ≡ None

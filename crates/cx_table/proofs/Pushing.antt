@@ -11,7 +11,8 @@ use Rattle.cx_base.specs.declared.command.Answered.{Answered}
 use Rattle.cx_base.specs.declared.command.Floor.{Floor}
 use Rattle.cx_base.specs.declared.command.Note.{Note}
 use Rattle.cx_base.specs.Lists.{rises}
-use Rattle.cx_base.specs.Noted.{Table, are_rising, comes_before, floor_of, is_answer_of, is_done, is_answer_done, noted_for, still_noted, with_answer, with_floor, with_note}
+use Rattle.cx_base.specs.Noted.{Table, are_rising, comes_before, floor_of, is_answer_of, is_done, is_answer_done, noted_for, still_noted}
+use Rattle.cx_base.specs.Noted.{with_answer, with_floor, with_note}
 use Rattle.cx_table.specs.Entries.{answer_of, are_above, are_notes_above, has_lower, is_above_floor}
 use Rattle.cx_table.specs.Judged.{judge_of}
 use Rattle.cx_table.specs.declared.judge.Judge.TheVariants as judge
@@ -65,7 +66,8 @@ answers_below : (client : ℕ) (floors : List Floor) (notes : List Answered) →
     → are_answers_below client notes ≡ true
 answers_below client floors [] below all = refl
 answers_below client floors (a ∷ notes) below all =
-    let parts = and_parts (is_above_floor a.seq (floor_of a.client floors)) (list_all (λ (x : Answered). is_above_floor x.seq (floor_of x.client floors)) notes) all in
+    let parts = and_parts (is_above_floor a.seq (floor_of a.client floors))
+    (list_all (λ (x : Answered). is_above_floor x.seq (floor_of x.client floors)) notes) all in
     and_from (nat_lt a.client client) (are_answers_below client notes) (told_below client a.client a.seq floors below parts.0)
     (answers_below client floors notes below parts.1)
 
@@ -146,7 +148,8 @@ all_stay : (client floor : ℕ) (notes : List Answered)
     → still_noted client floor notes ≡ notes
 all_stay client floor [] all = refl
 all_stay client floor (a ∷ notes) all =
-    let parts = and_parts (not (is_answer_done client floor a)) (list_all (λ (x : Answered). not (is_answer_done client floor x)) notes) all in
+    let parts =
+    and_parts (not (is_answer_done client floor a)) (list_all (λ (x : Answered). not (is_answer_done client floor x)) notes) all in
     rw parts.0 (ap (λ (l : List Answered). a ∷ l) (all_stay client floor notes parts.1))
 
 -- others' answers come before a client's, and aren't settled by its floor
@@ -176,8 +179,8 @@ own_before client n (m ∷ before) lower =
     let parts = and_parts (nat_lt m.seq n.seq) (list_all (λ (x : Note). nat_lt x.seq n.seq) before) lower in
     let first = parts.0 in
     let own : (client == client) ≡ true = grind (arith, nat_tests) in
-    and_from (comes_before (answer_of client m) (answer_of client n)) (list_all (λ (b : Answered). comes_before b (answer_of client n)) (map (answer_of client) before))
-    (grind (arith, nat_tests, first, own)) (own_before client n before parts.1)
+    and_from (comes_before (answer_of client m) (answer_of client n)) (list_all (λ (b : Answered). comes_before b (answer_of client n))
+    (map (answer_of client) before)) (grind (arith, nat_tests, first, own)) (own_before client n before parts.1)
 
 own_stay : (client floor : ℕ) (notes : List Note) → are_notes_above floor notes ≡ true
     → list_all (λ (a : Answered). not (is_answer_done client floor a)) (map (answer_of client) notes) ≡ true
@@ -185,8 +188,8 @@ own_stay client floor [] above = refl
 own_stay client floor (n ∷ notes) above =
     let parts = and_parts (nat_lt floor n.seq) (are_notes_above floor notes) above in
     let first = parts.0 in
-    and_from (not (is_answer_done client floor (answer_of client n))) (list_all (λ (a : Answered). not (is_answer_done client floor a)) (map (answer_of client) notes))
-    (grind (arith, nat_tests, first)) (own_stay client floor notes parts.1)
+    and_from (not (is_answer_done client floor (answer_of client n))) (list_all (λ (a : Answered). not (is_answer_done client floor a))
+    (map (answer_of client) notes)) (grind (arith, nat_tests, first)) (own_stay client floor notes parts.1)
 
 -- of rising notes those before a place are of lower numbers than the one there
 lower_before : (notes : List Note) (i : ℕ) (n : Note) → rises has_lower notes ≡ true → i < length notes
@@ -225,7 +228,8 @@ module _ (client floor : ℕ) (first : Table) (notes : List Note) (i : ℕ) (n :
   own_above : nat_lt floor n.seq ≡ true
   own_above = subst (λ (x : Note). nat_lt floor x.seq ≡ true) (sym e) (all_at (λ (x : Note). nat_lt floor x.seq) notes i n free l)
 
-  all_before : list_all (λ (b : Answered). comes_before b (answer_of client n)) (first.notes ++ map (answer_of client) (take i notes)) ≡ true
+  all_before : list_all (λ (b : Answered). comes_before b (answer_of client n)) (first.notes ++ map (answer_of client) (take i notes))
+      ≡ true
   all_before =
       list_all-append (λ (b : Answered). comes_before b (answer_of client n)) first.notes (map (answer_of client) (take i notes))
       ∙ and_from _ _ (others_before client n.seq n.at (answer_of client n) refl first.notes answers)
@@ -246,12 +250,15 @@ module _ (client floor : ℕ) (first : Table) (notes : List Note) (i : ℕ) (n :
   stays =
       all_stay client floor (first.notes ++ map (answer_of client) (take (i + 1) notes))
       (list_all-append (λ (a : Answered). not (is_answer_done client floor a)) first.notes (map (answer_of client) (take (i + 1) notes))
-      ∙ and_from _ _ (others_stay client floor first.notes answers) (own_stay client floor (take (i + 1) notes) (front_all (λ (x : Note). nat_lt floor x.seq) notes (i + 1) free)))
+      ∙ and_from _ _ (others_stay client floor first.notes answers)
+      (own_stay client floor (take (i + 1) notes) (front_all (λ (x : Note). nat_lt floor x.seq) notes (i + 1) free)))
 
   pub is_new_there : (now : Table) → IsPushed client floor first (take i notes) now → judge_of now client n.seq ≡ judge.New
   is_new_there now pushed =
-      let undone : is_done n.seq (floor_of client now.floors) ≡ false = rw pushed.floors (not_done client floor first.floors (take i notes) n.seq below own_above) in
-      let none : noted_for client n.seq now.notes ≡ None = rw pushed.notes (none_noted (answer_of client n) (first.notes ++ map (answer_of client) (take i notes)) all_before) in
+      let undone : is_done n.seq (floor_of client now.floors) ≡ false =
+      rw pushed.floors (not_done client floor first.floors (take i notes) n.seq below own_above) in
+      let none : noted_for client n.seq now.notes ≡ None =
+      rw pushed.notes (none_noted (answer_of client n) (first.notes ++ map (answer_of client) (take i notes)) all_before) in
       rw (undone, none) refl
 
   pub pushed_on : (now next : Table) → IsPushed client floor first (take i notes) now → next ≡ with_answer (answer_of client n) floor now
@@ -260,9 +267,10 @@ module _ (client floor : ℕ) (first : Table) (notes : List Note) (i : ℕ) (n :
     floors = ap (λ (t : Table). t.floors) is ∙ ap (with_floor client floor) pushed.floors
         ∙ floors_on client floor first.floors (take i notes) n below
         ∙ ap (λ (l : List Note). floors_with client floor l first.floors) (sym one_more);
-    notes = ap (λ (t : Table). t.notes) is ∙ ap (λ (l : List Answered). still_noted client floor (with_note (answer_of client n) l)) pushed.notes
-        ∙ ap (still_noted client floor) (last_note (answer_of client n) (first.notes ++ map (answer_of client) (take i notes)) all_before ∙ sym appended)
-        ∙ stays;
+    notes = ap (λ (t : Table). t.notes) is
+        ∙ ap (λ (l : List Answered). still_noted client floor (with_note (answer_of client n) l)) pushed.notes
+        ∙ ap (still_noted client floor)
+        (last_note (answer_of client n) (first.notes ++ map (answer_of client) (take i notes)) all_before ∙ sym appended) ∙ stays;
   }
 
 -- all numbers are noted

@@ -37,7 +37,8 @@ rise_left before q (a ∷ notes) rising =
 pub none_noted_left : (client seq : ℕ) (q : Answered → Bool) (notes : List Answered) → noted_for client seq notes ≡ None
     → noted_for client seq (filter q notes) ≡ None
 none_noted_left client seq q [] none = refl
-none_noted_left client seq q (a ∷ notes) none = go (cases_Bool (q a)) (cases_Bool (is_answer_of client seq a)) (none_noted_left client seq q notes) none
+none_noted_left client seq q (a ∷ notes) none =
+    go (cases_Bool (q a)) (cases_Bool (is_answer_of client seq a)) (none_noted_left client seq q notes) none
   where
     go : (q a ≡ true) ⊎ (q a ≡ false) → (is_answer_of client seq a ≡ true) ⊎ (is_answer_of client seq a ≡ false)
         → (noted_for client seq notes ≡ None → noted_for client seq (filter q notes) ≡ None)
@@ -76,12 +77,17 @@ left_with q a (b ∷ notes) rising =
         → filter q (with_note a (b ∷ notes))
         ≡ (if q a then with_note a (filter q (b ∷ notes)) else filter q (b ∷ notes))
     go (inl h) (inl t) (inl s) all rest = rw (h, t, s, h) refl
-    go (inl h) (inl t) (inr s) all rest = rw (h, t, s, in_front a (filter q notes) (all_left (comes_before a) q notes (before_all a b notes h all))) refl
+    go (inl h) (inl t) (inr s) all rest =
+        rw (h, t, s, in_front a (filter q notes) (all_left (comes_before a) q notes (before_all a b notes h all))) refl
     go (inl h) (inr t) s all rest = rw (h, t) refl
-    go (inr h) (inl t) (inl s) all rest = (let later : filter q (with_note a notes) ≡ with_note a (filter q notes) = rw t at rest in rw (h, t, s, h, later) refl)
-    go (inr h) (inl t) (inr s) all rest = (let later : filter q (with_note a notes) ≡ with_note a (filter q notes) = rw t at rest in rw (h, t, s, later) refl)
-    go (inr h) (inr t) (inl s) all rest = (let later : filter q (with_note a notes) ≡ filter q notes = rw t at rest in rw (h, t, s, later) refl)
-    go (inr h) (inr t) (inr s) all rest = (let later : filter q (with_note a notes) ≡ filter q notes = rw t at rest in rw (h, t, s, later) refl)
+    go (inr h) (inl t) (inl s) all rest =
+        (let later : filter q (with_note a notes) ≡ with_note a (filter q notes) = rw t at rest in rw (h, t, s, h, later) refl)
+    go (inr h) (inl t) (inr s) all rest =
+        (let later : filter q (with_note a notes) ≡ with_note a (filter q notes) = rw t at rest in rw (h, t, s, later) refl)
+    go (inr h) (inr t) (inl s) all rest =
+        (let later : filter q (with_note a notes) ≡ filter q notes = rw t at rest in rw (h, t, s, later) refl)
+    go (inr h) (inr t) (inr s) all rest =
+        (let later : filter q (with_note a notes) ≡ filter q notes = rw t at rest in rw (h, t, s, later) refl)
 
 -- what is so of each, and of one more
 pub all_with : (p : Answered → Bool) (a : Answered) (notes : List Answered) → p a ≡ true → list_all p notes ≡ true
@@ -104,7 +110,8 @@ comes_behind a b h k = grind (arith, nat_tests, h, k)
 pub rise_with : (a : Answered) (notes : List Answered) → noted_for a.client a.seq notes ≡ None
     → rises comes_before notes ≡ true → rises comes_before (with_note a notes) ≡ true
 rise_with a [] new rising = refl
-rise_with a (b ∷ notes) new rising = go (cases_Bool (is_answer_of a.client a.seq b)) (cases_Bool (comes_before a b)) (and_parts (list_all (comes_before b) notes) (rises comes_before notes) rising) new (rise_with a notes)
+rise_with a (b ∷ notes) new rising = go (cases_Bool (is_answer_of a.client a.seq b)) (cases_Bool (comes_before a b))
+    (and_parts (list_all (comes_before b) notes) (rises comes_before notes) rising) new (rise_with a notes)
   where
     go : (is_answer_of a.client a.seq b ≡ true) ⊎ (is_answer_of a.client a.seq b ≡ false)
         → (comes_before a b ≡ true) ⊎ (comes_before a b ≡ false)
@@ -114,8 +121,9 @@ rise_with a (b ∷ notes) new rising = go (cases_Bool (is_answer_of a.client a.s
         → rises comes_before (with_note a notes) ≡ true)
         → rises comes_before (with_note a (b ∷ notes)) ≡ true
     go (inl s) h p none rest = (let never : Some b ≡ None = rw s at none in cc)
-    go (inr s) (inl h) p none rest =
-        rw h (and_from (list_all (comes_before a) (b ∷ notes)) (rises comes_before (b ∷ notes)) (and_from (comes_before a b) (list_all (comes_before a) notes) h (before_all a b notes h p.0)) rising)
+    go (inr s) (inl h) p none rest = rw h (and_from (list_all (comes_before a) (b ∷ notes)) (rises comes_before (b ∷ notes))
+        (and_from (comes_before a b) (list_all (comes_before a) notes) h (before_all a b notes h p.0)) rising)
     go (inr s) (inr h) p none rest =
         let later : noted_for a.client a.seq notes ≡ None = rw s at none in
-        rw h (and_from (list_all (comes_before b) (with_note a notes)) (rises comes_before (with_note a notes)) (all_with (comes_before b) a notes (comes_behind a b h s) p.0) (rest later p.1))
+        rw h (and_from (list_all (comes_before b) (with_note a notes)) (rises comes_before (with_note a notes))
+        (all_with (comes_before b) a notes (comes_behind a b h s) p.0) (rest later p.1))

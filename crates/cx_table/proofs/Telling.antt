@@ -12,7 +12,8 @@ use Rattle.cx_base.specs.Lists.{rises}
 use Rattle.cx_base.specs.Noted.{Table, are_rising, comes_before, floor_of, is_answer_of, is_done, is_answer_done, noted_for}
 use Rattle.cx_base.specs.Noted.{still_noted, with_answer, with_floor, with_note, with_told}
 use Rattle.cx_base.proofs.Used.{none_placed, same_client, still_rising, turned_test}
-use Rattle.cx_table.specs.Entries.{AreClientEntries, above, are_above, are_of, floor_of_entry, is_above_floor, is_lower, notes_in, of_client}
+use Rattle.cx_table.specs.Entries.{AreClientEntries, above, are_above, are_of, floor_of_entry, is_above_floor, is_lower, notes_in}
+use Rattle.cx_table.specs.Entries.{of_client}
 use Rattle.cx_table.specs.Entries.{max_floor}
 use Rattle.cx_table.specs.Judged.{is_new, judge_in, judge_of, judge_noted}
 use Rattle.cx_table.specs.declared.entry.ClientEntry.{ClientEntry}
@@ -27,8 +28,8 @@ pub floor_told : (client floor n : ℕ) (floors : List Floor) → are_rising n f
     → floor_of k (with_floor client floor floors)
     ≡ (if client == k then Some (max_floor (floor_of k floors) floor) else floor_of k floors)
 floor_told client floor n [] r k = refl
-floor_told client floor n (f ∷ floors) r k =
-    go (cases_Bool (f.client == client)) (cases_Bool (nat_lt client f.client)) (cases_Bool (client == k)) (cases_Bool (f.client == k)) (floor_told client floor (f.client + 1) floors rest k)
+floor_told client floor n (f ∷ floors) r k = go (cases_Bool (f.client == client)) (cases_Bool (nat_lt client f.client))
+    (cases_Bool (client == k)) (cases_Bool (f.client == k)) (floor_told client floor (f.client + 1) floors rest k)
   where
     rest : are_rising (f.client + 1) floors ≡ true
     rest = (and_parts (nat_le n f.client) (are_rising (f.client + 1) floors) r).1
@@ -43,10 +44,12 @@ floor_told client floor n (f ∷ floors) r k =
     go (inl s) b (inl t) u h = rw (s, t, same_client k f.client client true (eqb-true f.client client s) t) refl
     go (inl s) b (inr t) u h = rw (s, t, same_client k f.client client false (eqb-true f.client client s) t) refl
     go (inr s) (inl b) (inl t) u h =
-        let none : floor_of k (f ∷ floors) ≡ None = subst (λ (x : ℕ). floor_of x (f ∷ floors) ≡ None) (eqb-true client k t) (none_placed client f floors s b rest) in
+        let none : floor_of k (f ∷ floors) ≡ None =
+        subst (λ (x : ℕ). floor_of x (f ∷ floors) ≡ None) (eqb-true client k t) (none_placed client f floors s b rest) in
         rw (s, b, none, t) refl
     go (inr s) (inl b) (inr t) u h = rw (s, b, t) refl
-    go (inr s) (inr b) (inl t) (inl u) h = absurd (both_ways (f.client == client) s (same_client client f.client k true (eqb-true f.client k u) (turned_test k client ∙ t)))
+    go (inr s) (inr b) (inl t) (inl u) h =
+        absurd (both_ways (f.client == client) s (same_client client f.client k true (eqb-true f.client k u) (turned_test k client ∙ t)))
     go (inr s) (inr b) (inr t) (inl u) h = rw (s, b, t, u) refl
     go (inr s) (inr b) t (inr u) h = rw (s, b, u) h
 
@@ -63,8 +66,8 @@ notes_told client floor k [] = same (client == k)
     same : (b : Bool) → none ≡ (if b then none else none)
     same true = refl
     same false = refl
-notes_told client floor k (a ∷ notes) =
-    go (cases_Bool (client == k)) (cases_Bool (a.client == k)) (cases_Bool (a.client == client)) (cases_Bool (nat_le a.seq floor)) (notes_told client floor k notes)
+notes_told client floor k (a ∷ notes) = go (cases_Bool (client == k)) (cases_Bool (a.client == k)) (cases_Bool (a.client == client))
+    (cases_Bool (nat_le a.seq floor)) (notes_told client floor k notes)
   where
     go : ((client == k) ≡ true) ⊎ ((client == k) ≡ false) → ((a.client == k) ≡ true) ⊎ ((a.client == k) ≡ false)
         → ((a.client == client) ≡ true) ⊎ ((a.client == client) ≡ false)
@@ -81,18 +84,24 @@ notes_told client floor k (a ∷ notes) =
         let stays : nat_lt floor a.seq ≡ true = grind (arith, nat_tests, v) in
         let rest : of_client k (still_noted client floor notes) ≡ above floor (of_client k notes) = rw s at h in
         rw (u, v, t, s, stays) (ap (λ (l : List Answered). a ∷ l) rest)
-    go (inl s) (inl t) (inr u) v h = (let same : (a.client == client) ≡ true = grind (arith, nat_tests, s, t) in absurd (both_ways (a.client == client) u same))
-    go (inl s) (inr t) (inl u) v h = (let same : (a.client == k) ≡ true = grind (arith, nat_tests, s, u) in absurd (both_ways (a.client == k) t same))
+    go (inl s) (inl t) (inr u) v h =
+        (let same : (a.client == client) ≡ true = grind (arith, nat_tests, s, t) in absurd (both_ways (a.client == client) u same))
+    go (inl s) (inr t) (inl u) v h =
+        (let same : (a.client == k) ≡ true = grind (arith, nat_tests, s, u) in absurd (both_ways (a.client == k) t same))
     go (inl s) (inr t) (inr u) v h =
         let rest : of_client k (still_noted client floor notes) ≡ above floor (of_client k notes) = rw s at h in
         rw (u, t, s) rest
-    go (inr s) (inl t) (inl u) v h = (let same : (client == k) ≡ true = grind (arith, nat_tests, t, u) in absurd (both_ways (client == k) s same))
+    go (inr s) (inl t) (inl u) v h =
+        (let same : (client == k) ≡ true = grind (arith, nat_tests, t, u) in absurd (both_ways (client == k) s same))
     go (inr s) (inl t) (inr u) v h =
         let rest : of_client k (still_noted client floor notes) ≡ of_client k notes = rw s at h in
         rw (u, t, s) (ap (λ (l : List Answered). a ∷ l) rest)
-    go (inr s) (inr t) (inl u) (inl v) h = (let rest : of_client k (still_noted client floor notes) ≡ of_client k notes = rw s at h in rw (u, v, s, t) rest)
-    go (inr s) (inr t) (inl u) (inr v) h = (let rest : of_client k (still_noted client floor notes) ≡ of_client k notes = rw s at h in rw (u, v, t, s) rest)
-    go (inr s) (inr t) (inr u) v h = (let rest : of_client k (still_noted client floor notes) ≡ of_client k notes = rw s at h in rw (u, t, s) rest)
+    go (inr s) (inr t) (inl u) (inl v) h =
+        (let rest : of_client k (still_noted client floor notes) ≡ of_client k notes = rw s at h in rw (u, v, s, t) rest)
+    go (inr s) (inr t) (inl u) (inr v) h =
+        (let rest : of_client k (still_noted client floor notes) ≡ of_client k notes = rw s at h in rw (u, v, t, s) rest)
+    go (inr s) (inr t) (inr u) v h =
+        (let rest : of_client k (still_noted client floor notes) ≡ of_client k notes = rw s at h in rw (u, t, s) rest)
 
 -- the answers of a client are its own, and rise
 pub own_of : (client : ℕ) (notes : List Answered) → are_of client (of_client client notes) ≡ true
@@ -120,7 +129,8 @@ noted_own client seq (a ∷ notes) = go (cases_Bool (a.client == client)) (cases
 
 -- whether an answer may stand once its client has told a floor: the client isn't done with it before
 abbrev may_stand : ℕ → List Floor → Answered → Bool
-may_stand client floors a = if client == a.client then not (is_done a.seq (floor_of a.client floors)) else is_above_floor a.seq (floor_of a.client floors)
+may_stand client floors a =
+    if client == a.client then not (is_done a.seq (floor_of a.client floors)) else is_above_floor a.seq (floor_of a.client floors)
 
 stood : (client : ℕ) (floors : List Floor) (a : Answered) → is_above_floor a.seq (floor_of a.client floors) ≡ true
     → may_stand client floors a ≡ true
@@ -140,8 +150,10 @@ all_stood : (client : ℕ) (floors : List Floor) (notes : List Answered)
     → list_all (may_stand client floors) notes ≡ true
 all_stood client floors [] all = refl
 all_stood client floors (a ∷ notes) all =
-    let parts = and_parts (is_above_floor a.seq (floor_of a.client floors)) (list_all (λ (x : Answered). is_above_floor x.seq (floor_of x.client floors)) notes) all in
-    and_from (may_stand client floors a) (list_all (may_stand client floors) notes) (stood client floors a parts.0) (all_stood client floors notes parts.1)
+    let parts = and_parts (is_above_floor a.seq (floor_of a.client floors))
+    (list_all (λ (x : Answered). is_above_floor x.seq (floor_of x.client floors)) notes) all in
+    and_from (may_stand client floors a) (list_all (may_stand client floors) notes) (stood client floors a parts.0)
+    (all_stood client floors notes parts.1)
 
 -- those that stay lie above their clients' floors
 above_told : (client floor : ℕ) (floors : List Floor) (notes : List Answered) → are_rising 0 floors ≡ true
@@ -150,7 +162,8 @@ above_told : (client floor : ℕ) (floors : List Floor) (notes : List Answered) 
 above_told client floor floors [] rising all = refl
 above_told client floor floors (a ∷ notes) rising all =
     let parts = and_parts (may_stand client floors a) (list_all (may_stand client floors) notes) all in
-    go (cases_Bool (client == a.client)) (cases_Bool (nat_le a.seq floor)) (floor_told client floor 0 floors rising a.client) parts.0 (above_told client floor floors notes rising parts.1)
+    go (cases_Bool (client == a.client)) (cases_Bool (nat_le a.seq floor)) (floor_told client floor 0 floors rising a.client) parts.0
+    (above_told client floor floors notes rising parts.1)
   where
     higher : (o : Option ℕ) → not (is_done a.seq o) ≡ true → nat_le a.seq floor ≡ false
         → is_above_floor a.seq (Some (max_floor o floor)) ≡ true
@@ -168,9 +181,11 @@ above_told client floor floors (a ∷ notes) rising all =
     go (inl t) (inl v) is one rest = (let turned : (a.client == client) ≡ true = turned_test a.client client ∙ t in rw (turned, v) rest)
     go (inl t) (inr v) is one rest =
         let turned : (a.client == client) ≡ true = turned_test a.client client ∙ t in
-        let floor_is : floor_of a.client (with_floor client floor floors) ≡ Some (max_floor (floor_of a.client floors) floor) = rw t at is in
+        let floor_is : floor_of a.client (with_floor client floor floors) ≡ Some (max_floor (floor_of a.client floors) floor) =
+        rw t at is in
         let free : not (is_done a.seq (floor_of a.client floors)) ≡ true = rw t at one in
-        rw (turned, v) (and_from (is_above_floor a.seq (floor_of a.client (with_floor client floor floors))) _ (rw floor_is (higher (floor_of a.client floors) free v)) rest)
+        rw (turned, v) (and_from (is_above_floor a.seq (floor_of a.client (with_floor client floor floors)))
+        _ (rw floor_is (higher (floor_of a.client floors) free v)) rest)
     go (inr t) v is one rest =
         let turned : (a.client == client) ≡ false = turned_test a.client client ∙ t in
         let floor_is : floor_of a.client (with_floor client floor floors) ≡ floor_of a.client floors = rw t at is in
@@ -190,7 +205,8 @@ module _ (t : Table) (es : List (ℕ × ClientEntry)) (sound : AreClientEntries 
   entry_own = rw entry_notes (own_of client t.notes)
 
   pub entry_rise : rises is_lower entry.notes.items ≡ true
-  entry_rise = rw entry_notes (sym (rise_by_number client (of_client client t.notes) (own_of client t.notes)) ∙ rise_left comes_before (λ (a : Answered). a.client == client) t.notes sound.notes_rise)
+  entry_rise = rw entry_notes (sym (rise_by_number client (of_client client t.notes) (own_of client t.notes))
+      ∙ rise_left comes_before (λ (a : Answered). a.client == client) t.notes sound.notes_rise)
 
   pub entry_noted : (seq : ℕ) → noted_for client seq entry.notes.items ≡ noted_for client seq t.notes
   entry_noted seq = ap (noted_for client seq) entry_notes ∙ noted_own client seq t.notes
@@ -215,7 +231,8 @@ noted_above : (client seq : ℕ) (floors : List Floor) (notes : List Answered) (
     → noted_for client seq notes ≡ Some a → is_above_floor seq (floor_of client floors) ≡ true
 noted_above client seq floors [] a all e = cc
 noted_above client seq floors (x ∷ notes) a all e =
-    let parts = and_parts (is_above_floor x.seq (floor_of x.client floors)) (list_all (λ (y : Answered). is_above_floor y.seq (floor_of y.client floors)) notes) all in
+    let parts = and_parts (is_above_floor x.seq (floor_of x.client floors))
+    (list_all (λ (y : Answered). is_above_floor y.seq (floor_of y.client floors)) notes) all in
     go (cases_Bool (is_answer_of client seq x)) parts.0 e (noted_above client seq floors notes a parts.1)
   where
     go : (is_answer_of client seq x ≡ true) ⊎ (is_answer_of client seq x ≡ false)
@@ -224,7 +241,8 @@ noted_above client seq floors (x ∷ notes) a all e =
         → is_above_floor seq (floor_of client floors) ≡ true
     go (inl s) one e rest =
         let p = and_parts (x.client == client) (x.seq == seq) s in
-        subst (λ (k : ℕ). is_above_floor k (floor_of client floors) ≡ true) (eqb-true x.seq seq p.1) (subst (λ (k : ℕ). is_above_floor x.seq (floor_of k floors) ≡ true) (eqb-true x.client client p.0) one)
+        subst (λ (k : ℕ). is_above_floor k (floor_of client floors) ≡ true) (eqb-true x.seq seq p.1)
+        (subst (λ (k : ℕ). is_above_floor x.seq (floor_of k floors) ≡ true) (eqb-true x.client client p.0) one)
     go (inr s) one e rest = rest (rw s at e)
 
 -- a client whose number isn't new has told a floor
@@ -235,7 +253,8 @@ judged_told t above client seq judged = go (floor_of client t.floors) refl (note
     go : (o : Option ℕ) → floor_of client t.floors ≡ o → (p : Option Answered) → noted_for client seq t.notes ≡ p
         → is_new (if is_done seq o then judge.Past else judge_noted p) ≡ false → IsSome o
     go None is None has e = absurd (true≢false e)
-    go None is (Some a) has e = (let told : is_above_floor seq (floor_of client t.floors) ≡ true = noted_above client seq t.floors t.notes a above has in absurd (true≢false (sym (rw is at told))))
+    go None is (Some a) has e = (let told : is_above_floor seq (floor_of client t.floors) ≡ true =
+        noted_above client seq t.floors t.notes a above has in absurd (true≢false (sym (rw is at told))))
     go (Some floor) is p has e = search rules
 
 -- a number that is new isn't done with, and has no answer
@@ -268,11 +287,12 @@ module _ (t : Table) (es ns : List (ℕ × ClientEntry)) (sound : AreClientEntri
       go (inr s) = rw s refl
 
   rising_told : are_rising 0 (with_floor client floor t.floors) ≡ true
-  rising_told = (let least : nat_le 0 client ≡ true = grind (arith, nat_tests) in still_rising client floor 0 t.floors sound.floors_rise least)
+  rising_told =
+      (let least : nat_le 0 client ≡ true = grind (arith, nat_tests) in still_rising client floor 0 t.floors sound.floors_rise least)
 
   pub told_held : new.notes.items ≡ above floor old.notes.items → AreClientEntries (with_told client floor t) ns
-  told_held left =
-      held_by client new es ns changed t (with_told client floor t) sound rising_told (rise_left comes_before (λ (a : Answered). not (is_answer_done client floor a)) t.notes sound.notes_rise)
+  told_held left = held_by client new es ns changed t (with_told client floor t) sound rising_told
+      (rise_left comes_before (λ (a : Answered). not (is_answer_done client floor a)) t.notes sound.notes_rise)
       (above_told client floor t.floors t.notes sound.floors_rise (all_stood client t.floors t.notes sound.above)) floors_told
       (λ k. notes_told client floor k t.notes ∙ go k (cases_Bool (client == k)))
     where
@@ -288,10 +308,12 @@ module _ (t : Table) (es ns : List (ℕ × ClientEntry)) (sound : AreClientEntri
   pub noted_held : (a : Answered) → a.client ≡ client → judge_of t a.client a.seq ≡ judge.New
       → new.notes.items ≡ above floor (with_note a old.notes.items)
       → AreClientEntries (with_answer a floor t) ns
-  noted_held a same number left = subst (λ (k : ℕ). AreClientEntries (with_told k floor (record t { notes = with_note a t.notes })) ns) (sym same)
-      (held_by client new es ns changed t (with_told client floor (record t { notes = with_note a t.notes })) sound rising_told
-      (rise_left comes_before (λ (x : Answered). not (is_answer_done client floor x)) (with_note a t.notes) (rise_with a t.notes free.1 sound.notes_rise))
-      (above_told client floor t.floors (with_note a t.notes) sound.floors_rise (all_with (may_stand client t.floors) a t.notes (stands (cases_Bool (client == a.client))) (all_stood client t.floors t.notes sound.above))) floors_told
+  noted_held a same number left = subst (λ (k : ℕ). AreClientEntries (with_told k floor (record t { notes = with_note a t.notes })) ns)
+      (sym same) (held_by client new es ns changed t (with_told client floor (record t { notes = with_note a t.notes })) sound rising_told
+      (rise_left comes_before (λ (x : Answered). not (is_answer_done client floor x)) (with_note a t.notes)
+      (rise_with a t.notes free.1 sound.notes_rise))
+      (above_told client floor t.floors (with_note a t.notes) sound.floors_rise (all_with (may_stand client t.floors) a t.notes
+      (stands (cases_Bool (client == a.client))) (all_stood client t.floors t.notes sound.above))) floors_told
       (λ k. notes_told client floor k (with_note a t.notes) ∙ go k (cases_Bool (client == k))))
     where
       free : (not (is_done a.seq (floor_of a.client t.floors)) ≡ true) × (noted_for a.client a.seq t.notes ≡ None)
@@ -299,7 +321,8 @@ module _ (t : Table) (es ns : List (ℕ × ClientEntry)) (sound : AreClientEntri
 
       stands : ((client == a.client) ≡ true) ⊎ ((client == a.client) ≡ false) → may_stand client t.floors a ≡ true
       stands (inl s) = rw s free.0
-      stands (inr s) = (let equal : (client == a.client) ≡ true = grind (arith, nat_tests, same) in absurd (both_ways (client == a.client) s equal))
+      stands (inr s) =
+          (let equal : (client == a.client) ≡ true = grind (arith, nat_tests, same) in absurd (both_ways (client == a.client) s equal))
 
       among : (k : ℕ)
           → of_client k (with_note a t.notes)

@@ -30,9 +30,11 @@ pub fn room_at(
     count: usize,
 ) -> Result<usize, NoMemory>
     ensures place { IfOk result (λ place. IsRoomAt client count entries.new.entries place) }
-    ensures still { (t : Table) → AreClientEntries t entries.old.entries → AreClientEntries t entries.new.entries }
+    ensures still { (t : Table) → AreClientEntries t entries.old.entries
+        → AreClientEntries t entries.new.entries }
     ensures room { KeepsRoom (rooms_in entries.old.entries) (rooms_in entries.new.entries) }
-    ensures succeeds { 0 < count → count ≤ room_for client (rooms_in entries.old.entries) → IsOk result }
+    ensures succeeds { 0 < count → count ≤ room_for client (rooms_in entries.old.entries)
+        → IsOk result }
     ensures unique { IsUnique nat_eq entries.new }
 {
     if let Some(place) = place_of(entries, client) {

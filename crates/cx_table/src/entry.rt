@@ -164,7 +164,8 @@ pub fn note(entry: &mut ClientEntry, answer: &Answered, floor: u64)
     requires new { noted_for answer.now.client answer.now.seq entry.old.notes.items ≡ None }
     requires room { vec_len entry.old.notes < vec_capacity entry.old.notes }
     ensures floor { entry.new.floor ≡ Some (max_floor entry.old.floor floor) }
-    ensures notes { entry.new.notes.items ≡ above floor (with_note answer.now entry.old.notes.items) }
+    ensures notes { entry.new.notes.items
+        ≡ above floor (with_note answer.now entry.old.notes.items) }
     ensures len { vec_len entry.new.notes ≤ vec_len entry.old.notes + 1 }
     ensures capacity { vec_capacity entry.old.notes ≤ vec_capacity entry.new.notes }
 {

@@ -50,7 +50,8 @@ pub fn with_answer(
     answer: &Answered,
     floor: u64,
 ) -> GhostList<Answered>
-    ensures { result.items ≡ still_noted answer.now.client floor (with_note answer.now notes.now.items) }
+    ensures { result.items
+        ≡ still_noted answer.now.client floor (with_note answer.now notes.now.items) }
 {
     GhostList::of::<(&GhostList<Answered>, &Answered, u64), WithAnswer>(&(notes, answer, floor))
 }

@@ -43,7 +43,8 @@ impl Model for Table {
       rooms = rooms_in t.entries.entries;
     } };
 
-    ghost invariant = { λ t. AreClientEntries (record { floors = t.floors.items; notes = t.notes.items }) t.entries.entries };
+    ghost invariant = { λ t. AreClientEntries
+        (record { floors = t.floors.items; notes = t.notes.items }) t.entries.entries };
 }
 
 impl Table {
@@ -110,12 +111,14 @@ impl Table {
     /// be noted.
     pub fn push(&mut self, client: u16, floor: u64, notes: &[Note]) -> Result<(), NoMemory>
         requires some { 1 ≤ length notes.now }
-        requires behind { are_rising 0 (self.old.table.floors ++ record { client = client; floor = floor } ∷ []) ≡ true }
+        requires behind { are_rising 0
+            (self.old.table.floors ++ record { client = client; floor = floor } ∷ []) ≡ true }
         requires rise { rises has_lower notes.now ≡ true }
         requires above { are_notes_above floor notes.now ≡ true }
         ensures floors { OnOk result (self.new.table.floors
             ≡ self.old.table.floors ++ record { client = client; floor = floor } ∷ []) }
-        ensures notes { OnOk result (self.new.table.notes ≡ self.old.table.notes ++ map (answer_of client) notes.now) }
+        ensures notes { OnOk result
+            (self.new.table.notes ≡ self.old.table.notes ++ map (answer_of client) notes.now) }
     {
         let _rising = self.notes(client);
         for note in notes {
@@ -137,7 +140,8 @@ impl Table {
     ) -> Result<(), NoMemory>
         requires new { judge_of self.old.table client seq ≡ judge.New }
         ensures ok { OnOk result (self.new.table
-            ≡ with_answer (record { client = client; seq = seq; at = at; reply = reply.now }) floor self.old.table) }
+            ≡ with_answer (record { client = client; seq = seq; at = at; reply = reply.now }) floor
+            self.old.table) }
         ensures err { OnErr result (self.new.table ≡ self.old.table) }
         ensures succeeds { 0 < room_for client self.old.rooms → IsOk result }
         ensures room { TakesRoom client self.old.rooms self.new.rooms }

@@ -3,7 +3,11 @@ use Rattle.std.proofs.Common.{◌≡◌, ℕ, false, [], refl}
 use Rattle.cx_letter.specs.Letter.{Letter}
 use Rattle.cx_letter.specs.Names.{name_of_kind, name_of_message}
 use Rattle.cx_letter.specs.declared.message.Msg.{Msg}
-use Rattle.cx_letter.specs.declared.message.Msg.TheVariants.{Submit, Batch, Leads, MatchA, MatchB, MatchNack, Phase1A, Phase1B, Nack, Propose, Phase2A, Phase2B, Chosen, ChosenIn, Results, Answer, Held, Fetch, Inform, Informed, GarbageA, GarbageB, ReadReq, MatchRead, MatchReadAck, PreRead, PreReadAck, Read, SessRead, ReadAnswer, StopA, StopB, StopNack, NextA, NextB, BootA, BootB, Sets}
+use Rattle.cx_letter.specs.declared.message.Msg.TheVariants.{Submit, Batch, Leads, MatchA, MatchB, MatchNack, Phase1A, Phase1B, Nack}
+use Rattle.cx_letter.specs.declared.message.Msg.TheVariants.{Propose, Phase2A, Phase2B, Chosen, ChosenIn, Results, Answer, Held, Fetch}
+use Rattle.cx_letter.specs.declared.message.Msg.TheVariants.{Inform, Informed, GarbageA, GarbageB, ReadReq, MatchRead, MatchReadAck}
+use Rattle.cx_letter.specs.declared.message.Msg.TheVariants.{PreRead, PreReadAck, Read, SessRead, ReadAnswer, StopA, StopB, StopNack, NextA}
+use Rattle.cx_letter.specs.declared.message.Msg.TheVariants.{NextB, BootA, BootB, Sets}
 use Rattle.cx_trace.specs.Trace.{is_answer_name, client_text_of, told_text}
 
 -- a message of another kind tells nothing

@@ -23,8 +23,8 @@ acts_text before c = if acts before c then codes "acts" else codes "past"
 
 -- the line of a command in its slot, after these
 unfoldable pub command_text : ℕ → List Command → Command → List ℕ
-command_text slot before c =
-    decimal slot ++ codes " " ++ request_text c.client c.seq c.floor ++ codes " " ++ op_text c.op ++ codes " " ++ acts_text before c ++ codes "\n"
+command_text slot before c = decimal slot ++ codes " " ++ request_text c.client c.seq c.floor ++ codes " " ++ op_text c.op ++ codes " "
+    ++ acts_text before c ++ codes "\n"
 
 -- the lines of the commands of a slot, each after all before it
 abbrev pub commands_text : ℕ → List Command → List Command → List ℕ

@@ -12,7 +12,11 @@ use Rattle.cx_base.specs.declared.role.Kind.TheVariants.{Client, Leader, Replica
 use Rattle.cx_letter.specs.Letter.{Letter, body}
 use Rattle.cx_letter.specs.Names.{name_of_message}
 use Rattle.cx_letter.specs.declared.message.Msg.{Msg}
-use Rattle.cx_letter.specs.declared.message.Msg.TheVariants.{Submit, Batch, Leads, MatchA, MatchB, MatchNack, Phase1A, Phase1B, Nack, Propose, Phase2A, Phase2B, Chosen, ChosenIn, Results, Answer, Held, Fetch, Inform, Informed, GarbageA, GarbageB, ReadReq, MatchRead, MatchReadAck, PreRead, PreReadAck, Read, SessRead, ReadAnswer, StopA, StopB, StopNack, NextA, NextB, BootA, BootB, Sets}
+use Rattle.cx_letter.specs.declared.message.Msg.TheVariants.{Submit, Batch, Leads, MatchA, MatchB, MatchNack, Phase1A, Phase1B, Nack}
+use Rattle.cx_letter.specs.declared.message.Msg.TheVariants.{Propose, Phase2A, Phase2B, Chosen, ChosenIn, Results, Answer, Held, Fetch}
+use Rattle.cx_letter.specs.declared.message.Msg.TheVariants.{Inform, Informed, GarbageA, GarbageB, ReadReq, MatchRead, MatchReadAck}
+use Rattle.cx_letter.specs.declared.message.Msg.TheVariants.{PreRead, PreReadAck, Read, SessRead, ReadAnswer, StopA, StopB, StopNack, NextA}
+use Rattle.cx_letter.specs.declared.message.Msg.TheVariants.{NextB, BootA, BootB, Sets}
 use Rattle.cx_trace.specs.Put.{hex}
 use Rattle.cx_trace.specs.Reply.{reply_text, found_text}
 use Rattle.cx_trace.specs.declared.effect.Effect.{Effect}
@@ -119,7 +123,8 @@ is_answer_name name = bytes_eq name (codes "Answer") || bytes_eq name (codes "Re
 
 -- a number, two roles and a name
 abbrev pub named_text : ℕ → RoleId → RoleId → List ℕ → List ℕ
-named_text n from to name = codes "+" ++ decimal n ++ codes " " ++ role_text from ++ codes " " ++ role_text to ++ codes " " ++ name ++ codes " "
+named_text n from to name =
+    codes "+" ++ decimal n ++ codes " " ++ role_text from ++ codes " " ++ role_text to ++ codes " " ++ name ++ codes " "
 
 -- the line of a datagram up to its body: its number, who sends it, who gets it, and its name
 unfoldable pub head_text : ℕ → Letter → List ℕ

@@ -56,7 +56,8 @@ fn put_command(
     before: &ExecutedCommands,
     command: &Command,
 ) -> Result<(), NoMemory>
-    ensures ok { OnOk result (text.new.items ≡ text.old.items ++ command_text slot before.now command.now) }
+    ensures ok { OnOk result
+        (text.new.items ≡ text.old.items ++ command_text slot before.now command.now) }
     ensures err { OnErr result (take (length text.old.items) text.new.items ≡ text.old.items) }
 {
     put_number(text, slot)?;
@@ -76,7 +77,8 @@ fn put_commands(
     before: &mut ExecutedCommands,
     commands: &[Command],
 ) -> Result<(), NoMemory>
-    ensures text { OnOk result (text.new.items ≡ text.old.items ++ commands_text slot before.old commands.now) }
+    ensures text { OnOk result
+        (text.new.items ≡ text.old.items ++ commands_text slot before.old commands.now) }
     ensures before { OnOk result (before.new ≡ before.old ++ commands.now) }
     ensures err { OnErr result (take (length text.old.items) text.new.items ≡ text.old.items) }
 {
@@ -93,7 +95,8 @@ fn put_slot(
     before: &mut ExecutedCommands,
     value: &Value,
 ) -> Result<(), NoMemory>
-    ensures text { OnOk result (text.new.items ≡ text.old.items ++ slot_text slot before.old value.now) }
+    ensures text { OnOk result
+        (text.new.items ≡ text.old.items ++ slot_text slot before.old value.now) }
     ensures before { OnOk result (before.new ≡ before.old ++ commands_of value.now) }
     ensures err { OnErr result (take (length text.old.items) text.new.items ≡ text.old.items) }
 {
@@ -114,7 +117,8 @@ pub fn slot_into(
     value: &Value,
     out: &mut Vec<u8>,
 ) -> Result<(), NoMemory>
-    ensures text { OnOk result (out.new.items ≡ out.old.items ++ slot_text slot before.old value.now) }
+    ensures text { OnOk result
+        (out.new.items ≡ out.old.items ++ slot_text slot before.old value.now) }
     ensures before { OnOk result (before.new ≡ before.old ++ commands_of value.now) }
     ensures err { OnErr result (out.new.items ≡ out.old.items) }
 {

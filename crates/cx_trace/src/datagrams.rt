@@ -53,7 +53,8 @@ fn put_told_by(alloc: Global, text: &mut Vec<u8>, spelled: &Spelled<'_>) -> Resu
 
 // A number, as the line of a datagram begins with it.
 fn put_numbered(text: &mut Vec<u8>, n: u64) -> Result<(), NoMemory>
-    ensures ok { OnOk result (text.new.items ≡ text.old.items ++ (codes "+" ++ decimal n ++ codes " ")) }
+    ensures ok { OnOk result
+        (text.new.items ≡ text.old.items ++ (codes "+" ++ decimal n ++ codes " ")) }
     ensures err { OnErr result (take (length text.old.items) text.new.items ≡ text.old.items) }
 {
     put(text, b"+")?;

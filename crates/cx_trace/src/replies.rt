@@ -48,7 +48,8 @@ pub fn put_answer(
     at: u64,
     reply: &Reply,
 ) -> Result<(), NoMemory>
-    ensures ok { OnOk result (text.new.items ≡ text.old.items ++ answer_line client seq at (reply_text reply.now)) }
+    ensures ok { OnOk result
+        (text.new.items ≡ text.old.items ++ answer_line client seq at (reply_text reply.now)) }
     ensures err { OnErr result (take (length text.old.items) text.new.items ≡ text.old.items) }
 {
     put(text, b"answer ")?;
@@ -69,7 +70,8 @@ pub fn put_read(
     mark: u64,
     found: &Option<Text>,
 ) -> Result<(), NoMemory>
-    ensures ok { OnOk result (text.new.items ≡ text.old.items ++ read_line client seq mark (found_text found.now)) }
+    ensures ok { OnOk result
+        (text.new.items ≡ text.old.items ++ read_line client seq mark (found_text found.now)) }
     ensures err { OnErr result (take (length text.old.items) text.new.items ≡ text.old.items) }
 {
     put(text, b"read ")?;

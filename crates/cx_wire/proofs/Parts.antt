@@ -38,13 +38,15 @@ between false c t = refl
 pub same-part : {A : Type 0} (f : Format A) → IsPart (λ x. false) f f
 same-part f = record { fits = λ x. and_yes (f.fits x); spells = λ x. refl }
 
-pub then_by-part : {A B : Type 0} (f : Format A) (g h : A → Format B) (tells : B → Bool) → ((a : A) → IsPart tells (g a) (h a)) → IsPart (λ (x : A × B). tells x.1) (then_by f g) (then_by f h)
+pub then_by-part : {A B : Type 0} (f : Format A) (g h : A → Format B) (tells : B → Bool) → ((a : A) → IsPart tells (g a) (h a))
+    → IsPart (λ (x : A × B). tells x.1) (then_by f g) (then_by f h)
 then_by-part f g h tells is = record {
   fits = λ x. ap (λ b. f.fits x.0 && b) ((is x.0).fits x.1) ∙ grouped (f.fits x.0) ((h x.0).fits x.1) (tells x.1);
   spells = λ x. ap (λ bytes. f.spell x.0 ++ bytes) ((is x.0).spells x.1);
 }
 
-pub ▷-part : {A B : Type 0} (f : Format A) (g h : Format B) (tells : B → Bool) → IsPart tells g h → IsPart (λ (x : A × B). tells x.1) (f ▷ g) (f ▷ h)
+pub ▷-part : {A B : Type 0} (f : Format A) (g h : Format B) (tells : B → Bool) → IsPart tells g h
+    → IsPart (λ (x : A × B). tells x.1) (f ▷ g) (f ▷ h)
 ▷-part f g h tells is = then_by-part f (λ _. g) (λ _. h) tells (λ _. is)
 
 pub shaped-part : {A B : Type 0} (make : A → B) (parts : B → A) (g h : Format A) (tells : A → Bool) → IsPart tells g h
@@ -65,24 +67,28 @@ unfolding each_spell
 each_spell-part g h tells is before [] = refl
 each_spell-part g h tells is before (x ∷ xs) = rw ((is before).spells x, each_spell-part g h tells is (before ++ x ∷ []) xs) refl
 
-pub times-part : {A : Type 0} (n : ℕ) (g h : List A → Format A) (tells : A → Bool) → ((before : List A) → IsPart tells (g before) (h before)) → IsPart (list_any tells) (times n g) (times n h)
+pub times-part : {A : Type 0} (n : ℕ) (g h : List A → Format A) (tells : A → Bool)
+    → ((before : List A) → IsPart tells (g before) (h before)) → IsPart (list_any tells) (times n g) (times n h)
 times-part n g h tells is = record {
-  fits = λ xs. ap (λ b. (length xs == n) && b) (each_fits-part g h tells is [] xs) ∙ grouped (length xs == n) (each_fits h [] xs) (list_any tells xs);
+  fits = λ xs. ap (λ b. (length xs == n) && b) (each_fits-part g h tells is [] xs)
+      ∙ grouped (length xs == n) (each_fits h [] xs) (list_any tells xs);
   spells = λ xs. each_spell-part g h tells is [] xs;
 }
 
-pub counted-part : {A : Type 0} (count : Format ℕ) (g h : List A → Format A) (tells : A → Bool) → ((before : List A) → IsPart tells (g before) (h before))
-    → IsPart (list_any tells) (counted count g) (counted count h)
+pub counted-part : {A : Type 0} (count : Format ℕ) (g h : List A → Format A) (tells : A → Bool)
+    → ((before : List A) → IsPart tells (g before) (h before)) → IsPart (list_any tells) (counted count g) (counted count h)
 counted-part {A} count g h tells is =
     let inner = then_by-part count (λ n. times n g) (λ n. times n h) (list_any tells) (λ n. times-part n g h tells is) in
     record { fits = λ xs. inner.fits (length xs, xs); spells = λ xs. inner.spells (length xs, xs) }
 
-pub tagged-part : {A : Type 0} (s t : A → TaggedBytes) (cs ds : List (Case A)) (tells : A → Bool) → ((x : A) → IsShapePart (tells x) (s x) (t x)) → IsPart tells (tagged s cs) (tagged t ds)
+pub tagged-part : {A : Type 0} (s t : A → TaggedBytes) (cs ds : List (Case A)) (tells : A → Bool)
+    → ((x : A) → IsShapePart (tells x) (s x) (t x)) → IsPart tells (tagged s cs) (tagged t ds)
 tagged-part s t cs ds tells is = record {
   fits = λ x. (is x).fits;
   spells = λ x. rw ((is x).tag, (is x).bytes) refl;
 }
 
 -- a shape of a part
-pub shape-part : {B : Type 0} (tag : ℕ) (g h : Format B) (tells : B → Bool) → IsPart tells g h → (x : B) → IsShapePart (tells x) (record { tag = tag; fits = g.fits x; bytes = g.spell x }) (record { tag = tag; fits = h.fits x; bytes = h.spell x })
+pub shape-part : {B : Type 0} (tag : ℕ) (g h : Format B) (tells : B → Bool) → IsPart tells g h → (x : B) → IsShapePart (tells x)
+    (record { tag = tag; fits = g.fits x; bytes = g.spell x }) (record { tag = tag; fits = h.fits x; bytes = h.spell x })
 shape-part tag g h tells is x = record { tag = refl; fits = is.fits x; bytes = is.spells x }

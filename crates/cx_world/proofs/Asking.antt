@@ -17,8 +17,10 @@ use Rattle.cx_field.specs.declared.parts.Token.{Token}
 use Rattle.cx_world.specs.World.{SeatLists, HasSeats, IsChange}
 
 -- a change that keeps nothing leaves the seats
-pub quiet : (w : World) (seats : SeatLists) (who at : Option RoleId) (u v : Why) (sends sent : List Letter) (more : Option KeptRecord) → at ≡ who → v ≡ u → more ≡ None → sent ≡ sends
-    → HasSeats w.cluster w.roles w.kept seats → IsChange w (record { who = who; why = u; roles = w.roles; kept = []; sends = sends }) at v more seats sent
+pub quiet : (w : World) (seats : SeatLists) (who at : Option RoleId) (u v : Why) (sends sent : List Letter) (more : Option KeptRecord)
+    → at ≡ who → v ≡ u → more ≡ None → sent ≡ sends
+    → HasSeats w.cluster w.roles w.kept seats
+    → IsChange w (record { who = who; why = u; roles = w.roles; kept = []; sends = sends }) at v more seats sent
 quiet w seats who at u v sends sent more same_who same_why none same_sends has =
     record {
       who_is = same_who;
@@ -32,8 +34,10 @@ pub asked_stale : (t : Token) (e : Event) (events : List Happened) (w : World) �
     → ask w e (Some t) ≡ nothing (Some (role kind.Client t.client)) w.roles why.Stale
 asked_stale t e events w same stale = rw (same, stale) refl
 
-pub asked_sent : (t : Token) (e : Event) (heard : ℕ) (events : List Happened) (w : World) → w.events ≡ events → heard ≡ heard_by t.client w.sent w.events → is_stale t e events ≡ false
-    → ◌≡◌ {A = Change} (ask w e (Some t)) (record { who = Some (role kind.Client t.client); why = why.Sent; roles = w.roles; kept = []; sends = request heard e })
+pub asked_sent : (t : Token) (e : Event) (heard : ℕ) (events : List Happened) (w : World) → w.events ≡ events
+    → heard ≡ heard_by t.client w.sent w.events → is_stale t e events ≡ false
+    → ◌≡◌ {A = Change} (ask w e (Some t))
+    (record { who = Some (role kind.Client t.client); why = why.Sent; roles = w.roles; kept = []; sends = request heard e })
 asked_sent t e heard events w same hears fresh = rw (hears, same, fresh) refl
 
 -- the same act at the same role

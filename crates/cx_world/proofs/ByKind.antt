@@ -17,15 +17,17 @@ use Rattle.cx_model.specs.Reader.{reader_rules}
 use Rattle.cx_model.specs.Replacer.{replacer_rules}
 use Rattle.cx_model.specs.Replica.{replica_rules}
 use Rattle.cx_model.specs.Rules.{Rules, Running}
-use Rattle.cx_model.specs.State.{State, Down, BatcherIn, LeaderIn, ProxyIn, ReplicaIn, ReaderIn, ReplacerIn, plain, state_of, plain_volatile, batcher_volatile, leader_volatile, proxy_volatile, replica_volatile, reader_volatile, replacer_volatile}
+use Rattle.cx_model.specs.State.{State, Down, BatcherIn, LeaderIn, ProxyIn, ReplicaIn, ReaderIn, ReplacerIn, plain, state_of}
+use Rattle.cx_model.specs.State.{plain_volatile, batcher_volatile, leader_volatile, proxy_volatile, replica_volatile, reader_volatile}
+use Rattle.cx_model.specs.State.{replacer_volatile}
 use Rattle.cx_model.specs.Unbatcher.{unbatcher_rules}
 use Rattle.cx_model.specs.World.{act_of, turned}
 use Rattle.cx_world.specs.Seat.{Seat}
 use Rattle.cx_world.specs.World.{SeatLists, AreOfKind, HasKind}
 
 -- what holds of each kind holds of all
-pub by_kind : (P : Kind → Type 0) → P kind.Client → P kind.Batcher → P kind.Leader → P kind.Proxy → P kind.Acceptor → P kind.Matchmaker → P kind.Replica → P kind.Unbatcher → P kind.Reader → P kind.Replacer
-    → (k : Kind) → P k
+pub by_kind : (P : Kind → Type 0) → P kind.Client → P kind.Batcher → P kind.Leader → P kind.Proxy → P kind.Acceptor → P kind.Matchmaker
+    → P kind.Replica → P kind.Unbatcher → P kind.Reader → P kind.Replacer → (k : Kind) → P k
 by_kind P client batcher leader proxy acceptor matchmaker replica unbatcher reader replacer kind.Client = client
 by_kind P client batcher leader proxy acceptor matchmaker replica unbatcher reader replacer kind.Batcher = batcher
 by_kind P client batcher leader proxy acceptor matchmaker replica unbatcher reader replacer kind.Leader = leader
@@ -47,13 +49,16 @@ kind_cases k l = elim (bool_cases (code_of k == code_of l)) [
 pub record SeatsOf {D V : Type 0} (rules : Rules D V) (make : V → State) (k : Kind) : Type 0 where
   pub of : SeatLists → List (Seat (Running D V))
   pub put : SeatLists → List (Seat (Running D V)) → SeatLists
-  pub has : (c : Cluster) (roles : RoleId → State) (kept : List KeptRecord) (seats : SeatLists) → HasKind c roles kept seats k → AreOfKind rules make c k roles kept (of seats)
-  pub have : (c : Cluster) (roles : RoleId → State) (kept : List KeptRecord) (seats : SeatLists) (l : List (Seat (Running D V))) → AreOfKind rules make c k roles kept l → HasKind c roles kept (put seats l) k
-  pub others : (c : Cluster) (roles : RoleId → State) (kept : List KeptRecord) (seats : SeatLists) (l : List (Seat (Running D V))) (j : Kind)
-      → (j ≡ k → ⊥) → HasKind c roles kept seats j → HasKind c roles kept (put seats l) j
+  pub has : (c : Cluster) (roles : RoleId → State) (kept : List KeptRecord) (seats : SeatLists) → HasKind c roles kept seats k
+      → AreOfKind rules make c k roles kept (of seats)
+  pub have : (c : Cluster) (roles : RoleId → State) (kept : List KeptRecord) (seats : SeatLists) (l : List (Seat (Running D V)))
+      → AreOfKind rules make c k roles kept l → HasKind c roles kept (put seats l) k
+  pub others : (c : Cluster) (roles : RoleId → State) (kept : List KeptRecord) (seats : SeatLists) (l : List (Seat (Running D V)))
+      (j : Kind) → (j ≡ k → ⊥) → HasKind c roles kept seats j → HasKind c roles kept (put seats l) j
   pub get : State → Option V
   pub got : (o : Option V) → get (state_of make o) ≡ o
-  pub acts : (c : Cluster) (roles : RoleId → State) (kept : List KeptRecord) (act : Act) (who : RoleId) → act_of c roles kept act who k ≡ turned rules make c roles kept act who (get (roles who))
+  pub acts : (c : Cluster) (roles : RoleId → State) (kept : List KeptRecord) (act : Act) (who : RoleId)
+      → act_of c roles kept act who k ≡ turned rules make c roles kept act who (get (roles who))
 
 abbrev pub Others : Kind → Cluster → (RoleId → State) → List KeptRecord → SeatLists → SeatLists → Kind → Type 0
 Others k c roles kept old new j = (j ≡ k → ⊥) → HasKind c roles kept old j → HasKind c roles kept new j
@@ -61,7 +66,8 @@ Others k c roles kept old new j = (j ≡ k → ⊥) → HasKind c roles kept old
 pub own : {A : Type 0} (k : Kind) → (k ≡ k → ⊥) → A
 own k h = absurd (h refl)
 
-pub got_back : {V : Type 0} (make : V → State) (get : State → Option V) → get Down ≡ None → ((v : V) → get (make v) ≡ Some v) → (o : Option V) → get (state_of make o) ≡ o
+pub got_back : {V : Type 0} (make : V → State) (get : State → Option V) → get Down ≡ None → ((v : V) → get (make v) ≡ Some v)
+    → (o : Option V) → get (state_of make o) ≡ o
 got_back make get down up None = down
 got_back make get down up (Some v) = up v
 
@@ -71,7 +77,8 @@ batchers = record {
   put = λ seats l. record seats { batchers = l };
   has = λ c roles kept seats h. h;
   have = λ c roles kept seats l h. h;
-  others = λ c roles kept seats l. by_kind (Others kind.Batcher c roles kept seats (record seats { batchers = l })) (λ h x. x) (own kind.Batcher) (λ h x. x) (λ h x. x) (λ h x. x) (λ h x. x) (λ h x. x) (λ h x. x) (λ h x. x) (λ h x. x);
+  others = λ c roles kept seats l. by_kind (Others kind.Batcher c roles kept seats (record seats { batchers = l })) (λ h x. x)
+      (own kind.Batcher) (λ h x. x) (λ h x. x) (λ h x. x) (λ h x. x) (λ h x. x) (λ h x. x) (λ h x. x) (λ h x. x);
   get = batcher_volatile;
   got = got_back BatcherIn batcher_volatile refl (λ v. refl);
   acts = λ c roles kept act who. refl;
@@ -83,7 +90,8 @@ leaders = record {
   put = λ seats l. record seats { leaders = l };
   has = λ c roles kept seats h. h;
   have = λ c roles kept seats l h. h;
-  others = λ c roles kept seats l. by_kind (Others kind.Leader c roles kept seats (record seats { leaders = l })) (λ h x. x) (λ h x. x) (own kind.Leader) (λ h x. x) (λ h x. x) (λ h x. x) (λ h x. x) (λ h x. x) (λ h x. x) (λ h x. x);
+  others = λ c roles kept seats l. by_kind (Others kind.Leader c roles kept seats (record seats { leaders = l })) (λ h x. x) (λ h x. x)
+      (own kind.Leader) (λ h x. x) (λ h x. x) (λ h x. x) (λ h x. x) (λ h x. x) (λ h x. x) (λ h x. x);
   get = leader_volatile;
   got = got_back LeaderIn leader_volatile refl (λ v. refl);
   acts = λ c roles kept act who. refl;
@@ -95,7 +103,8 @@ proxies = record {
   put = λ seats l. record seats { proxies = l };
   has = λ c roles kept seats h. h;
   have = λ c roles kept seats l h. h;
-  others = λ c roles kept seats l. by_kind (Others kind.Proxy c roles kept seats (record seats { proxies = l })) (λ h x. x) (λ h x. x) (λ h x. x) (own kind.Proxy) (λ h x. x) (λ h x. x) (λ h x. x) (λ h x. x) (λ h x. x) (λ h x. x);
+  others = λ c roles kept seats l. by_kind (Others kind.Proxy c roles kept seats (record seats { proxies = l })) (λ h x. x) (λ h x. x)
+      (λ h x. x) (own kind.Proxy) (λ h x. x) (λ h x. x) (λ h x. x) (λ h x. x) (λ h x. x) (λ h x. x);
   get = proxy_volatile;
   got = got_back ProxyIn proxy_volatile refl (λ v. refl);
   acts = λ c roles kept act who. refl;
@@ -107,7 +116,8 @@ acceptors = record {
   put = λ seats l. record seats { acceptors = l };
   has = λ c roles kept seats h. h;
   have = λ c roles kept seats l h. h;
-  others = λ c roles kept seats l. by_kind (Others kind.Acceptor c roles kept seats (record seats { acceptors = l })) (λ h x. x) (λ h x. x) (λ h x. x) (λ h x. x) (own kind.Acceptor) (λ h x. x) (λ h x. x) (λ h x. x) (λ h x. x) (λ h x. x);
+  others = λ c roles kept seats l. by_kind (Others kind.Acceptor c roles kept seats (record seats { acceptors = l })) (λ h x. x) (λ h x. x)
+      (λ h x. x) (λ h x. x) (own kind.Acceptor) (λ h x. x) (λ h x. x) (λ h x. x) (λ h x. x) (λ h x. x);
   get = plain_volatile;
   got = got_back plain plain_volatile refl (λ v. refl);
   acts = λ c roles kept act who. refl;
@@ -119,7 +129,8 @@ matchmakers = record {
   put = λ seats l. record seats { matchmakers = l };
   has = λ c roles kept seats h. h;
   have = λ c roles kept seats l h. h;
-  others = λ c roles kept seats l. by_kind (Others kind.Matchmaker c roles kept seats (record seats { matchmakers = l })) (λ h x. x) (λ h x. x) (λ h x. x) (λ h x. x) (λ h x. x) (own kind.Matchmaker) (λ h x. x) (λ h x. x) (λ h x. x) (λ h x. x);
+  others = λ c roles kept seats l. by_kind (Others kind.Matchmaker c roles kept seats (record seats { matchmakers = l })) (λ h x. x)
+      (λ h x. x) (λ h x. x) (λ h x. x) (λ h x. x) (own kind.Matchmaker) (λ h x. x) (λ h x. x) (λ h x. x) (λ h x. x);
   get = plain_volatile;
   got = got_back plain plain_volatile refl (λ v. refl);
   acts = λ c roles kept act who. refl;
@@ -131,7 +142,8 @@ replicas = record {
   put = λ seats l. record seats { replicas = l };
   has = λ c roles kept seats h. h;
   have = λ c roles kept seats l h. h;
-  others = λ c roles kept seats l. by_kind (Others kind.Replica c roles kept seats (record seats { replicas = l })) (λ h x. x) (λ h x. x) (λ h x. x) (λ h x. x) (λ h x. x) (λ h x. x) (own kind.Replica) (λ h x. x) (λ h x. x) (λ h x. x);
+  others = λ c roles kept seats l. by_kind (Others kind.Replica c roles kept seats (record seats { replicas = l })) (λ h x. x) (λ h x. x)
+      (λ h x. x) (λ h x. x) (λ h x. x) (λ h x. x) (own kind.Replica) (λ h x. x) (λ h x. x) (λ h x. x);
   get = replica_volatile;
   got = got_back ReplicaIn replica_volatile refl (λ v. refl);
   acts = λ c roles kept act who. refl;
@@ -143,7 +155,8 @@ unbatchers = record {
   put = λ seats l. record seats { unbatchers = l };
   has = λ c roles kept seats h. h;
   have = λ c roles kept seats l h. h;
-  others = λ c roles kept seats l. by_kind (Others kind.Unbatcher c roles kept seats (record seats { unbatchers = l })) (λ h x. x) (λ h x. x) (λ h x. x) (λ h x. x) (λ h x. x) (λ h x. x) (λ h x. x) (own kind.Unbatcher) (λ h x. x) (λ h x. x);
+  others = λ c roles kept seats l. by_kind (Others kind.Unbatcher c roles kept seats (record seats { unbatchers = l })) (λ h x. x)
+      (λ h x. x) (λ h x. x) (λ h x. x) (λ h x. x) (λ h x. x) (λ h x. x) (own kind.Unbatcher) (λ h x. x) (λ h x. x);
   get = plain_volatile;
   got = got_back plain plain_volatile refl (λ v. refl);
   acts = λ c roles kept act who. refl;
@@ -155,7 +168,8 @@ readers = record {
   put = λ seats l. record seats { readers = l };
   has = λ c roles kept seats h. h;
   have = λ c roles kept seats l h. h;
-  others = λ c roles kept seats l. by_kind (Others kind.Reader c roles kept seats (record seats { readers = l })) (λ h x. x) (λ h x. x) (λ h x. x) (λ h x. x) (λ h x. x) (λ h x. x) (λ h x. x) (λ h x. x) (own kind.Reader) (λ h x. x);
+  others = λ c roles kept seats l. by_kind (Others kind.Reader c roles kept seats (record seats { readers = l })) (λ h x. x) (λ h x. x)
+      (λ h x. x) (λ h x. x) (λ h x. x) (λ h x. x) (λ h x. x) (λ h x. x) (own kind.Reader) (λ h x. x);
   get = reader_volatile;
   got = got_back ReaderIn reader_volatile refl (λ v. refl);
   acts = λ c roles kept act who. refl;
@@ -167,7 +181,8 @@ replacers = record {
   put = λ seats l. record seats { replacers = l };
   has = λ c roles kept seats h. h;
   have = λ c roles kept seats l h. h;
-  others = λ c roles kept seats l. by_kind (Others kind.Replacer c roles kept seats (record seats { replacers = l })) (λ h x. x) (λ h x. x) (λ h x. x) (λ h x. x) (λ h x. x) (λ h x. x) (λ h x. x) (λ h x. x) (λ h x. x) (own kind.Replacer);
+  others = λ c roles kept seats l. by_kind (Others kind.Replacer c roles kept seats (record seats { replacers = l })) (λ h x. x) (λ h x. x)
+      (λ h x. x) (λ h x. x) (λ h x. x) (λ h x. x) (λ h x. x) (λ h x. x) (λ h x. x) (own kind.Replacer);
   get = replacer_volatile;
   got = got_back ReplacerIn replacer_volatile refl (λ v. refl);
   acts = λ c roles kept act who. refl;

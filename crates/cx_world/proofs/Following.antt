@@ -1,5 +1,6 @@
 -- The values of a replica's changes, one change after another.
-use Rattle.std.proofs.Common.{◌≡◌, ◌<◌, ◌≤◌, ◌+◌, ℕ, zero, suc, List, [], ◌∷◌, ◌++◌, Some, drop, get_or, length, slice_get, ap, sym, refl, ◌∙◌, append_assoc, arith}
+use Rattle.std.proofs.Common.{◌≡◌, ◌<◌, ◌≤◌, ◌+◌, ℕ, zero, suc, List, [], ◌∷◌, ◌++◌, Some, drop, get_or, length, slice_get, ap, sym, refl}
+use Rattle.std.proofs.Common.{◌∙◌, append_assoc, arith}
 use Rattle.std.proofs.lemmas.List.{drop_more, length-append}
 use Rattle.cx_base.specs.Fold.{command_list, commands_of, fold, map_behind}
 use Rattle.cx_base.specs.Role.{role}
@@ -17,22 +18,26 @@ use Rattle.cx_world.specs.Folded.{values_by, values_kept}
 -- the commands of values after others
 pub commands_both : (vs more : List Value) → command_list (vs ++ more) ≡ command_list vs ++ command_list more
 commands_both [] more = refl
-commands_both (v ∷ vs) more = ap (λ l. commands_of v ++ l) (commands_both vs more) ∙ sym (append_assoc (commands_of v) (command_list vs) (command_list more))
+commands_both (v ∷ vs) more =
+    ap (λ l. commands_of v ++ l) (commands_both vs more) ∙ sym (append_assoc (commands_of v) (command_list vs) (command_list more))
 
 -- the map after values and then others
-pub map_both : (before : List Command) (map : List Pair) (vs more : List Value)
-    → map_behind before map (command_list (vs ++ more)) ≡ map_behind (before ++ command_list vs) (map_behind before map (command_list vs)) (command_list more)
+pub map_both : (before : List Command) (map : List Pair) (vs more : List Value) → map_behind before map (command_list (vs ++ more))
+    ≡ map_behind (before ++ command_list vs) (map_behind before map (command_list vs)) (command_list more)
 map_both before map vs more = rw (commands_both vs more) (behind_both before map (command_list vs) (command_list more))
 
 -- one value more is executed
-pub value_next : (values : List Value) (i : ℕ) (v : Value) (before new_before : List Command) (map new_map : List Pair) (commands : List Command) (all : List Pair) → i < length values
+pub value_next : (values : List Value) (i : ℕ) (v : Value) (before new_before : List Command) (map new_map : List Pair)
+    (commands : List Command) (all : List Pair) → i < length values
     → v ≡ get_or values i v → new_map ≡ map_behind before map (commands_of v) → new_before ≡ before ++ commands_of v
     → before ++ command_list (drop i values) ≡ commands → map_behind before map (command_list (drop i values)) ≡ all
-    → (new_before ++ command_list (drop (i + 1) values) ≡ commands) × (map_behind new_before new_map (command_list (drop (i + 1) values)) ≡ all)
+    → (new_before ++ command_list (drop (i + 1) values) ≡ commands)
+    × (map_behind new_before new_map (command_list (drop (i + 1) values)) ≡ all)
 value_next values i v before new_before map new_map commands all there is leaves begins list so_far =
     let rest = drop (i + 1) values in
     let next : drop i values ≡ v ∷ rest = drop_more values i v there ∙ ap (λ x. x ∷ rest) (sym is) in
-    let told : before ++ commands_of v ++ command_list rest ≡ commands = append_assoc before (commands_of v) (command_list rest) ∙ (rw next at list) in
+    let told : before ++ commands_of v ++ command_list rest ≡ commands =
+    append_assoc before (commands_of v) (command_list rest) ∙ (rw next at list) in
     let left : map_behind (before ++ commands_of v) (map_behind before map (commands_of v)) (command_list rest) ≡ all =
     sym (behind_both before map (commands_of v) (command_list rest)) ∙ (rw next at so_far) in
     rw (begins, leaves) (told, left)
@@ -52,16 +57,20 @@ pub record IsExecuted (me : RoleId) (history : List KeptRecord) (n held : ℕ) (
   pub held_is : held + length (values_kept me (drop n history)) ≡ length (values_kept me history)
   pub map_is : map_behind before map (command_list (values_kept me (drop n history))) ≡ fold (values_kept me history)
 
-pub executed_next : (me : RoleId) (history : List KeptRecord) (n : ℕ) (one : KeptRecord) (held new_held : ℕ) (before new_before : List Command) (map new_map : List Pair)
+pub executed_next : (me : RoleId) (history : List KeptRecord) (n : ℕ) (one : KeptRecord) (held new_held : ℕ)
+    (before new_before : List Command) (map new_map : List Pair)
     → slice_get history n ≡ Some one → new_held ≡ held + length (values_by me one) → new_before ≡ before ++ command_list (values_by me one)
-    → new_map ≡ map_behind before map (command_list (values_by me one)) → IsExecuted me history n held before map → IsExecuted me history (n + 1) new_held new_before new_map
+    → new_map ≡ map_behind before map (command_list (values_by me one)) → IsExecuted me history n held before map
+    → IsExecuted me history (n + 1) new_held new_before new_map
 executed_next me history n one held new_held before new_before map new_map at holds begins leaves so_far =
     let rest = values_kept me (drop (n + 1) history) in
     let next = values_next me history n one at in
-    let count : length (values_kept me (drop n history)) ≡ length (values_by me one) + length rest = ap (λ (l : List Value). length l) next ∙ length-append (values_by me one) rest in
+    let count : length (values_kept me (drop n history)) ≡ length (values_by me one) + length rest =
+    ap (λ (l : List Value). length l) next ∙ length-append (values_by me one) rest in
     record {
       held_is = omega (arith, holds, count, so_far.held_is);
-      map_is = rw (begins, leaves) (sym (map_both before map (values_by me one) rest) ∙ ap (λ (l : List Value). map_behind before map (command_list l)) (sym next) ∙ so_far.map_is);
+      map_is = rw (begins, leaves) (sym (map_both before map (values_by me one) rest)
+          ∙ ap (λ (l : List Value). map_behind before map (command_list l)) (sym next) ∙ so_far.map_is);
     }
 
 drop_end : (history : List KeptRecord) (n : ℕ) → length history ≤ n → drop n history ≡ []

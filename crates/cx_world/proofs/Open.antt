@@ -1,5 +1,6 @@
 -- Seats that are opened without records.
-use Rattle.std.proofs.Common.{◌≡◌, ℕ, zero, suc, true, false, List, [], ◌∷◌, ◌++◌, length, Some, ap, sym, ◌∙◌, subst, refl, inl, inr, ◌⊎◌, arith}
+use Rattle.std.proofs.Common.{◌≡◌, ℕ, zero, suc, true, false, List, [], ◌∷◌, ◌++◌, length, Some, ap, sym, ◌∙◌, subst, refl, inl, inr, ◌⊎◌}
+use Rattle.std.proofs.Common.{arith}
 use Rattle.std.specs.Prelude.{nat_lt, slice_get}
 use Rattle.std.proofs.lemmas.Bool.Decides.{nat_tests}
 use Rattle.std.proofs.lemmas.Option.{same_Some, slice_get_cases}
@@ -16,7 +17,8 @@ use Rattle.cx_model.specs.World.{start}
 use Rattle.cx_world.specs.Seat.{Seat, AreJustOpened, AreSeats}
 use Rattle.cx_world.specs.World.{AreOfKind, state_at, volatile_in}
 
-get_last : {X : Type 0} (xs : List X) (x y : X) (j : ℕ) → slice_get (xs ++ x ∷ []) j ≡ Some y → (slice_get xs j ≡ Some y) ⊎ ((j ≡ length xs) × (x ≡ y))
+get_last : {X : Type 0} (xs : List X) (x y : X) (j : ℕ) → slice_get (xs ++ x ∷ []) j ≡ Some y
+    → (slice_get xs j ≡ Some y) ⊎ ((j ≡ length xs) × (x ≡ y))
 get_last [] x y zero e = inr (refl, same_Some x y e)
 get_last [] x y (suc j) e = cc
 get_last (z ∷ xs) x y zero e = inl e
@@ -26,14 +28,15 @@ get_last (z ∷ xs) x y (suc j) e = elim (get_last xs x y j e) [
 ]
 
 -- what holds of each, at its place, and of one more
-pub one_more : {X : Type 0} (P : ℕ → X → Type 0) (xs : List X) (x : X) (i : ℕ) → ((j : ℕ) (y : X) → slice_get xs j ≡ Some y → P j y) → length xs ≡ i → P i x
-    → (j : ℕ) (y : X) → slice_get (xs ++ x ∷ []) j ≡ Some y → P j y
+pub one_more : {X : Type 0} (P : ℕ → X → Type 0) (xs : List X) (x : X) (i : ℕ) → ((j : ℕ) (y : X) → slice_get xs j ≡ Some y → P j y)
+    → length xs ≡ i → P i x → (j : ℕ) (y : X) → slice_get (xs ++ x ∷ []) j ≡ Some y → P j y
 one_more P xs x i are size is j y e = elim (get_last xs x y j e) [
   | inl p ↦ are j y p
   | inr p ↦ subst (λ n. P n y) (sym (p.0 ∙ size)) (subst (λ z. P i z) p.1 is)
 ]
 
-module _ {D V : Type 0} (rules : Rules D V) (make : V → State) (c : Cluster) (k : Kind) (seats : List (Seat (Running D V))) (fresh : fresh_state c k ≡ make (rules.fresh c))
+module _ {D V : Type 0} (rules : Rules D V) (make : V → State) (c : Cluster) (k : Kind) (seats : List (Seat (Running D V)))
+    (fresh : fresh_state c k ≡ make (rules.fresh c))
     (count : length seats ≡ count_of c k) (opened : AreJustOpened rules (λ s. s) c seats) (lists : AreSeats rules c k [] seats) where
   state : (i : ℕ) → (start c).roles (role k i) ≡ state_at make seats i
   state i = elim ((slice_get_cases seats i).1) [

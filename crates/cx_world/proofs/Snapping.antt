@@ -34,9 +34,10 @@ abbrev pub SaysFirst : {D V : Type 0} → Rules D V → Type 0
 SaysFirst {D} rules = (d : D) (n : ℕ) → first_slot_of (rules.renewed d n) ≡ n
 
 -- of a seat whose role runs
-module _ {S D V : Type 0} (rules : Rules D V) (state : S → Running D V) (c : Cluster) (me : RoleId) (store : LastState) (role : Option S) (runs : Bool)
-    (sits : Sits rules state c me store role runs) (up : runs ≡ true) (s : S) (is : role ≡ Some s) where
-  pub snapped : (o : Option ℕ) → IsOwn rules (state s) o → (w : Why) (old new : LastState) (after : S) (sent : List Letter) → list_kept old ≡ list_kept store
+module _ {S D V : Type 0} (rules : Rules D V) (state : S → Running D V) (c : Cluster) (me : RoleId) (store : LastState) (role : Option S)
+    (runs : Bool) (sits : Sits rules state c me store role runs) (up : runs ≡ true) (s : S) (is : role ≡ Some s) where
+  pub snapped : (o : Option ℕ) → IsOwn rules (state s) o → (w : Why) (old new : LastState) (after : S) (sent : List Letter)
+      → list_kept old ≡ list_kept store
       → Snaps last_renew_gives rules (state s) o w old new (state after) sent → Sits rules state c me new (Some after) runs
   snapped None own w old new after sent same step =
       let list : list_kept new ≡ list_kept store = ap list_kept step.list ∙ same in
@@ -54,11 +55,11 @@ module _ {S D V : Type 0} (rules : Rules D V) (state : S → Running D V) (c : C
       let there = here rules state c me store role runs sits up s is in
       on rules state c me store role runs sits up s is after new
       (ap (λ (x : Running D V). x.cluster) step.state ∙ there.cluster) (ap (λ (x : Running D V). x.me) step.state ∙ there.me)
-      (ap (λ (x : Running D V). x.live) step.state ∙ lives rules state c me store role runs sits up s is)
-      (ap rules.whole durable ∙ whole_list rules (state s).cluster (state s).me renewed (own n refl)) (durable ∙ ap (λ l. folded rules l) (sym list))
+      (ap (λ (x : Running D V). x.live) step.state ∙ lives rules state c me store role runs sits up s is) (ap rules.whole durable
+      ∙ whole_list rules (state s).cluster (state s).me renewed (own n refl)) (durable ∙ ap (λ l. folded rules l) (sym list))
 
-  pub snap_fell : (o : Option ℕ) → IsOwn rules (state s) o → (old new : LastState) (after : S) → list_kept old ≡ list_kept store → old.last ≡ None
-      → ((n : ℕ) × (o ≡ Some n) × last_renew_gives old (rules.renewed (state s).durable n) (Err Failed) new)
+  pub snap_fell : (o : Option ℕ) → IsOwn rules (state s) o → (old new : LastState) (after : S) → list_kept old ≡ list_kept store
+      → old.last ≡ None → ((n : ℕ) × (o ≡ Some n) × last_renew_gives old (rules.renewed (state s).durable n) (Err Failed) new)
       → (state after).live ≡ false → KeepsDurable (state s) (state after) → Sits rules state c me new (Some after) false
   snap_fell o own old new after same none fail dead keeps =
       let n = fail.0 in
@@ -68,7 +69,8 @@ module _ {S D V : Type 0} (rules : Rules D V) (state : S → Running D V) (c : C
             stops rules state c me store role runs sits up s is after new keeps dead
             (stays rules state c me store role runs sits up s is after new keeps (torn.list ∙ same) torn.last)
         | inr kept ↦
-            let at : refused rules (state s).cluster (state s).me (list_kept new) ≡ None = ap (λ l. refused rules (state s).cluster (state s).me l) kept.list ∙ own n fail.1 in
+            let at : refused rules (state s).cluster (state s).me (list_kept new) ≡ None =
+            ap (λ l. refused rules (state s).cluster (state s).me l) kept.list ∙ own n fail.1 in
             let at_cluster = subst (λ x. refused rules x (state s).me (list_kept new) ≡ None) (sym keeps.cluster) at in
             let at_role : Opens rules (state after) (list_kept new) (Some (written.Snap (first_slot_of renewed))) =
             subst (λ x. refused rules (state after).cluster x (list_kept new) ≡ None) (sym keeps.me) at_cluster in
@@ -77,8 +79,8 @@ module _ {S D V : Type 0} (rules : Rules D V) (state : S → Running D V) (c : C
       ]
 
   -- a renewal that is out of memory changes nothing
-  pub refused_snap : (old new : LastState) (after : S) (sent : List Letter) → list_kept old ≡ list_kept store → SnapStays last_renew_gives (state s) (state after) old new sent
-      → Sits rules state c me new (Some after) runs
+  pub refused_snap : (old new : LastState) (after : S) (sent : List Letter) → list_kept old ≡ list_kept store
+      → SnapStays last_renew_gives (state s) (state after) old new sent → Sits rules state c me new (Some after) runs
   refused_snap old new after sent same stay =
       let list : list_kept new ≡ list_kept store = elim stay.list [
         | inl all ↦ ap list_kept all ∙ same
@@ -94,8 +96,10 @@ module _ {S D V : Type 0} (rules : Rules D V) (state : S → Running D V) (c : C
 
 -- ---- what a snap comes to at a seat
 
-module _ {S D V : Type 0} (rules : Rules D V) (says : SaysFirst rules) (state : S → Running D V) (seat : Seat S) (s : S) (cut : Cut) (old new : LastState) (k : Option Written)
-    (role : seat.role ≡ Some s) (at_cluster : (state s).cluster ≡ seat.cluster) (at_role : (state s).me ≡ seat.me) (fold : (state s).durable ≡ folded rules seat.records)
+module _ {S D V : Type 0} (rules : Rules D V) (says : SaysFirst rules) (state : S → Running D V) (seat : Seat S) (s : S) (cut : Cut)
+    (old new : LastState) (k : Option Written)
+    (role : seat.role ≡ Some s) (at_cluster : (state s).cluster ≡ seat.cluster) (at_role : (state s).me ≡ seat.me)
+    (fold : (state s).durable ≡ folded rules seat.records)
     (set : old.store.cut ≡ cut) (none : old.last ≡ None) (same : list_kept old ≡ seat.records) (told : k ≡ new.last) where
   turn_is : seat_turn rules state (Snap cut) seat ≡ snap_turn cut (state s).volatile (snap_of rules (state s))
   turn_is = rw (role, at_cluster, at_role, fold) refl
@@ -108,7 +112,8 @@ module _ {S D V : Type 0} (rules : Rules D V) (says : SaysFirst rules) (state : 
   left : (n : ℕ) → new.last ≡ Some (written.Snap (first_slot_of (rules.renewed (state s).durable n))) → k ≡ Some (written.Snap n)
   left n last = told ∙ last ∙ ap (λ x. Some (written.Snap x)) (says (state s).durable n)
 
-  whole_snap : (o : Option ℕ) → (w : Why) (after : S) (sent : List Letter) → Snaps last_renew_gives rules (state s) o w old new (state after) sent
+  whole_snap : (o : Option ℕ) → (w : Why) (after : S) (sent : List Letter)
+      → Snaps last_renew_gives rules (state s) o w old new (state after) sent
       → IsTurned rules state (snap_turn cut (state s).volatile o) seat (record seat { role = Some after; records = list_kept new }) w k sent
   whole_snap None w after sent step =
       let nothing : k ≡ None = told ∙ ap (λ (x : LastState). x.last) step.list ∙ none in
@@ -134,13 +139,18 @@ module _ {S D V : Type 0} (rules : Rules D V) (says : SaysFirst rules) (state : 
         me = refl;
       })
 
-  pub snap_turned : (w : Why) (after : S) (sent : List Letter) → Snaps last_renew_gives rules (state s) (snap_of rules (state s)) w old new (state after) sent
-      → IsTurned rules state (seat_turn rules state (Snap cut) seat) seat (record seat { role = Some after; records = list_kept new }) w k sent
+  pub snap_turned : (w : Why) (after : S) (sent : List Letter)
+      → Snaps last_renew_gives rules (state s) (snap_of rules (state s)) w old new (state after) sent
+      → IsTurned rules state (seat_turn rules state (Snap cut) seat) seat
+      (record seat { role = Some after; records = list_kept new }) w k sent
   snap_turned w after sent step =
-      subst (λ t. IsTurned rules state t seat (record seat { role = Some after; records = list_kept new }) w k sent) (sym turn_is) (whole_snap (snap_of rules (state s)) w after sent step)
+      subst (λ t. IsTurned rules state t seat (record seat { role = Some after; records = list_kept new }) w k sent) (sym turn_is)
+      (whole_snap (snap_of rules (state s)) w after sent step)
 
-  pub snap_failed : ((n : ℕ) × (snap_of rules (state s) ≡ Some n) × last_renew_gives old (rules.renewed (state s).durable n) (Err Failed) new)
-      → IsTurned rules state (seat_turn rules state (Snap cut) seat) seat (record seat { role = None; records = list_kept new }) (why_of_cut cut) k []
+  pub snap_failed : ((n : ℕ) × (snap_of rules (state s) ≡ Some n)
+      × last_renew_gives old (rules.renewed (state s).durable n) (Err Failed) new)
+      → IsTurned rules state (seat_turn rules state (Snap cut) seat) seat (record seat { role = None; records = list_kept new })
+      (why_of_cut cut) k []
   snap_failed fail =
       let n = fail.0 in
       let v = (state s).volatile in
@@ -148,10 +158,11 @@ module _ {S D V : Type 0} (rules : Rules D V) (says : SaysFirst rules) (state : 
       elim (cut_either old new (Renewal (rules.renewed (state s).durable n)) none fail.2) [
         | inl torn ↦
             let is : cut ≡ Torn = sym set ∙ torn.cut in
-            cut_turned rules state (seat_turn rules state (Snap cut) seat) seat cut None k (list_kept new)
-            (turn ∙ ap (λ x. snap_turn x v (Some n)) is ∙ ap (λ x. cut_turn (why_of_cut x) None) (sym is)) (told ∙ torn.last) (torn.list ∙ same)
+            cut_turned rules state (seat_turn rules state (Snap cut) seat) seat cut None k (list_kept new) (turn
+            ∙ ap (λ x. snap_turn x v (Some n)) is ∙ ap (λ x. cut_turn (why_of_cut x) None) (sym is)) (told ∙ torn.last) (torn.list ∙ same)
         | inr kept ↦
             let is : cut ≡ Kept = sym set ∙ kept.cut in
             cut_turned rules state (seat_turn rules state (Snap cut) seat) seat cut (Some (written.Snap n)) k (list_kept new)
-            (turn ∙ ap (λ x. snap_turn x v (Some n)) is ∙ ap (λ x. cut_turn (why_of_cut x) (Some (written.Snap n))) (sym is)) (left n kept.last) (grown n kept.list)
+            (turn ∙ ap (λ x. snap_turn x v (Some n)) is ∙ ap (λ x. cut_turn (why_of_cut x) (Some (written.Snap n))) (sym is))
+            (left n kept.last) (grown n kept.list)
       ]

@@ -1,5 +1,6 @@
 -- A seat's role is as the store of its keeper leaves it: after a whole step and after a failed one.
-use Rattle.std.proofs.Common.{◌≡◌, ◌∙◌, ◌⊎◌, ℕ, Bool, true, false, List, [], ◌∷◌, ◌++◌, Option, None, Some, Err, ap, sym, subst, refl, inl, inr}
+use Rattle.std.proofs.Common.{◌≡◌, ◌∙◌, ◌⊎◌, ℕ, Bool, true, false, List, [], ◌∷◌, ◌++◌, Option, None, Some, Err, ap, sym, subst, refl, inl}
+use Rattle.std.proofs.Common.{inr}
 use Rattle.std.specs.Option.{option_map}
 use Rattle.std.specs.Prelude.{if◌then◌else◌, ◌+◌}
 use Rattle.std.proofs.lemmas.Option.{same_Some}
@@ -38,7 +39,8 @@ goes_on true i rest none = none
 goes_on false i rest none = cc
 
 module _ {D V : Type 0} (rules : Rules D V) where
-  whole_from : (c : Cluster) (me : RoleId) (d : D) (i : ℕ) (rs : List Record) → refused_from rules c me d i rs ≡ None → rules.whole (folded_from rules d rs) ≡ true
+  whole_from : (c : Cluster) (me : RoleId) (d : D) (i : ℕ) (rs : List Record) → refused_from rules c me d i rs ≡ None
+      → rules.whole (folded_from rules d rs) ≡ true
   whole_from c me d i [] none = is_whole (rules.whole d) i none
   whole_from c me d i (r ∷ rs) none = whole_from c me (rules.after d r) (i + 1) rs (goes_on (rules.fits c me d r) i _ none)
 
@@ -51,26 +53,31 @@ module _ {D V : Type 0} (rules : Rules D V) where
   whole_store s rs (Some (written.Record r)) h = ap rules.whole (sym h.1) ∙ h.0.1
   whole_store s rs (Some (written.Snap first)) h = whole_list s.cluster s.me rs h
 
-  whole_kept : (c : Cluster) (me : RoleId) (d : D) (r : Option Record) → rules.whole d ≡ true → IsFit rules c me d r → rules.whole (with_kept rules d r) ≡ true
+  whole_kept : (c : Cluster) (me : RoleId) (d : D) (r : Option Record) → rules.whole d ≡ true → IsFit rules c me d r
+      → rules.whole (with_kept rules d r) ≡ true
   whole_kept c me d None whole fit = whole
   whole_kept c me d (Some r) whole fit = fit.1
 
   -- the list of a store with a row's record more leaves the durable part with it
-  folded_with : (rs : List Record) (r : Option Record) → folded rules (list_with rules rs (option_map written.Record r)) ≡ with_kept rules (folded rules rs) r
+  folded_with : (rs : List Record) (r : Option Record)
+      → folded rules (list_with rules rs (option_map written.Record r)) ≡ with_kept rules (folded rules rs) r
   folded_with rs None = refl
   folded_with rs (Some r) = folded_kept rules rs (Some r)
 
   -- ---- whole appends
 
-  pub list_kept_with : (r : Option Record) (old new : LastState) → Keeps last_append_gives r old new → list_kept new ≡ list_with rules (list_kept old) (option_map written.Record r)
+  pub list_kept_with : (r : Option Record) (old new : LastState) → Keeps last_append_gives r old new
+      → list_kept new ≡ list_with rules (list_kept old) (option_map written.Record r)
   list_kept_with None old new h = ap list_kept h
   list_kept_with (Some r) old new h = ap kept_of h.0.1
 
-last_with : (r : Option Record) (old new : LastState) → old.last ≡ None → Keeps last_append_gives r old new → new.last ≡ option_map written.Record r
+last_with : (r : Option Record) (old new : LastState) → old.last ≡ None → Keeps last_append_gives r old new
+    → new.last ≡ option_map written.Record r
 last_with None old new none h = ap (λ (k : LastState). k.last) h ∙ none
 last_with (Some r) old new none h = h.1
 
-whole_append : {V : Type 0} (o : Outcome V) (r : Option Record) (cut : Cut) (old new : LastState) → old.store.cut ≡ cut → Keeps last_append_gives r old new → turn_with cut r o ≡ whole_turn o
+whole_append : {V : Type 0} (o : Outcome V) (r : Option Record) (cut : Cut) (old new : LastState) → old.store.cut ≡ cut
+    → Keeps last_append_gives r old new → turn_with cut r o ≡ whole_turn o
 whole_append o None cut old new set h = refl
 whole_append o (Some r) cut old new set h = ap (λ x. turn_with x (Some r) o) (sym set ∙ h.0.0)
 
@@ -88,18 +95,22 @@ pub record IsKept (old : LastState) (change : KeeperChange) (new : LastState) : 
   pub list : list_kept new ≡ list_after (list_kept old) change
   pub last : new.last ≡ Some (written_by change)
 
-cut_at_either : (cut : Cut) (old new : LastState) (change : KeeperChange) → old.store.cut ≡ cut → old.last ≡ None → is_left_by_cut cut old.store (list_after old.store.kept change) new.store
+cut_at_either : (cut : Cut) (old new : LastState) (change : KeeperChange) → old.store.cut ≡ cut → old.last ≡ None
+    → is_left_by_cut cut old.store (list_after old.store.kept change) new.store
     → new.last ≡ last_cut cut old.last change → IsTorn old new ⊎ IsKept old change new
 cut_at_either Whole old new change set none h last = absurd h
 cut_at_either Torn old new change set none h last = inl (record { cut = set; list = ap kept_of h; last = last ∙ none })
 cut_at_either Kept old new change set none h last = inr (record { cut = set; list = ap kept_of h; last = last })
 
-pub cut_either : (old new : LastState) (change : KeeperChange) → old.last ≡ None → last_gives old change (Err Failed) new → IsTorn old new ⊎ IsKept old change new
+pub cut_either : (old new : LastState) (change : KeeperChange) → old.last ≡ None → last_gives old change (Err Failed) new
+    → IsTorn old new ⊎ IsKept old change new
 cut_either old new change none h = cut_at_either old.store.cut old new change refl none h.0 h.1
 
 -- what a cut change comes to at a seat
-pub cut_turned : {S D V : Type 0} (rules : Rules D V) (state : S → Running D V) (t : Turn V) (seat : Seat S) (cut : Cut) (left k : Option Written) (list : List Record)
-    → t ≡ cut_turn (why_of_cut cut) left → k ≡ left → list ≡ list_with rules seat.records left → IsTurned rules state t seat (record seat { role = None; records = list }) (why_of_cut cut) k []
+pub cut_turned : {S D V : Type 0} (rules : Rules D V) (state : S → Running D V) (t : Turn V) (seat : Seat S) (cut : Cut)
+    (left k : Option Written) (list : List Record)
+    → t ≡ cut_turn (why_of_cut cut) left → k ≡ left → list ≡ list_with rules seat.records left
+    → IsTurned rules state t seat (record seat { role = None; records = list }) (why_of_cut cut) k []
 cut_turned rules state t seat cut left k list is same grown =
     subst (λ x. IsTurned rules state x seat (record seat { role = None; records = list }) (why_of_cut cut) k []) (sym is) (record {
       why = refl;
@@ -118,8 +129,8 @@ pub seen : {S : Type 0} (runs : Bool) (role : Option S) (s : S) → runs ≡ tru
 seen runs role s up is = rw up is
 
 -- of a seat whose role runs
-module _ {S D V : Type 0} (rules : Rules D V) (state : S → Running D V) (c : Cluster) (me : RoleId) (store : LastState) (role : Option S) (runs : Bool)
-    (sits : Sits rules state c me store role runs) (up : runs ≡ true) (s : S) (is : role ≡ Some s) where
+module _ {S D V : Type 0} (rules : Rules D V) (state : S → Running D V) (c : Cluster) (me : RoleId) (store : LastState) (role : Option S)
+    (runs : Bool) (sits : Sits rules state c me store role runs) (up : runs ≡ true) (s : S) (is : role ≡ Some s) where
   pub here : StandsByStore rules c me store (state s)
   here = sits.stands s is
 
@@ -132,7 +143,8 @@ module _ {S D V : Type 0} (rules : Rules D V) (state : S → Running D V) (c : C
 
   -- the role runs on
   pub on : (after : S) (new : LastState) → (state after).cluster ≡ c → (state after).me ≡ me → (state after).live ≡ true
-      → rules.whole (state after).durable ≡ true → (state after).durable ≡ folded rules (list_kept new) → Sits rules state c me new (Some after) runs
+      → rules.whole (state after).durable ≡ true → (state after).durable ≡ folded rules (list_kept new)
+      → Sits rules state c me new (Some after) runs
   on after new at_cluster at_role live whole fold =
       let there : StandsByStore rules c me new (state after) = record {
         cluster = at_cluster;
@@ -146,8 +158,8 @@ module _ {S D V : Type 0} (rules : Rules D V) (state : S → Running D V) (c : C
       }
 
   pub stepped : (i : Input) (w : Why) (old new : LastState) (after : S) (sent : List Letter) → list_kept old ≡ list_kept store
-      → Steps last_append_gives rules (state s) (outcome_of rules (state s) i) w old new (state after) sent → MayKeep rules (state s) (outcome_of rules (state s) i)
-      → Sits rules state c me new (Some after) runs
+      → Steps last_append_gives rules (state s) (outcome_of rules (state s) i) w old new (state after) sent
+      → MayKeep rules (state s) (outcome_of rules (state s) i) → Sits rules state c me new (Some after) runs
   stepped i w old new after sent same step fit =
       let o = outcome_of rules (state s) i in
       let list : list_kept new ≡ list_with rules (list_kept store) (option_map written.Record o.kept) =
@@ -160,50 +172,63 @@ module _ {S D V : Type 0} (rules : Rules D V) (state : S → Running D V) (c : C
       (ap rules.whole durable ∙ whole_kept rules (state s).cluster (state s).me (state s).durable o.kept knows.0 fit) (durable ∙ sym fold)
 
   -- the role has stopped, and may not know the last change
-  pub stops : (after : S) (new : LastState) → KeepsDurable (state s) (state after) → (state after).live ≡ false → Opens rules (state after) (list_kept new) new.last
-      → Sits rules state c me new (Some after) false
+  pub stops : (after : S) (new : LastState) → KeepsDurable (state s) (state after) → (state after).live ≡ false
+      → Opens rules (state after) (list_kept new) new.last → Sits rules state c me new (Some after) false
   stops after new keeps dead opens =
       let there : StandsByStore rules c me new (state after) = record {
         cluster = keeps.cluster ∙ here.cluster;
         me = keeps.me ∙ here.me;
         opens = subst (λ b. Opens rules (state after) (list_kept new) (unknown b new.last)) (sym dead) opens;
       } in
-      record { place = sits.place; stands = λ x e. subst (λ (y : S). StandsByStore rules c me new (state y)) (same_Some after x e) there; up = λ e. cc }
+      record {
+        place = sits.place;
+        stands = λ x e. subst (λ (y : S). StandsByStore rules c me new (state y)) (same_Some after x e) there;
+        up = λ e. cc;
+      }
 
   -- a change was lost: the role is as its list leaves it
-  pub stays : (after : S) (new : LastState) → KeepsDurable (state s) (state after) → list_kept new ≡ list_kept store → new.last ≡ None → Opens rules (state after) (list_kept new) new.last
+  pub stays : (after : S) (new : LastState) → KeepsDurable (state s) (state after) → list_kept new ≡ list_kept store → new.last ≡ None
+      → Opens rules (state after) (list_kept new) new.last
   stays after new keeps list last =
       let fold : (state after).durable ≡ folded rules (list_kept new) = keeps.durable ∙ knows.1 ∙ ap (λ l. folded rules l) (sym list) in
       subst (λ o. Opens rules (state after) (list_kept new) o) (sym last) (ap rules.whole keeps.durable ∙ knows.0, fold)
 
   pub fell : (i : Input) (old new : LastState) (after : S) → list_kept old ≡ list_kept store → old.last ≡ None
       → ((r : Record) × ((outcome_of rules (state s) i).kept ≡ Some r) × last_append_gives old r (Err Failed) new)
-      → (state after).live ≡ false → KeepsDurable (state s) (state after) → MayKeep rules (state s) (outcome_of rules (state s) i) → Sits rules state c me new (Some after) false
+      → (state after).live ≡ false → KeepsDurable (state s) (state after) → MayKeep rules (state s) (outcome_of rules (state s) i)
+      → Sits rules state c me new (Some after) false
   fell i old new after same none fail dead keeps fit =
       let r = fail.0 in
       let d = (state s).durable in
       elim (cut_either old new (Append r) none fail.2) [
         | inl torn ↦ stops after new keeps dead (stays after new keeps (torn.list ∙ same) torn.last)
         | inr kept ↦
-            let at : IsFit rules (state s).cluster (state s).me d (Some r) = subst (λ o. IsFit rules (state s).cluster (state s).me d o) fail.1 fit in
+            let at : IsFit rules (state s).cluster (state s).me d (Some r) =
+            subst (λ o. IsFit rules (state s).cluster (state s).me d o) fail.1 fit in
             let at_cluster = subst (λ x. IsFit rules x (state s).me d (Some r)) (sym keeps.cluster) at in
             let at_role = subst (λ x. IsFit rules (state after).cluster x d (Some r)) (sym keeps.me) at_cluster in
             let at_state = subst (λ x. IsFit rules (state after).cluster (state after).me x (Some r)) (sym keeps.durable) at_role in
             let fold : rules.after (state after).durable r ≡ folded rules (list_kept new) =
-            ap (λ x. rules.after x r) (keeps.durable ∙ knows.1) ∙ sym (folded_kept rules (list_kept store) (Some r)) ∙ ap (λ l. folded rules l) (sym (kept.list ∙ ap (λ l. l ++ r ∷ []) same)) in
+            ap (λ x. rules.after x r) (keeps.durable ∙ knows.1) ∙ sym (folded_kept rules (list_kept store) (Some r))
+            ∙ ap (λ l. folded rules l) (sym (kept.list ∙ ap (λ l. l ++ r ∷ []) same)) in
             stops after new keeps dead (subst (λ o. Opens rules (state after) (list_kept new) o) (sym kept.last) (at_state, fold))
       ]
 
 -- ---- what a step comes to at a seat
 
-module _ {S D V : Type 0} (rules : Rules D V) (state : S → Running D V) (seat : Seat S) (s : S) (cut : Cut) (old new : LastState) (k : Option Written)
-    (role : seat.role ≡ Some s) (at_cluster : (state s).cluster ≡ seat.cluster) (at_role : (state s).me ≡ seat.me) (fold : (state s).durable ≡ folded rules seat.records)
+module _ {S D V : Type 0} (rules : Rules D V) (state : S → Running D V) (seat : Seat S) (s : S) (cut : Cut) (old new : LastState)
+    (k : Option Written)
+    (role : seat.role ≡ Some s) (at_cluster : (state s).cluster ≡ seat.cluster) (at_role : (state s).me ≡ seat.me)
+    (fold : (state s).durable ≡ folded rules seat.records)
     (set : old.store.cut ≡ cut) (none : old.last ≡ None) (same : list_kept old ≡ seat.records) (told : k ≡ new.last) where
-  turn_is : (i : Input) → seat_turn rules state (Give i cut) seat ≡ turn_with cut ((outcome_of rules (state s) i).kept) (outcome_of rules (state s) i)
+  turn_is : (i : Input)
+      → seat_turn rules state (Give i cut) seat ≡ turn_with cut ((outcome_of rules (state s) i).kept) (outcome_of rules (state s) i)
   turn_is i = rw (role, at_cluster, at_role, fold) refl
 
-  pub whole_turned : (i : Input) (w : Why) (after : S) (sent : List Letter) → Steps last_append_gives rules (state s) (outcome_of rules (state s) i) w old new (state after) sent
-      → IsTurned rules state (seat_turn rules state (Give i cut) seat) seat (record seat { role = Some after; records = list_kept new }) w k sent
+  pub whole_turned : (i : Input) (w : Why) (after : S) (sent : List Letter)
+      → Steps last_append_gives rules (state s) (outcome_of rules (state s) i) w old new (state after) sent
+      → IsTurned rules state (seat_turn rules state (Give i cut) seat) seat
+      (record seat { role = Some after; records = list_kept new }) w k sent
   whole_turned i w after sent step =
       let o = outcome_of rules (state s) i in
       let left : k ≡ option_map written.Record o.kept = told ∙ last_with o.kept old new none step.kept in
@@ -212,14 +237,18 @@ module _ {S D V : Type 0} (rules : Rules D V) (state : S → Running D V) (seat 
         role = ap (λ (x : Running D V). Some x.volatile) step.state;
         kept = left;
         sends = step.sends;
-        records = list_kept_with rules o.kept old new step.kept ∙ ap (λ l. list_with rules l (option_map written.Record o.kept)) same ∙ ap (λ x. list_with rules seat.records x) (sym left);
+        records = list_kept_with rules o.kept old new step.kept ∙ ap (λ l. list_with rules l (option_map written.Record o.kept)) same
+            ∙ ap (λ x. list_with rules seat.records x) (sym left);
         cluster = refl;
         me = refl;
       } in
-      subst (λ t. IsTurned rules state t seat (record seat { role = Some after; records = list_kept new }) w k sent) (sym (turn_is i ∙ whole_append o o.kept cut old new set step.kept)) done
+      subst (λ t. IsTurned rules state t seat (record seat { role = Some after; records = list_kept new }) w k sent)
+      (sym (turn_is i ∙ whole_append o o.kept cut old new set step.kept)) done
 
-  pub failed_turned : (i : Input) → ((r : Record) × ((outcome_of rules (state s) i).kept ≡ Some r) × last_append_gives old r (Err Failed) new)
-      → IsTurned rules state (seat_turn rules state (Give i cut) seat) seat (record seat { role = None; records = list_kept new }) (why_of_cut cut) k []
+  pub failed_turned : (i : Input)
+      → ((r : Record) × ((outcome_of rules (state s) i).kept ≡ Some r) × last_append_gives old r (Err Failed) new)
+      → IsTurned rules state (seat_turn rules state (Give i cut) seat) seat (record seat { role = None; records = list_kept new })
+      (why_of_cut cut) k []
   failed_turned i fail =
       let r = fail.0 in
       let o = outcome_of rules (state s) i in
@@ -227,17 +256,19 @@ module _ {S D V : Type 0} (rules : Rules D V) (state : S → Running D V) (seat 
       elim (cut_either old new (Append r) none fail.2) [
         | inl torn ↦
             let is : cut ≡ Torn = sym set ∙ torn.cut in
-            cut_turned rules state (seat_turn rules state (Give i cut) seat) seat cut None k (list_kept new)
-            (turn ∙ ap (λ x. turn_with x (Some r) o) is ∙ ap (λ x. cut_turn (why_of_cut x) None) (sym is)) (told ∙ torn.last) (torn.list ∙ same)
+            cut_turned rules state (seat_turn rules state (Give i cut) seat) seat cut None k (list_kept new) (turn
+            ∙ ap (λ x. turn_with x (Some r) o) is ∙ ap (λ x. cut_turn (why_of_cut x) None) (sym is)) (told ∙ torn.last) (torn.list ∙ same)
         | inr kept ↦
             let is : cut ≡ Kept = sym set ∙ kept.cut in
             cut_turned rules state (seat_turn rules state (Give i cut) seat) seat cut (Some (written.Record r)) k (list_kept new)
-            (turn ∙ ap (λ x. turn_with x (Some r) o) is ∙ ap (λ x. cut_turn (why_of_cut x) (Some (written.Record r))) (sym is)) (told ∙ kept.last) (kept.list ∙ ap (λ l. l ++ r ∷ []) same)
+            (turn ∙ ap (λ x. turn_with x (Some r) o) is ∙ ap (λ x. cut_turn (why_of_cut x) (Some (written.Record r))) (sym is))
+            (told ∙ kept.last) (kept.list ∙ ap (λ l. l ++ r ∷ []) same)
       ]
 
 -- ---- a role is opened again
 
-module _ {D V : Type 0} (rules : Rules D V) (c : Cluster) (me : RoleId) (store : LastState) (s : Running D V) (stands : StandsByStore rules c me store s) where
+module _ {D V : Type 0} (rules : Rules D V) (c : Cluster) (me : RoleId) (store : LastState) (s : Running D V)
+    (stands : StandsByStore rules c me store s) where
   opens_at : (o : Option Written) → unknown s.live store.last ≡ o → Opens rules s (list_kept store) o
   opens_at o e = subst (λ x. Opens rules s (list_kept store) x) e stands.opens
 
@@ -252,18 +283,21 @@ module _ {D V : Type 0} (rules : Rules D V) (c : Cluster) (me : RoleId) (store :
   one_more r e = let fit = (opens_at (Some (written.Record r)) e).0 in rw (fit.0, fit.1) refl
 
   pub from_list : (first : ℕ) → unknown s.live store.last ≡ Some (written.Snap first) → refused rules c me (list_kept store) ≡ None
-  from_list first e = subst (λ x. refused rules x me (list_kept store) ≡ None) stands.cluster (subst (λ x. refused rules s.cluster x (list_kept store) ≡ None) stands.me (opens_at (Some (written.Snap first)) e))
+  from_list first e = subst (λ x. refused rules x me (list_kept store) ≡ None) stands.cluster
+      (subst (λ x. refused rules s.cluster x (list_kept store) ≡ None) stands.me (opens_at (Some (written.Snap first)) e))
 
   pub reopened_as_it_is : unknown s.live store.last ≡ None → reopened rules s [] ≡ opened rules c me (list_kept store)
   reopened_as_it_is e = rw (stands.cluster, stands.me, (opens_at None e).1) refl
 
-  pub reopened_with : (r : Record) → unknown s.live store.last ≡ Some (written.Record r) → reopened rules s (r ∷ []) ≡ opened rules c me (list_kept store)
+  pub reopened_with : (r : Record) → unknown s.live store.last ≡ Some (written.Record r)
+      → reopened rules s (r ∷ []) ≡ opened rules c me (list_kept store)
   reopened_with r e = rw (stands.cluster, stands.me, (opens_at (Some (written.Record r)) e).1) refl
 
 -- the role runs again
-pub woke : {S D V : Type 0} (rules : Rules D V) (state : S → Running D V) (c : Cluster) (me : RoleId) (store : LastState) (role : Option S) (runs : Bool)
-    → Sits rules state c me store role runs → rules.whole (folded rules (list_kept store)) ≡ true → (s : S) → state s ≡ opened rules c me (list_kept store)
-    → Sits rules state c me store (Some s) true
+pub woke : {S D V : Type 0} (rules : Rules D V) (state : S → Running D V) (c : Cluster) (me : RoleId) (store : LastState) (role : Option S)
+    (runs : Bool)
+    → Sits rules state c me store role runs → rules.whole (folded rules (list_kept store)) ≡ true → (s : S)
+    → state s ≡ opened rules c me (list_kept store) → Sits rules state c me store (Some s) true
 woke rules state c me store role runs sits whole s is =
     let there : StandsByStore rules c me store (state s) = rw is (record { cluster = refl; me = refl; opens = (whole, refl) }) in
     record {

@@ -57,7 +57,8 @@ last_after cut last change (Err NoMemory) = last
 
 -- a change is that of a keeper in memory
 abbrev pub last_gives : LastState → KeeperChange → Result (Unit {0}) KeepFault → LastState → Type 0
-last_gives old change answer new = mem_gives old.store change answer new.store × (new.last ≡ last_after old.store.cut old.last change answer)
+last_gives old change answer new =
+    mem_gives old.store change answer new.store × (new.last ≡ last_after old.store.cut old.last change answer)
 
 abbrev pub last_append_gives : LastState → Record → Result (Unit {0}) KeepFault → LastState → Type 0
 last_append_gives old r answer new = last_gives old (Append r) answer new
@@ -76,14 +77,30 @@ pub record IsLastKeeperState (records : List Record) (last : Option Written) (re
   pub fit : IsTrue (all_changes_fit (option_to_list last))
   pub renewed_fit : IsTrue (all_fit renewed)
 
-pub last_append_is : (old : LastState) (r : Record) (answer : Result (Unit {0}) KeepFault) (new : LastState) → last_append_gives old r answer new
-    → IsAppend tells_nothing list_kept faults_kept old r answer new
+pub last_append_is : (old : LastState) (r : Record) (answer : Result (Unit {0}) KeepFault) (new : LastState)
+    → last_append_gives old r answer new → IsAppend tells_nothing list_kept faults_kept old r answer new
 last_append_is old r answer new h =
     let is = mem_append_is old.store r answer new.store h.0 in
-    record { ok = λ _ e. cc; failed = is.failed; cause = is.cause; no_memory = is.no_memory; tells_same = refl; still = is.still; later = is.later }
+    record {
+      ok = λ _ e. cc;
+      failed = is.failed;
+      cause = is.cause;
+      no_memory = is.no_memory;
+      tells_same = refl;
+      still = is.still;
+      later = is.later;
+    }
 
-pub last_renew_is : (old : LastState) (records : List Record) (answer : Result (Unit {0}) KeepFault) (new : LastState) → last_renew_gives old records answer new
-    → IsKeeperChange tells_nothing list_kept faults_kept old (Renewal records) answer new
+pub last_renew_is : (old : LastState) (records : List Record) (answer : Result (Unit {0}) KeepFault) (new : LastState)
+    → last_renew_gives old records answer new → IsKeeperChange tells_nothing list_kept faults_kept old (Renewal records) answer new
 last_renew_is old records answer new h =
     let is = mem_renew_is old.store records answer new.store h.0 in
-    record { ok = λ _ e. cc; failed = is.failed; cause = is.cause; no_memory = is.no_memory; tells_same = refl; still = is.still; later = is.later }
+    record {
+      ok = λ _ e. cc;
+      failed = is.failed;
+      cause = is.cause;
+      no_memory = is.no_memory;
+      tells_same = refl;
+      still = is.still;
+      later = is.later;
+    }

@@ -59,7 +59,8 @@ Opens rules s rs (Some (written.Record r)) = IsFit rules s.cluster s.me s.durabl
 Opens rules s rs (Some (written.Snap first)) = refused rules s.cluster s.me rs ≡ None
 
 -- a role, running or stopped, as its store leaves it: it may not know the last change, which was cut
-pub record StandsByStore {D V : Type 0} (rules : Rules D V) (c : Cluster) (who : RoleId) (store : LastState) (s : Running D V) : Type 0 where
+pub record StandsByStore {D V : Type 0} (rules : Rules D V) (c : Cluster) (who : RoleId) (store : LastState)
+    (s : Running D V) : Type 0 where
   pub cluster : s.cluster ≡ c
   pub me : s.me ≡ who
   pub opens : Opens rules s (list_kept store) (unknown s.live store.last)
@@ -69,7 +70,8 @@ abbrev pub IsUp : {S D V : Type 0} → (S → Running D V) → Option S → Type
 IsUp {S} state role = (s : S) × (role ≡ Some s) × ((state s).live ≡ true)
 
 -- a seat's role, whether it runs, over its store
-pub record Sits {S D V : Type 0} (rules : Rules D V) (state : S → Running D V) (c : Cluster) (who : RoleId) (store : LastState) (role : Option S) (runs : Bool) : Type 0 where
+pub record Sits {S D V : Type 0} (rules : Rules D V) (state : S → Running D V) (c : Cluster) (who : RoleId) (store : LastState)
+    (role : Option S) (runs : Bool) : Type 0 where
   pub place : IsRoleOfRules rules c who
   pub stands : ForSome role (λ s. StandsByStore rules c who store (state s))
   pub up : runs ≡ true → IsUp state role
@@ -83,7 +85,8 @@ abbrev pub seat_turn : {S D V : Type 0} → Rules D V → (S → Running D V) �
 seat_turn rules state act seat = turn rules seat.cluster seat.me (folded rules seat.records) act (volatile_of state seat.role)
 
 -- what an act did at a seat
-pub record IsTurned {S D V : Type 0} (rules : Rules D V) (state : S → Running D V) (t : Turn V) (old new : Seat S) (w : Why) (r : Option Written) (sent : List Letter) : Type 0 where
+pub record IsTurned {S D V : Type 0} (rules : Rules D V) (state : S → Running D V) (t : Turn V) (old new : Seat S) (w : Why)
+    (r : Option Written) (sent : List Letter) : Type 0 where
   pub why : w ≡ t.why
   pub role : volatile_of state new.role ≡ t.role
   pub kept : r ≡ t.kept
@@ -92,13 +95,15 @@ pub record IsTurned {S D V : Type 0} (rules : Rules D V) (state : S → Running 
   pub cluster : new.cluster ≡ old.cluster
   pub me : new.me ≡ old.me
 
-abbrev pub TurnsFound : {S D V : Type 0} → Rules D V → (S → Running D V) → Act → ℕ → Option (Seat S) → List (Seat S) → List (Seat S) → Why → Option Written → List Letter → Type 0
+abbrev pub TurnsFound : {S D V : Type 0} → Rules D V → (S → Running D V) → Act → ℕ → Option (Seat S) → List (Seat S) → List (Seat S) → Why
+    → Option Written → List Letter → Type 0
 TurnsFound rules state act i None old new w r sent = (new ≡ old) × (w ≡ why.Down) × (r ≡ None) × (sent ≡ [])
-TurnsFound rules state act i (Some seat) old new w r sent =
-    (new ≡ slice_set old i (slice_index_or new i seat)) × IsTurned rules state (seat_turn rules state act seat) seat (slice_index_or new i seat) w r sent
+TurnsFound rules state act i (Some seat) old new w r sent = (new ≡ slice_set old i (slice_index_or new i seat))
+    × IsTurned rules state (seat_turn rules state act seat) seat (slice_index_or new i seat) w r sent
 
 -- what an act did at one of several seats
-abbrev pub TurnsAt : {S D V : Type 0} → Rules D V → (S → Running D V) → Act → ℕ → List (Seat S) → List (Seat S) → Why → Option Written → List Letter → Type 0
+abbrev pub TurnsAt : {S D V : Type 0} → Rules D V → (S → Running D V) → Act → ℕ → List (Seat S) → List (Seat S) → Why → Option Written
+    → List Letter → Type 0
 TurnsAt rules state act i old new w r sent = TurnsFound rules state act i (slice_get old i) old new w r sent
 
 -- a seat of this role, with its list by the history
@@ -108,8 +113,10 @@ pub record IsSeat {S D V : Type 0} (rules : Rules D V) (c : Cluster) (who : Role
   pub records : seat.records ≡ list_of rules who kept
 
 abbrev pub AreSeats : {S D V : Type 0} → Rules D V → Cluster → Kind → List KeptRecord → List (Seat S) → Type 0
-AreSeats {S} rules c k kept seats = (i : ℕ) (seat : Seat S) → slice_get seats i ≡ Some seat → IsSeat rules c (record { kind = k; index = i }) kept seat
+AreSeats {S} rules c k kept seats =
+    (i : ℕ) (seat : Seat S) → slice_get seats i ≡ Some seat → IsSeat rules c (record { kind = k; index = i }) kept seat
 
 -- each of them runs and was just opened
 abbrev pub AreJustOpened : {S D V : Type 0} → Rules D V → (S → Running D V) → Cluster → List (Seat S) → Type 0
-AreJustOpened {S} rules state c seats = (i : ℕ) (seat : Seat S) → slice_get seats i ≡ Some seat → volatile_of state seat.role ≡ Some (rules.fresh c)
+AreJustOpened {S} rules state c seats =
+    (i : ℕ) (seat : Seat S) → slice_get seats i ≡ Some seat → volatile_of state seat.role ≡ Some (rules.fresh c)

@@ -1,5 +1,5 @@
--- The world as contracts see it: its seats in lists, since a value can have no function, its histories, and whether a step was cut off. `world_of` is
--- the model's world.
+-- The world as contracts see it: its seats in lists, since a value can have no function, its histories, and whether a step was cut off.
+-- `world_of` is the model's world.
 use Rattle.std.specs.Prelude.{◌≡◌, ℕ, Bool, true, List, [], ◌++◌, Option, None, Some, length, slice_get, option_to_list}
 use Rattle.std.specs.List.{list_all}
 use Rattle.cx_base.specs.Asked.{is_valid_event}
@@ -114,7 +114,8 @@ abbrev pub world_of : WorldState → World
 world_of s = record { cluster = s.cluster; roles = seat_roles s.seats; events = s.events; kept = s.kept; sent = s.sent }
 
 -- a seat for each name of a kind, with the state of its role, and its list by the history of changes; a client has none
-pub record AreOfKind {D V : Type 0} (rules : Rules D V) (make : V → State) (c : Cluster) (k : Kind) (roles : RoleId → State) (kept : List KeptRecord) (seats : List (Seat (Running D V))) : Type 0 where
+pub record AreOfKind {D V : Type 0} (rules : Rules D V) (make : V → State) (c : Cluster) (k : Kind) (roles : RoleId → State)
+    (kept : List KeptRecord) (seats : List (Seat (Running D V))) : Type 0 where
   pub count : length seats ≡ count_of c k
   pub states : (i : ℕ) → roles (role k i) ≡ state_at make seats i
   pub lists : AreSeats rules c k kept seats
@@ -136,7 +137,8 @@ pub record HasSeats (c : Cluster) (roles : RoleId → State) (kept : List KeptRe
   pub each : (k : Kind) → HasKind c roles kept seats k
 
 -- a change was made to the seats
-pub record IsChange (w : World) (ch : Change) (who : Option RoleId) (u : Why) (r : Option KeptRecord) (new : SeatLists) (sent : List Letter) : Type 0 where
+pub record IsChange (w : World) (ch : Change) (who : Option RoleId) (u : Why) (r : Option KeptRecord) (new : SeatLists)
+    (sent : List Letter) : Type 0 where
   pub who_is : who ≡ ch.who
   pub why : u ≡ ch.why
   pub kept : option_to_list r ≡ ch.kept
@@ -145,18 +147,19 @@ pub record IsChange (w : World) (ch : Change) (who : Option RoleId) (u : Why) (r
 
 -- the same, of every world that has these seats
 abbrev pub Changes : (World → Change) → Seats → Changed → Seats → List Letter → Type 0
-Changes change old changed new sends =
-    (w : World) → HasSeats w.cluster w.roles w.kept (lists_of old) → IsChange w (change w) changed.who changed.why changed.kept (lists_of new) sends
+Changes change old changed new sends = (w : World) → HasSeats w.cluster w.roles w.kept (lists_of old)
+    → IsChange w (change w) changed.who changed.why changed.kept (lists_of new) sends
 
 -- the same, of every world that has these histories of datagrams and events too
 abbrev pub ChangesAfter : (World → Change) → List Letter → List Happened → Seats → Changed → Seats → List Letter → Type 0
-ChangesAfter change sent events old changed new sends =
-    (w : World) → w.sent ≡ sent → w.events ≡ events → HasSeats w.cluster w.roles w.kept (lists_of old) → IsChange w (change w) changed.who changed.why changed.kept (lists_of new) sends
+ChangesAfter change sent events old changed new sends = (w : World) → w.sent ≡ sent → w.events ≡ events
+    → HasSeats w.cluster w.roles w.kept (lists_of old) → IsChange w (change w) changed.who changed.why changed.kept (lists_of new) sends
 
--- the same, of every world that has this history of events and in which this client has heard of so many values: whatever its seats are, they stay
+-- the same, of every world that has this history of events and in which this client has heard of so many values: whatever its seats are,
+-- they stay
 abbrev pub AsksAfter : (World → Change) → ℕ → ℕ → List Happened → Changed → List Letter → Type 0
-AsksAfter change client heard events changed sends =
-    (w : World) → w.events ≡ events → heard ≡ heard_by client w.sent w.events → (seats : SeatLists) → HasSeats w.cluster w.roles w.kept seats → IsChange w (change w) changed.who changed.why changed.kept seats sends
+AsksAfter change client heard events changed sends = (w : World) → w.events ≡ events → heard ≡ heard_by client w.sent w.events
+    → (seats : SeatLists) → HasSeats w.cluster w.roles w.kept seats → IsChange w (change w) changed.who changed.why changed.kept seats sends
 
 -- whether each of these events is one that the world takes
 abbrev pub are_taken : List Happened → Bool

@@ -71,7 +71,8 @@ fn nothing(who: Option<RoleId>, why: Why) -> Changed
 fn act(seats: &mut Seats, who: RoleId, act: &Act, out: &mut Outbox) -> Result<Changed, NoMemory>
     requires empty { out.old.list ≡ [] }
     requires other { is_snap act.now ≡ false }
-    ensures { IfOk result (λ changed. Changes (λ w. act_at w act.now who) seats.old changed seats.new out.new.list) }
+    ensures { IfOk result
+        (λ changed. Changes (λ w. act_at w act.now who) seats.old changed seats.new out.new.list) }
 {
     match who.kind {
         Kind::Client => Ok(nothing(Some(who), Why::Heard)),
@@ -117,8 +118,8 @@ fn act(seats: &mut Seats, who: RoleId, act: &Act, out: &mut Outbox) -> Result<Ch
 // A replica forgets.
 fn snap(seats: &mut Seats, replica: u16, cut: Cut, out: &mut Outbox) -> Result<Changed, NoMemory>
     requires empty { out.old.list ≡ [] }
-    ensures { IfOk result (λ changed. Changes (λ w. act_at w (Snap cut) (role kind.Replica replica)) seats.old changed
-        seats.new out.new.list) }
+    ensures { IfOk result (λ changed. Changes (λ w. act_at w (Snap cut) (role kind.Replica replica))
+        seats.old changed seats.new out.new.list) }
 {
     let who = RoleId::new(Kind::Replica, replica);
     let turned = snap_at(&mut seats.replicas, replica, cut, out)?;
@@ -175,8 +176,8 @@ fn ask(
     requires mark { IsTrue (mark.fits heard) }
     requires empty { out.old.list ≡ [] }
     requires taken { IsTrue (is_valid_event event.now) }
-    ensures { IfOk result (λ changed. AsksAfter (λ w. ask w event.now (Some token)) token.client heard events.now
-        changed out.new.list) }
+    ensures { IfOk result (λ changed. AsksAfter (λ w. ask w event.now (Some token)) token.client
+        heard events.now changed out.new.list) }
 {
     let who = RoleId::new(Kind::Client, token.client);
     if events.is_stale(token, event) {

@@ -17,7 +17,8 @@ fn execute_all(
     store: &mut Store,
     values: &[Value],
 ) -> Result<(), NoMemory>
-    ensures store { OnOk result (store.new ≡ map_behind before.old store.old (command_list values.now)) }
+    ensures store { OnOk result
+        (store.new ≡ map_behind before.old store.old (command_list values.now)) }
     ensures before { OnOk result (before.new ≡ before.old ++ command_list values.now) }
 {
     for value in values {

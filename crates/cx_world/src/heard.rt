@@ -91,7 +91,8 @@ impl Heard {
     #[tactic(auto, using(crate::proofs::Hearing::raised_less, crate::proofs::Hearing::raised_more, crate::proofs::Hearing::still_marks))]
     fn raise(&mut self, client: u16, told: u64) -> Result<(), NoMemory>
         requires { IsTrue (mark.fits told) }
-        ensures { OnOk result (Raised self.old self.new (λ other. if client == other then told else 0)) }
+        ensures { OnOk result
+            (Raised self.old self.new (λ other. if client == other then told else 0)) }
     {
         if told <= self.by(client) {
             return Ok(());
@@ -107,7 +108,8 @@ impl Heard {
     // A datagram reaches its role.
     #[tactic(auto, using(crate::proofs::Hearing::take_none, crate::proofs::Hearing::take_one))]
     fn take(&mut self, datagram: &Datagram) -> Result<(), NoMemory>
-        ensures { OnOk result (Raised self.old self.new (λ client. told_to client (Some datagram.now))) }
+        ensures { OnOk result
+            (Raised self.old self.new (λ client. told_to client (Some datagram.now))) }
     {
         let to = datagram.to();
         if !is_client(to) {

@@ -56,7 +56,8 @@ impl Model for LastKeeper {
       last = keeper.last;
     } };
 
-    ghost invariant = { λ keeper. IsLastKeeperState keeper.records.items keeper.last keeper.renewed };
+    ghost invariant = { λ keeper.
+        IsLastKeeperState keeper.records.items keeper.last keeper.renewed };
 }
 
 fn base_slot(what: &Record) -> u64
@@ -90,7 +91,8 @@ fn copied(alloc: Global, last: &Option<Written>) -> Result<Option<Written>, NoMe
 impl LastKeeper {
     /// No records, and whole changes. It takes no memory.
     pub fn new(alloc: Global) -> Self
-        ensures { result ≡ record { store = record { kept = []; cut = Cut.Whole; faults = 0 }; last = None } }
+        ensures { result
+            ≡ record { store = record { kept = []; cut = Cut.Whole; faults = 0 }; last = None } }
     {
         LastKeeper {
             alloc,

@@ -49,7 +49,8 @@ impl<R: Role> Model for Seat<R> {
       records = list_kept seat.keeper;
     } };
 
-    ghost invariant = { λ seat. Sits R.rules R.state seat.cluster seat.me seat.keeper seat.role seat.runs };
+    ghost invariant = { λ seat.
+        Sits R.rules R.state seat.cluster seat.me seat.keeper seat.role seat.runs };
 }
 
 fn why_of_cut(cut: Cut) -> Why
@@ -81,7 +82,8 @@ fn step<R: Role>(
     ensures step { IsStep last_append_gives tells_nothing R.rules (R.state role.old)
         (outcome_of R.rules (R.state role.old) input.now)
         result (R.state role.new) keeper.old keeper.new out.new.list }
-    ensures kept { OnOk result (MayKeep R.rules (R.state role.old) (outcome_of R.rules (R.state role.old) input.now)) }
+    ensures kept { OnOk result
+        (MayKeep R.rules (R.state role.old) (outcome_of R.rules (R.state role.old) input.now)) }
     ensures fits { IsErrOf result StepFault.Failed
         → MayKeep R.rules (R.state role.old) (outcome_of R.rules (R.state role.old) input.now) }
 {
@@ -134,7 +136,8 @@ fn woken<R: Role + Drop>(
 ) -> Result<R, NoMemory>
     requires place { IsRoleOfRules R.rules cluster.now me }
     requires stands { StandsByStore R.rules cluster.now me keeper.now (R.state role) }
-    ensures { IfOk result (λ woken. R.state woken ≡ opened R.rules cluster.now me (list_kept keeper.now)) }
+    ensures { IfOk result
+        (λ woken. R.state woken ≡ opened R.rules cluster.now me (list_kept keeper.now)) }
 {
     if role.live() {
         return again(role, &[]);
@@ -154,7 +157,8 @@ impl<R: Role + Drop> Seat<R> {
         ensures cluster { IfOk result (λ seat. seat.cluster ≡ cluster.now) }
         ensures me { IfOk result (λ seat. seat.me ≡ me) }
         ensures records { IfOk result (λ seat. seat.records ≡ []) }
-        ensures role { IfOk result (λ seat. volatile_of R.state seat.role ≡ Some (R.rules.fresh cluster.now)) }
+        ensures role { IfOk result
+            (λ seat. volatile_of R.state seat.role ≡ Some (R.rules.fresh cluster.now)) }
     {
         let role = anew(alloc, cluster, me, &[])?;
         Ok(Seat {
@@ -198,7 +202,8 @@ impl<R: Role + Drop> Seat<R> {
     }
 
     fn stop(&mut self) -> Why
-        ensures { IsTurned R.rules R.state (seat_turn R.rules R.state Stop self.old) self.old self.new result None [] }
+        ensures { IsTurned R.rules R.state (seat_turn R.rules R.state Stop self.old) self.old
+            self.new result None [] }
     {
         if !self.runs {
             return Why::Down;
@@ -208,8 +213,8 @@ impl<R: Role + Drop> Seat<R> {
     }
 
     fn wake(&mut self) -> Result<Why, NoMemory>
-        ensures { IfOk result (λ why. IsTurned R.rules R.state (seat_turn R.rules R.state Wake self.old)
-            self.old self.new why None []) }
+        ensures { IfOk result (λ why. IsTurned R.rules R.state
+            (seat_turn R.rules R.state Wake self.old) self.old self.new why None []) }
     {
         if self.runs {
             return Ok(Why::Up);
@@ -227,8 +232,8 @@ impl<R: Role + Drop> Seat<R> {
     pub fn act(&mut self, act: &Act, out: &mut Outbox) -> Result<Turned, NoMemory>
         requires empty { out.old.list ≡ [] }
         requires other { is_snap act.now ≡ false }
-        ensures { IfOk result (λ turned. IsTurned R.rules R.state (seat_turn R.rules R.state act.now self.old)
-            self.old self.new turned.why turned.kept out.new.list) }
+        ensures { IfOk result (λ turned. IsTurned R.rules R.state (seat_turn R.rules R.state act.now
+            self.old) self.old self.new turned.why turned.kept out.new.list) }
     {
         match act {
             Act::Give { input, cut } => self.give(input, *cut, out),

@@ -70,7 +70,8 @@ impl Model for World {
 
 // All roles running, with no records.
 fn open_seats(alloc: Global, cluster: &Cluster) -> Result<Seats, NoMemory>
-    ensures { IfOk result (λ seats. HasSeats cluster.now (start cluster.now).roles [] (lists_of seats)) }
+    ensures { IfOk result
+        (λ seats. HasSeats cluster.now (start cluster.now).roles [] (lists_of seats)) }
 {
     Ok(Seats {
         batchers: open_all(alloc, cluster, Kind::Batcher, cluster.batchers)?,
@@ -108,7 +109,8 @@ fn note(
     out: &mut Outbox,
 ) -> Result<(), NoMemory>
     requires { all_changes_fit (changes_kept (option_to_list what)) ≡ true }
-    ensures events { OnOk result (events.new ≡ events.old ++ record { event = event.now; why = why } ∷ []) }
+    ensures events { OnOk result
+        (events.new ≡ events.old ++ record { event = event.now; why = why } ∷ []) }
     ensures kept { OnOk result (kept.new ≡ kept.old ++ option_to_list what) }
     ensures sent { OnOk result (sent.new ≡ sent.old ++ out.old.list) }
     ensures out { OnOk result (out.new.list ≡ []) }

@@ -6,5 +6,7 @@ use Rattle.compax.proofs.line.write_store_fault.Goals as goal
 
 pub returns : goal.returns
 returns g c =
-    subst (λ (more : List ℕ). SaysText (g.E.Sink.taken c.args.err.now) (g.E.Sink.taken c.write_parts.new.err) (g.E.Sink.faults c.args.err.now) (g.E.Sink.faults c.write_parts.new.err) (codes "store failed: " ++ more)) (role_parts (kind_text c.args.role.kind) (codes ":") (decimal c.args.role.index) (codes "\n"))
+    subst (λ (more : List ℕ). SaysText (g.E.Sink.taken c.args.err.now) (g.E.Sink.taken c.write_parts.new.err)
+    (g.E.Sink.faults c.args.err.now) (g.E.Sink.faults c.write_parts.new.err) (codes "store failed: " ++ more))
+    (role_parts (kind_text c.args.role.kind) (codes ":") (decimal c.args.role.index) (codes "\n"))
     (rw (c.as_bytes-kind.ensures.value ∙ c.text.ensures, c.as_bytes-index.ensures.value ∙ c.format.ensures.text) at c.write_parts.ensures)

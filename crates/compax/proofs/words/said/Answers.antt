@@ -9,9 +9,8 @@ returns-in_default c = said-fault (map string_bytes c.args.words.now) (rw c.in_d
 pub returns-in-Some-subcommand : goal.returns-in-Some-subcommand
 returns-in-Some-subcommand c =
     let matched = rw c.in-Some.is at c.in_ok-matches.ensures in
-    subst (λ (asked : Option Invocation). IfOk c.asked_by.result (λ invocation. invocation ≡ asked))
-    (said-met (map string_bytes c.args.words.now) c.in-Some.matches _ _ matched c.in-Some-subcommand.ensures.name c.in-Some-subcommand.ensures.rows)
-    c.asked_by.ensures
+    subst (λ (asked : Option Invocation). IfOk c.asked_by.result (λ invocation. invocation ≡ asked)) (said-met (map string_bytes
+    c.args.words.now) c.in-Some.matches _ _ matched c.in-Some-subcommand.ensures.name c.in-Some-subcommand.ensures.rows) c.asked_by.ensures
 
 pub returns : goal.returns
 returns c =

@@ -6,5 +6,6 @@ use Rattle.compax.proofs.words.seed_given.Goals as goal
 
 pub returns : goal.returns
 returns c =
-    number_at-read 64 18446744073709551615 (λ bs r. ParsesUnsigned 64 10 bs r × ExplainsUnsignedError 10 bs r × HasUnsignedDigitsIfOk bs r) (found_of c.args.matches.now) (codes "SEED") c.get_one.result
+    number_at-read 64 18446744073709551615 (λ bs r. ParsesUnsigned 64 10 bs r × ExplainsUnsignedError 10 bs r × HasUnsignedDigitsIfOk bs r)
+    (found_of c.args.matches.now) (codes "SEED") c.get_one.result
     refl (omega arith) (λ t x g. g.0) c.get_one.ensures.none c.get_one.ensures.value

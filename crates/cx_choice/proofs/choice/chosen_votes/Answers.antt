@@ -20,8 +20,11 @@ loop-slot-preserved c =
     let loop = c.loop-slot in
     let number = c.in-Some.number in
     let chosen : IsChosenVote kept loop.slot (Some number) = rw c.in-Some.is at c.in_ok-number.ensures in
-    let step = prefix_step kept loop.slot (length kept) (vote_value_at kept number) (rw c.len-slot-end.ensures at c.loop-slot-test.true) chosen.0 in
+    let step =
+    prefix_step kept loop.slot (length kept) (vote_value_at kept number) (rw c.len-slot-end.ensures at c.loop-slot-test.true) chosen.0 in
     record {
-      prefix = rw (c.in_ok-push-in-Some.ensures.items, map-append (vote_value_at kept) loop.numbers.items (number ∷ []), append_assoc, ← step) loop.invariant.prefix;
+      prefix =
+          rw (c.in_ok-push-in-Some.ensures.items, map-append (vote_value_at kept) loop.numbers.items (number ∷ []), append_assoc, ← step)
+          loop.invariant.prefix;
       votes = rw c.in_ok-push-in-Some.ensures.items (All-push (IsVoteAt kept) loop.numbers.items number loop.invariant.votes chosen.1);
     }

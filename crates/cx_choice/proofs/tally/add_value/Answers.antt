@@ -21,4 +21,5 @@ returns c =
     let a = c.args in
     let here : (a.slot == a.at) ≡ true = search rules in
     let enough : is_enough a.rounds.now (casts_in a.votes.now) a.at a.round a.value.now ≡ true = search rules in
-    λ v. more a.chosen.now.items c.push.new.self.items a.rounds.now (casts_in a.votes.now) a.at a.round a.slot _ v c.in_ok-push.ensures.items here enough
+    λ v. more a.chosen.now.items c.push.new.self.items a.rounds.now (casts_in a.votes.now) a.at a.round a.slot _ v
+    c.in_ok-push.ensures.items here enough

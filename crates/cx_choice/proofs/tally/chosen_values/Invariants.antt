@@ -7,6 +7,6 @@ use Rattle.cx_choice.specs.Sorted.{casts_in}
 use Rattle.cx_choice.proofs.tally.chosen_values.Given as goal
 
 abbrev pub invariant-loop-vote : goal.invariant-loop-vote
-invariant-loop-vote l =
-    (v : Value) → (is_value_among l.chosen.items v || list_any (λ (k : KeptRecord). is_whole_vote l.rounds (casts_in l.by_round) l.at v k.what) (drop l.vote-index l.votes))
+invariant-loop-vote l = (v : Value) → (is_value_among l.chosen.items v
+    || list_any (λ (k : KeptRecord). is_whole_vote l.rounds (casts_in l.by_round) l.at v k.what) (drop l.vote-index l.votes))
     ≡ list_any (λ (k : KeptRecord). is_whole_vote l.rounds (casts_in l.by_round) l.at v k.what) l.votes

@@ -14,6 +14,7 @@ send_above-requires-clause-room c =
 
 pub send_above-requires-clause-taken : goal.send_above-requires-clause-taken
 send_above-requires-clause-taken c =
-    let floor : c.saturating_sub-floor.result ≡ floor_for c.args.left.now = c.saturating_sub-floor.ensures ∙ ap (λ n. n - 1) c.first_of.ensures in
+    let floor : c.saturating_sub-floor.result ≡ floor_for c.args.left.now =
+    c.saturating_sub-floor.ensures ∙ ap (λ n. n - 1) c.first_of.ensures in
     subst (λ n. list_all (λ (e : Event). is_valid_event (event_with_floor n e)) c.outstanding.result.now ≡ true) (sym floor)
     (rw c.outstanding.ensures (all_valid c.args.window c.args.left.now c.requires.rising))

@@ -24,14 +24,16 @@ returns-in-Some c =
     let named : ClusterFault → Result Cluster ClusterFault = λ fault. Err fault in
     record {
       cluster = tt;
-      fault = λ memory. document ∙ ap (known_cluster (table_view c.in-Ok.table)) least ∙ ap named (sym (c.unknown.ensures memory ∙ ap unknown c.as_str.ensures.value));
+      fault = λ memory. document ∙ ap (known_cluster (table_view c.in-Ok.table)) least
+          ∙ ap named (sym (c.unknown.ensures memory ∙ ap unknown c.as_str.ensures.value));
     }
 
 pub returns : goal.returns
 returns c =
     let document = of_document c.args.bytes.now (table_view c.in-Ok.table) c.in-Ok.ensures.ok.0 c.in-Ok.ensures.ok.1 in
     let found : option_copied c.first_unknown.result ≡ None = rw c.in_default.is refl in
-    let none = least_unknown-view c.in-Ok.table.entries c.first_unknown.ensures.ordered ∙ ap (option_map string_bytes) (sym c.first_unknown.ensures.found ∙ found) in
+    let none = least_unknown-view c.in-Ok.table.entries c.first_unknown.ensures.ordered
+    ∙ ap (option_map string_bytes) (sym c.first_unknown.ensures.found ∙ found) in
     let is = c.cluster_of.ensures ∙ sym (document ∙ ap (known_cluster (table_view c.in-Ok.table)) none) in
     record {
       cluster = cluster-is c.cluster_of.result (header_cluster c.args.bytes.now) is;

@@ -16,4 +16,5 @@ returns-in-Some c =
 pub returns-in-None : goal.returns-in-None
 returns-in-None c =
     let place = c.args.place in
-    sym (without_nowhere place c.args.places.now.items (ap (position (same_shelf place)) (sym c.deref.ensures.value) ∙ sym c.index_of.ensures ∙ c.in-None.is))
+    sym (without_nowhere place c.args.places.now.items
+    (ap (position (same_shelf place)) (sym c.deref.ensures.value) ∙ sym c.index_of.ensures ∙ c.in-None.is))

@@ -13,5 +13,6 @@ invariant-loop l = record {
   within : l.counter ≤ length l.bytes;
   place : l.reader ≡ drop l.counter l.bytes;
   names : IsTrue (list_all is_name_byte (take l.counter l.bytes));
-  so_far : with_front (take l.counter l.bytes) (each_read (λ _. name_byte) (take l.counter l.bytes) (l.count - l.counter) l.reader) ≡ each_read (λ _. name_byte) [] l.count l.fn.reader;
+  so_far : with_front (take l.counter l.bytes) (each_read (λ _. name_byte) (take l.counter l.bytes) (l.count - l.counter) l.reader)
+      ≡ each_read (λ _. name_byte) [] l.count l.fn.reader;
 }

@@ -10,5 +10,6 @@ from_parts-requires c =
       some_col = omega arith;
       room = omega arith;
       count = rw c.deref.ensures.value (omega (arith, c.in_ok-members.ensures.len, c.in_ok-members.members.ok));
-      once = rw c.deref.ensures.value (members_new n [] c.u8-2.new.self (c.in_ok-members.members.items, c.items_from.new.reader) c.in_ok-members.ensures.read);
+      once = rw c.deref.ensures.value
+          (members_new n [] c.u8-2.new.self (c.in_ok-members.members.items, c.items_from.new.reader) c.in_ok-members.ensures.read);
     }

@@ -9,7 +9,8 @@ use Rattle.cx_journal.proofs.live.read_first.Goals as goal
 pub returns-then-is_blank-clause-found : goal.returns-then-is_blank-clause-found
 returns-then-is_blank-clause-found g c = λ file rests gen.
     let blank : IsBlank file = c.in-Ok.ensures.yes file rests.0 (search rules) in
-    let still : IsLive g.D.Disk.seen g.D.Disk.may_leave c.is_blank.new.disk file = (c.is_blank.ensures.seen ∙ rests.0, λ k left. rests.1 k (c.is_blank.ensures.crash k left)) in
+    let still : IsLive g.D.Disk.seen g.D.Disk.may_leave c.is_blank.new.disk file =
+    (c.is_blank.ensures.seen ∙ rests.0, λ k left. rests.1 k (c.is_blank.ensures.crash k left)) in
     c.read_blank.ensures.found c.args.kind file still blank
 
 pub returns-then-is_blank-clause-broken : goal.returns-then-is_blank-clause-broken
@@ -18,7 +19,8 @@ returns-then-is_blank-clause-broken g c = λ file rests gen. c.read_blank.ensure
 pub returns-then-is_blank-clause-any_moment : goal.returns-then-is_blank-clause-any_moment
 returns-then-is_blank-clause-any_moment g c = λ file rests.
     let blank : IsBlank file = c.in-Ok.ensures.yes file rests.0 (search rules) in
-    let still : IsLive g.D.Disk.seen g.D.Disk.may_leave c.is_blank.new.disk file = (c.is_blank.ensures.seen ∙ rests.0, λ k left. rests.1 k (c.is_blank.ensures.crash k left)) in
+    let still : IsLive g.D.Disk.seen g.D.Disk.may_leave c.is_blank.new.disk file =
+    (c.is_blank.ensures.seen ∙ rests.0, λ k left. rests.1 k (c.is_blank.ensures.crash k left)) in
     leaves_in_turn g.D.Disk.moment g.D.Disk.left_since _ _ _ _
     (leaves_weaker g.D.Disk.moment g.D.Disk.left_since _ _ _ _ (λ k left. inl (rests.1 k left)) c.is_blank.ensures.quiet)
     (c.read_blank.ensures.any_moment file still blank)
@@ -26,6 +28,7 @@ returns-then-is_blank-clause-any_moment g c = λ file rests.
 pub returns-clause-found : goal.returns-clause-found
 returns-clause-found g c = λ file rests gen.
     let full = c.in-Ok.ensures.no file rests.0 (search rules) in
-    let still : IsLive g.D.Disk.seen g.D.Disk.may_leave c.is_blank.new.disk file = (c.is_blank.ensures.seen ∙ rests.0, λ k left. rests.1 k (c.is_blank.ensures.crash k left)) in
-    file_read g.D.Disk.seen g.D.Disk.may_leave c.args.kind file full c.read_live.new.disk (c.read_live.ensures.rests file still) c.read_live.result
-    (c.read_live.ensures.found file still gen (one_full g.D.Disk.seen g.D.Disk.may_leave c.args.kind file full))
+    let still : IsLive g.D.Disk.seen g.D.Disk.may_leave c.is_blank.new.disk file =
+    (c.is_blank.ensures.seen ∙ rests.0, λ k left. rests.1 k (c.is_blank.ensures.crash k left)) in
+    file_read g.D.Disk.seen g.D.Disk.may_leave c.args.kind file full c.read_live.new.disk (c.read_live.ensures.rests file still)
+    c.read_live.result (c.read_live.ensures.found file still gen (one_full g.D.Disk.seen g.D.Disk.may_leave c.args.kind file full))

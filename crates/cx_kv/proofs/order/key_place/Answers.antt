@@ -11,5 +11,6 @@ returns c =
     let order = c.args.order.now in
     let key = c.args.key.now in
     let parted = order_parted list order key c.requires.rising c.requires.below in
-    let point = IsPartitionPoint-from_clause (λ i. is_pair_before key (slice_get list i)) order _ c.partition_point.ensures.partitioned parted (λ a r q k. search rules) in
+    let point = IsPartitionPoint-from_clause (λ i. is_pair_before key (slice_get list i)) order _ c.partition_point.ensures.partitioned
+    parted (λ a r q k. search rules) in
     order_place list order key _ c.requires.below c.partition_point.ensures.bound point

@@ -8,8 +8,8 @@ pub returns-in-Ok : goal.returns-in-Ok
 returns-in-Ok c =
     let placed = c.in-Ok.ensures.placed in
     let p = c.pair_at.result.now in
-    ap (λ (q : Pair). Some q.text) (sym (c.pair_at.ensures p))
-    ∙ sym (text_at-held c.args.key.now (picked c.args.list.now c.args.order.now) c.in-Ok.place p placed.before placed.inside (placed.same p))
+    ap (λ (q : Pair). Some q.text) (sym (c.pair_at.ensures p)) ∙ sym (text_at-held c.args.key.now (picked c.args.list.now c.args.order.now)
+    c.in-Ok.place p placed.before placed.inside (placed.same p))
 
 pub returns-in-Err : goal.returns-in-Err
 returns-in-Err c =

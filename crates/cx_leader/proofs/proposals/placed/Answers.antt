@@ -10,7 +10,8 @@ loop-value-preserved c =
     let values = c.args.values.now in
     let one : Placed = record { slot = l.slot; value = c.value-item.result } in
     let last = put_next c.args.first l.value-index l.list.items one l.invariant.slots l.invariant.slot in
-    let rest : drop l.value-index values ≡ c.value-item.result ∷ drop (l.value-index + 1) values = next_left values l.value-index c.value-item.result c.loop-value-test.true c.value-item.is in
+    let rest : drop l.value-index values ≡ c.value-item.result ∷ drop (l.value-index + 1) values =
+    next_left values l.value-index c.value-item.result c.loop-value-test.true c.value-item.is in
     record {
       list =
           rw (c.put.ensures.items, c.in_ok-value.ensures, last)

@@ -4,5 +4,5 @@ use Rattle.cx_model.specs.Leader.{inform_to}
 use Rattle.cx_leader.proofs.sending.inform_members.Given as goal
 
 abbrev pub invariant-loop-acceptor : goal.invariant-loop-acceptor
-invariant-loop-acceptor l =
-    IsSendingTo (λ a. is_in a l.own.grid.members) (inform_to (role Leader l.leader) l.own.round l.mark) l.fn.out l.out l.acceptor l.cluster.acceptors
+invariant-loop-acceptor l = IsSendingTo (λ a. is_in a l.own.grid.members) (inform_to (role Leader l.leader) l.own.round l.mark) l.fn.out
+    l.out l.acceptor l.cluster.acceptors

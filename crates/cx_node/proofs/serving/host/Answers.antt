@@ -95,8 +95,8 @@ returns-in-Ok-open_all-clause-answered g c = λ left left_after reads reads_afte
     (sym (records_header c.args.recording c.args.header.now)) run.4 in
     let fresh : is_some header ≡ true → NoneIsUsed c.open_all.new.seats.items = λ is. none_holding c.open_all.new.seats.items
     (c.in-Ok-open_all.ensures.fresh (sym (records_header c.args.recording c.args.header.now) ∙ is)) in
-    let ran = subst (λ text. Ran (store_gives disk) c.args.tend c.args.cluster.now c.args.turns text run.2
-    (scene_of g.L.Link g.W.Sink (hosting c.args.cluster.now c.open_all.new.seats.items (known_first (is_some header))) c.bind_all.new.link c.args.out.now)
+    let ran = subst (λ text. Ran (store_gives disk) c.args.tend c.args.cluster.now c.args.turns text run.2 (scene_of g.L.Link g.W.Sink
+    (hosting c.args.cluster.now c.open_all.new.seats.items (known_first (is_some header))) c.bind_all.new.link c.args.out.now)
     (scene_of g.L.Link g.W.Sink (hosting c.args.cluster.now run.0 run.1) c.run_behind.new.link c.run_behind.new.out)
     (failed g.L.Link g.W.Sink c.bind_all.new.link c.args.out.now) (failed g.L.Link g.W.Sink c.run_behind.new.link c.run_behind.new.out))
     (c.deref.ensures.value ∙ c.in-Ok.ensures) scene_ran in

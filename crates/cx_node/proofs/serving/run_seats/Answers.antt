@@ -57,10 +57,10 @@ returns-in-Ok-clause-ran g c =
       c.run-end.new.self.recorded,
       c.run-end.result,
       c.ended.ensures,
-      subst (λ hs. Ran gives c.args.tend c.args.cluster.now c.args.turns [] c.run-end.result
-          (scene_of g.L.Link g.W.Sink (hosting c.args.cluster.now c.args.seats.items (known_first c.args.recording)) c.args.link.now c.args.out.now)
-          (scene_of g.L.Link g.W.Sink (hosting c.args.cluster.now hs c.run-end.new.self.recorded) link out) before after) (sym c.into_seats.ensures)
-          (subst (λ n. Ran gives c.args.tend n.cluster c.args.turns [] c.run-end.result
+      subst (λ hs. Ran gives c.args.tend c.args.cluster.now c.args.turns [] c.run-end.result (scene_of g.L.Link g.W.Sink
+          (hosting c.args.cluster.now c.args.seats.items (known_first c.args.recording)) c.args.link.now c.args.out.now)
+          (scene_of g.L.Link g.W.Sink (hosting c.args.cluster.now hs c.run-end.new.self.recorded) link out) before
+          after) (sym c.into_seats.ensures) (subst (λ n. Ran gives c.args.tend n.cluster c.args.turns [] c.run-end.result
           (scene_of g.L.Link g.W.Sink n c.args.link.now c.args.out.now)
           (scene_of g.L.Link g.W.Sink c.run-end.new.self link out) before after) c.in-Ok.ensures.node
           (record {
@@ -82,8 +82,8 @@ returns-in-Err-clause-ran g c = (
   refl,
   record {
     done = tt;
-    part = runs_none (store_gives g.D.Store.Disk) c.args.tend c.args.cluster.now c.args.turns
-        (scene_of g.L.Link g.W.Sink (hosting c.args.cluster.now c.args.seats.items (known_first c.args.recording)) c.args.link.now c.args.out.now);
+    part = runs_none (store_gives g.D.Store.Disk) c.args.tend c.args.cluster.now c.args.turns (scene_of g.L.Link g.W.Sink
+        (hosting c.args.cluster.now c.args.seats.items (known_first c.args.recording)) c.args.link.now c.args.out.now);
     written = λ e. cc;
     unwritten = λ e. refl;
     linked = λ e. cc;

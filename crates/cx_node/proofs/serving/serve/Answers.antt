@@ -21,13 +21,12 @@ returns-in-Ok-clause-answered g c =
     c.host.new.out in
     let says = subst (λ events. InputSays c.args.recording c.args.roles.now (g.S.Source.left c.args.input.now)
     (recorded_header c.args.recording c.in-Ok.accepted.header) c.in-Ok.accepted.cluster events)
-    (sym c.events.ensures)
-    (says_heard c.args.recording c.args.roles.now (g.S.Source.left c.args.input.now) c.in-Ok.accepted.header c.in-Ok.accepted.cluster c.in-Ok.accepted.schedule
-    heard.heard heard.taken heard.hosts) in
+    (sym c.events.ensures) (says_heard c.args.recording c.args.roles.now (g.S.Source.left c.args.input.now) c.in-Ok.accepted.header
+    c.in-Ok.accepted.cluster c.in-Ok.accepted.schedule heard.heard heard.taken heard.hosts) in
     let host = c.host.ensures.answered (g.S.Source.left c.args.input.now) (g.S.Source.left c.listen.new.source)
     (g.S.Source.faults c.args.input.now) (g.S.Source.faults c.listen.new.source) in
-    answered_so c.args.recording c.args.roles.now c.args.tend (recorded_header c.args.recording c.in-Ok.accepted.header) c.in-Ok.accepted.cluster
-    c.args.window c.events.result.now c.args.turns old new c.host.result says (heard.at_end, heard.all_read)
+    answered_so c.args.recording c.args.roles.now c.args.tend (recorded_header c.args.recording c.in-Ok.accepted.header)
+    c.in-Ok.accepted.cluster c.args.window c.events.result.now c.args.turns old new c.host.result says (heard.at_end, heard.all_read)
     (rw (c.as_bytes.ensures, c.options_of.ensures) at host)
 
 pub returns-in-Ok-clause-complete : goal.returns-in-Ok-clause-complete
@@ -38,12 +37,12 @@ returns-in-Ok-clause-tells_used g c =
     let heard = c.in-Ok.ensures in
     let says = subst (λ events. InputSays c.args.recording c.args.roles.now (g.S.Source.left c.args.input.now)
     (recorded_header c.args.recording c.in-Ok.accepted.header) c.in-Ok.accepted.cluster events)
-    (sym c.events.ensures)
-    (says_heard c.args.recording c.args.roles.now (g.S.Source.left c.args.input.now) c.in-Ok.accepted.header c.in-Ok.accepted.cluster c.in-Ok.accepted.schedule
-    heard.heard heard.taken heard.hosts) in
+    (sym c.events.ensures) (says_heard c.args.recording c.args.roles.now (g.S.Source.left c.args.input.now) c.in-Ok.accepted.header
+    c.in-Ok.accepted.cluster c.in-Ok.accepted.schedule heard.heard heard.taken heard.hosts) in
     let host = c.host.ensures.answered (g.S.Source.left c.args.input.now) (g.S.Source.left c.listen.new.source)
     (g.S.Source.faults c.args.input.now) (g.S.Source.faults c.listen.new.source) in
-    tells_used_so c.args.recording c.args.roles.now c.args.tend (recorded_header c.args.recording c.in-Ok.accepted.header) c.in-Ok.accepted.cluster
+    tells_used_so c.args.recording c.args.roles.now c.args.tend (recorded_header c.args.recording c.in-Ok.accepted.header)
+    c.in-Ok.accepted.cluster
     c.args.window c.events.result.now c.args.turns _ _ c.host.result says (rw (c.as_bytes.ensures, c.options_of.ensures) at host)
 
 pub returns-in-Ok-clause-tells_bad : goal.returns-in-Ok-clause-tells_bad
@@ -51,12 +50,12 @@ returns-in-Ok-clause-tells_bad g c =
     let heard = c.in-Ok.ensures in
     let says = subst (λ events. InputSays c.args.recording c.args.roles.now (g.S.Source.left c.args.input.now)
     (recorded_header c.args.recording c.in-Ok.accepted.header) c.in-Ok.accepted.cluster events)
-    (sym c.events.ensures)
-    (says_heard c.args.recording c.args.roles.now (g.S.Source.left c.args.input.now) c.in-Ok.accepted.header c.in-Ok.accepted.cluster c.in-Ok.accepted.schedule
-    heard.heard heard.taken heard.hosts) in
+    (sym c.events.ensures) (says_heard c.args.recording c.args.roles.now (g.S.Source.left c.args.input.now) c.in-Ok.accepted.header
+    c.in-Ok.accepted.cluster c.in-Ok.accepted.schedule heard.heard heard.taken heard.hosts) in
     let host = c.host.ensures.answered (g.S.Source.left c.args.input.now) (g.S.Source.left c.listen.new.source)
     (g.S.Source.faults c.args.input.now) (g.S.Source.faults c.listen.new.source) in
-    tells_bad_so c.args.recording c.args.roles.now c.args.tend (recorded_header c.args.recording c.in-Ok.accepted.header) c.in-Ok.accepted.cluster
+    tells_bad_so c.args.recording c.args.roles.now c.args.tend (recorded_header c.args.recording c.in-Ok.accepted.header)
+    c.in-Ok.accepted.cluster
     c.args.window c.events.result.now c.args.turns _ _ c.host.result says (rw (c.as_bytes.ensures, c.options_of.ensures) at host)
 
 pub returns-in-Err-clause-answered : goal.returns-in-Err-clause-answered

@@ -6,4 +6,5 @@ use Rattle.cx_course.specs.Tending.{completed}
 use Rattle.cx_node.proofs.tending.all_completed.Given as goal
 
 abbrev pub invariant-loop-seat : goal.invariant-loop-seat
-invariant-loop-seat g l = l.total ≡ min (sum_by (λ (guest : Guest g.row.K.Denot). completed (hosted_of guest)) (take l.seat-index l.seats)) 18446744073709551615
+invariant-loop-seat g l =
+    l.total ≡ min (sum_by (λ (guest : Guest g.row.K.Denot). completed (hosted_of guest)) (take l.seat-index l.seats)) 18446744073709551615

@@ -7,4 +7,5 @@ use Rattle.cx_phase1.proofs.planning.values_between.Goals as goal
 pub loop-slot-preserved : goal.loop-slot-preserved
 loop-slot-preserved c =
     let loop = c.loop-slot in
-    rw (c.in_ok-push.ensures.items, c.in_ok-voted_value.ensures) (made_on (λ s. voted_value (value_at slot_of s c.args.best.now.items)) loop.values.items _ loop.slot c.args.end c.loop-slot-test.true loop.invariant)
+    rw (c.in_ok-push.ensures.items, c.in_ok-voted_value.ensures) (made_on (λ s. voted_value (value_at slot_of s c.args.best.now.items))
+    loop.values.items _ loop.slot c.args.end c.loop-slot-test.true loop.invariant)

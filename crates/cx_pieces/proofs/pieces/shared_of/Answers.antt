@@ -10,5 +10,6 @@ returns-in-None c =
 
 pub returns-in-Some : goal.returns-in-Some
 returns-in-Some c =
-    let there : slice_get c.args.chunks.now (c.args.number / 256) ≡ Some c.in-Some.chunk.now = rw c.in-Some.is at (sym c.chunk_at.ensures) in
+    let there : slice_get c.args.chunks.now (c.args.number / 256) ≡ Some c.in-Some.chunk.now =
+    rw c.in-Some.is at (sym c.chunk_at.ensures) in
     rw (piece_there c.args.chunks.now c.args.number c.in-Some.chunk.now c.requires there) c.shared.ensures

@@ -11,4 +11,5 @@ loop-note-preserved c =
     let note = c.note-item.result in
     let above = c.if-note-last.false in
     let less : has_lower loop.last note ≡ true = grind (arith, nat_tests, above) in
-    numbers_on loop.last note _ _ _ (next_one c.args.notes.now loop.note-index note c.loop-note-test.true c.note-item.is) less loop.invariant
+    numbers_on loop.last note _ _ _ (next_one c.args.notes.now loop.note-index note c.loop-note-test.true c.note-item.is) less
+    loop.invariant

@@ -25,16 +25,19 @@ loop-client-preserved c =
           let next : floors_from client table.floors ≡ floor ∷ floors_from (client + 1) table.floors
           = floor_next client w.in-Some.floor table.floors c.requires.ordered.floors_rise (sym w.in-Some.ensures) in
           record {
-            items = rw (w.records-is, w.in_ok-push.ensures.items, w.in_ok-what.ensures.is)
-                (next_piece (notes_of table) done floor (floors_from client table.floors) (floors_from (client + 1) table.floors) _ next c.loop-client.invariant.items);
-            few = rw (w.records-is, w.in_ok-push.ensures.items) (omega (arith, length-append done (w.in_ok-what.what ∷ []), c.loop-client.invariant.few));
-            fit = rw (w.records-is, w.in_ok-push.ensures.items) (fit_more done w.in_ok-what.what c.loop-client.invariant.fit w.in_ok-what.ensures.fits);
+            items = rw (w.records-is, w.in_ok-push.ensures.items, w.in_ok-what.ensures.is) (next_piece (notes_of table) done floor
+                (floors_from client table.floors) (floors_from (client + 1) table.floors) _ next c.loop-client.invariant.items);
+            few = rw (w.records-is, w.in_ok-push.ensures.items)
+                (omega (arith, length-append done (w.in_ok-what.what ∷ []), c.loop-client.invariant.few));
+            fit = rw (w.records-is, w.in_ok-push.ensures.items)
+                (fit_more done w.in_ok-what.what c.loop-client.invariant.fit w.in_ok-what.ensures.fits);
           }
       | in_default w ↦
           let same : floors_from client table.floors ≡ floors_from (client + 1) table.floors
           = floor_none client table.floors c.requires.ordered.floors_rise (sym w.in_default.ensures) in
           record {
-            items = rw w.records-is (subst (λ (fs : List Floor). done ++ map (notes_of table) fs ≡ map (notes_of table) table.floors) same c.loop-client.invariant.items);
+            items = rw w.records-is (subst (λ (fs : List Floor). done ++ map (notes_of table) fs ≡ map (notes_of table) table.floors) same
+                c.loop-client.invariant.items);
             few = rw w.records-is (omega (arith, c.loop-client.invariant.few));
             fit = rw w.records-is c.loop-client.invariant.fit;
           }
@@ -46,4 +49,5 @@ returns-clause-items c =
     let none : floors_from c.loop-client.client table.floors ≡ []
     = floors_end c.args.cluster.now.clients c.loop-client.client table.floors c.loop-client-test.false c.requires.noted.clients in
     sym (append-nil c.loop-client.records.items)
-    ∙ subst (λ (fs : List Floor). c.loop-client.records.items ++ map (notes_of table) fs ≡ map (notes_of table) table.floors) none c.loop-client.invariant.items
+    ∙ subst (λ (fs : List Floor). c.loop-client.records.items ++ map (notes_of table) fs ≡ map (notes_of table) table.floors) none
+    c.loop-client.invariant.items

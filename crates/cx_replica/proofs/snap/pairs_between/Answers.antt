@@ -12,7 +12,8 @@ loop-place-preserved c =
     let here : from + (loop.place - from) ≡ loop.place = omega (arith, loop.invariant.order) in
     let next : loop.place + 1 - from ≡ loop.place - from + 1 = omega (arith, loop.invariant.order) in
     let inside : from + (loop.place - from) < length map = omega (arith, here, c.loop-place-test.true, c.requires.within) in
-    let at : slice_index_or map (from + (loop.place - from)) pair ≡ pair = ap (λ k. slice_index_or map k pair) here ∙ c.pair_at-pair.ensures pair in
+    let at : slice_index_or map (from + (loop.place - from)) pair ≡ pair =
+    ap (λ k. slice_index_or map k pair) here ∙ c.pair_at-pair.ensures pair in
     record {
       order = omega (arith, loop.invariant.order);
       items = rw (c.in_ok-push.ensures.items, next, loop.invariant.items) (sym (take_next_at from (loop.place - from) map pair inside at));

@@ -10,7 +10,8 @@ use Rattle.cx_replica.proofs.snap.pairs_record.Goals as goal
 next : (c : goal.After-from_vec) → c.in_ok-pairs.pairs.items ≡ take 255 (drop c.args.from c.args.machine.now.left.map)
 next c =
     let left = drop c.args.from c.args.machine.now.left.map in
-    let so_many : c.keys.result - c.args.from ≡ length left = omega (arith, c.keys.ensures.len, length-drop c.args.from c.args.machine.now.left.map) in
+    let so_many : c.keys.result - c.args.from ≡ length left =
+    omega (arith, c.keys.ensures.len, length-drop c.args.from c.args.machine.now.left.map) in
     let only : c.args.from + c.min.result - c.args.from ≡ c.min.result = omega arith in
     let count : c.args.from + c.min.result - c.args.from ≡ min 255 (length left) = only ∙ c.min.ensures ∙ ap (λ k. min 255 k) so_many in
     c.in_ok-pairs.ensures.items ∙ ap (λ k. take k left) count ∙ take_least 255 left

@@ -12,12 +12,12 @@ loop-left-preserved c =
     let loop = c.loop-left in
     let now = drop (count - loop.left) map in
     let later = pieces 255 (drop (count - c.saturating_sub-left.result) map) in
-    let whole : pieces 255 now ≡ take 255 now ∷ later = rw c.saturating_sub-left.ensures
-    (pieces_left 255 count loop.left map (omega arith) (sym c.keys-count.ensures.len) (omega (arith, c.loop-left-test.true)) loop.invariant.within) in
+    let whole : pieces 255 now ≡ take 255 now ∷ later = rw c.saturating_sub-left.ensures (pieces_left 255 count loop.left map (omega arith)
+    (sym c.keys-count.ensures.len) (omega (arith, c.loop-left-test.true)) loop.invariant.within) in
     record {
       within = omega (arith, c.saturating_sub-left.ensures, loop.invariant.within);
-      items = rw (c.in_ok-push.ensures.items, c.in_ok-what.ensures.is)
-          (next_piece (λ (ps : List Pair). kept.Pairs ps) loop.records.items (take 255 now) (pieces 255 now) later _ whole loop.invariant.items);
+      items = rw (c.in_ok-push.ensures.items, c.in_ok-what.ensures.is) (next_piece (λ (ps : List Pair). kept.Pairs ps) loop.records.items
+          (take 255 now) (pieces 255 now) later _ whole loop.invariant.items);
       fit = rw c.in_ok-push.ensures.items (fit_more loop.records.items c.in_ok-what.what loop.invariant.fit c.in_ok-what.ensures.fits);
     }
 

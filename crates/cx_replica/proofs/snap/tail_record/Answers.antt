@@ -12,7 +12,8 @@ next c =
     let list = c.args.log.now.list in
     let place = c.args.slot - c.args.log.now.first in
     let left = drop place list in
-    let so_many : c.held.result - c.args.slot ≡ length left = omega (arith, c.held.ensures.held, length-drop place list, c.requires.first, c.requires.within) in
+    let so_many : c.held.result - c.args.slot ≡ length left =
+    omega (arith, c.held.ensures.held, length-drop place list, c.requires.first, c.requires.within) in
     let only : c.args.slot + c.min.result - c.args.slot ≡ c.min.result = omega arith in
     let count : c.args.slot + c.min.result - c.args.slot ≡ min 32 (length left) = only ∙ c.min.ensures ∙ ap (λ k. min 32 k) so_many in
     c.in_ok-values.ensures.items ∙ ap (λ k. take k left) count ∙ take_least 32 left

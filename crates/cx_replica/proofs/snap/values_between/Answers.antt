@@ -8,7 +8,8 @@ loop-at-preserved c =
     let log = c.args.log.now in
     let loop = c.loop-at in
     let one = c.in_ok-value_at.field-0 in
-    let place : c.args.slot - log.first + (loop.at - c.args.slot) ≡ loop.at - log.first = omega (arith, c.requires.first, loop.invariant.order) in
+    let place : c.args.slot - log.first + (loop.at - c.args.slot) ≡ loop.at - log.first =
+    omega (arith, c.requires.first, loop.invariant.order) in
     let next : loop.at + 1 - c.args.slot ≡ loop.at - c.args.slot + 1 = omega (arith, loop.invariant.order) in
     record {
       order = omega (arith, loop.invariant.order);

@@ -10,7 +10,8 @@ returns-in_err-number c =
     let i = c.loop-byte.byte-index in
     let here : i < length word = omega arith in
     let some : 0 < length word = omega arith in
-    rw c.from_residual.ensures (sym (all_digits word some ∙ sym c.loop-byte.invariant.decided ∙ ap (after c.loop-byte.number) (drop_more word i 0 here) ∙ stopped c.loop-byte.number (get_or word i 0) (drop (i + 1) word) c.in_err-number.ensures))
+    rw c.from_residual.ensures (sym (all_digits word some ∙ sym c.loop-byte.invariant.decided ∙ ap (after c.loop-byte.number)
+    (drop_more word i 0 here) ∙ stopped c.loop-byte.number (get_or word i 0) (drop (i + 1) word) c.in_err-number.ensures))
 
 pub returns : goal.returns
 returns c =
@@ -18,4 +19,5 @@ returns c =
     let i = c.loop-byte.byte-index in
     let empty : (length word == 0) ≡ false = sym c.if-is_empty.ensures in
     let some : 0 < length word = grind (arith, nat_tests) in
-    sym (all_digits word some ∙ sym c.loop-byte.invariant.decided ∙ ap (after c.loop-byte.number) (drop_all i word c.loop-byte-test.false) ∙ ended c.loop-byte.number c.loop-byte.invariant.fits)
+    sym (all_digits word some ∙ sym c.loop-byte.invariant.decided ∙ ap (after c.loop-byte.number) (drop_all i word c.loop-byte-test.false)
+    ∙ ended c.loop-byte.number c.loop-byte.invariant.fits)

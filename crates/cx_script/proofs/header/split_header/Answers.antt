@@ -12,6 +12,8 @@ returns-then-is_rule c =
     let part = c.first_part.result.0.now in
     let behind = option_copied c.first_part.result.1 in
     let rule : is_rule (strip_carriage_return part) ≡ true = ap is_rule (sym c.without_return-line.ensures) ∙ sym c.if-is_rule.ensures in
-    let all : List (List ℕ) → Option (List ℕ × List ℕ) = λ parts. option_and_then of_length (option_map (λ (front, rest). (header ++ front, rest)) (header_in parts)) in
+    let all : List (List ℕ) → Option (List ℕ × List ℕ) =
+    λ parts. option_and_then of_length (option_map (λ (front, rest). (header ++ front, rest)) (header_in parts)) in
     let so_far = rw (c.in-Some.is) at c.loop-rest.invariant.so_far in
-    rw c.or_empty.ensures (sym (rule_found header part behind rule c.loop-rest.invariant.room) ∙ ap all (sym c.first_part.ensures.parts) ∙ ap (option_and_then of_length) so_far)
+    rw c.or_empty.ensures (sym (rule_found header part behind rule c.loop-rest.invariant.room) ∙ ap all (sym c.first_part.ensures.parts)
+    ∙ ap (option_and_then of_length) so_far)

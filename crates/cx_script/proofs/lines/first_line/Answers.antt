@@ -9,4 +9,5 @@ returns-clause-some c =
     let bytes = c.args.bytes.now in
     let empty : (length bytes == 0) ≡ false = sym c.if-is_empty.ensures in
     let some : 0 < length bytes = grind (arith, nat_tests) in
-    rw (c.without_return.ensures, c.or_empty.ensures) (line_first bytes c.first_part.result.0.now (option_copied c.first_part.result.1) some c.first_part.ensures.parts)
+    rw (c.without_return.ensures, c.or_empty.ensures)
+    (line_first bytes c.first_part.result.0.now (option_copied c.first_part.result.1) some c.first_part.ensures.parts)

@@ -10,7 +10,8 @@ pub returns-in_err-start-clause-none : goal.returns-in_err-start-clause-none
 returns-in_err-start-clause-none c = rw c.from_residual.ensures (of_blanks c.args.line.now (sym c.in_err-start.ensures))
 
 pub returns-clause-same : goal.returns-clause-same
-returns-clause-same c = rw (take_rest c.args.line.now c.in_ok-start.start) (from_start c.args.line.now c.in_ok-start.start (sym c.in_ok-start.ensures))
+returns-clause-same c =
+    rw (take_rest c.args.line.now c.in_ok-start.start) (from_start c.args.line.now c.in_ok-start.start (sym c.in_ok-start.ensures))
 
 pub returns-clause-letter : goal.returns-clause-letter
 returns-clause-letter c =

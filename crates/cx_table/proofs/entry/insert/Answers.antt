@@ -10,7 +10,8 @@ pub returns-then-are_up_to-clause-items : goal.returns-then-are_up_to-clause-ite
 returns-then-are_up_to-clause-items c =
     let a = c.args.answer.now in
     let all : list_all (λ (x : Answered). nat_le x.seq a.seq) c.args.notes.now.items ≡ true =
-    ap (λ (l : List Answered). list_all (λ (x : Answered). nat_le x.seq a.seq) l) (sym c.as_slice.ensures.value) ∙ sym c.are_up_to.ensures ∙ c.if-are_up_to.true in
+    ap (λ (l : List Answered). list_all (λ (x : Answered). nat_le x.seq a.seq) l) (sym c.as_slice.ensures.value) ∙ sym c.are_up_to.ensures
+    ∙ c.if-are_up_to.true in
     c.push_reserved.ensures.items ∙ at_end a c.args.notes.now.items c.requires.own c.requires.new all
 
 pub returns-clause-items : goal.returns-clause-items
@@ -18,5 +19,6 @@ returns-clause-items c =
     let place = c.place_of-place.result in
     let notes = c.args.notes.now.items in
     let a = c.args.answer.now in
-    let is : IsPlace a.seq notes place = subst (λ (l : List Answered). IsPlace a.seq l place) c.as_slice-2.ensures.value c.place_of-place.ensures.place in
+    let is : IsPlace a.seq notes place =
+    subst (λ (l : List Answered). IsPlace a.seq l place) c.as_slice-2.ensures.value c.place_of-place.ensures.place in
     c.in-Ok.ensures.items ∙ put_in a notes place c.requires.own c.requires.new is (omega (arith, ap length c.as_slice-2.ensures.value))

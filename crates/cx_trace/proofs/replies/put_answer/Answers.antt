@@ -3,4 +3,6 @@ use Rattle.cx_trace.proofs.replies.put_answer.Goals as goal
 
 pub returns-in_err-put_reply-clause-err : goal.returns-in_err-put_reply-clause-err
 returns-in_err-put_reply-clause-err c =
-    on_err c.from_residual-in_err-put_reply.result (behind _ _ _ _ c.in_ok-put.ensures.ok (behind _ _ _ _ c.in_ok-put_answered.ensures.ok (behind _ _ _ _ c.in_ok-put-2.ensures.ok (behind _ _ _ _ c.in_ok-put_number.ensures.ok (behind _ _ _ _ c.in_ok-put-3.ensures.ok c.in_err-put_reply.ensures.err)))))
+    on_err c.from_residual-in_err-put_reply.result
+    (behind _ _ _ _ c.in_ok-put.ensures.ok (behind _ _ _ _ c.in_ok-put_answered.ensures.ok (behind _ _ _ _ c.in_ok-put-2.ensures.ok
+    (behind _ _ _ _ c.in_ok-put_number.ensures.ok (behind _ _ _ _ c.in_ok-put-3.ensures.ok c.in_err-put_reply.ensures.err)))))

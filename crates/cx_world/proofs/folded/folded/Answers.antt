@@ -15,9 +15,10 @@ loop-number-preserved c =
     let done = c.in_ok-execute_kept.ensures in
     let held : more.folded.held ≡ loop.folded.held + length (values_by me one) = rw c.new-me.ensures at done.held in
     let before : more.before ≡ loop.before ++ command_list (values_by me one) = rw c.new-me.ensures at done.before in
-    let store : more.folded.store ≡ map_behind loop.before loop.folded.store (command_list (values_by me one)) = rw c.new-me.ensures at done.store in
-    executed_next me c.args.kept.now loop.number one loop.folded.held more.folded.held loop.before more.before loop.folded.store more.folded.store c.in_ok-at.ensures held before store
-    loop.invariant
+    let store : more.folded.store ≡ map_behind loop.before loop.folded.store (command_list (values_by me one)) =
+    rw c.new-me.ensures at done.store in
+    executed_next me c.args.kept.now loop.number one loop.folded.held more.folded.held loop.before more.before loop.folded.store
+    more.folded.store c.in_ok-at.ensures held before store loop.invariant
 
 pub returns : goal.returns
 returns c =

@@ -40,14 +40,22 @@ returns c =
       replacers = replacers.field-0.items;
     } in
     record {
-      each = by_kind (λ k. HasKind cluster (start cluster).roles [] lists k) (no_client cluster)
-          (opened_kind batcher_rules BatcherIn cluster kind.Batcher batchers.field-0.items refl batchers.ensures.count batchers.ensures.fresh batchers.ensures.seats)
-          (opened_kind leader_rules LeaderIn cluster kind.Leader leaders.field-0.items refl leaders.ensures.count leaders.ensures.fresh leaders.ensures.seats)
-          (opened_kind proxy_rules ProxyIn cluster kind.Proxy proxies.field-0.items refl proxies.ensures.count proxies.ensures.fresh proxies.ensures.seats)
-          (opened_kind acceptor_rules plain cluster kind.Acceptor acceptors.field-0.items refl acceptors.ensures.count acceptors.ensures.fresh acceptors.ensures.seats)
-          (opened_kind matchmaker_rules plain cluster kind.Matchmaker matchmakers.field-0.items refl matchmakers.ensures.count matchmakers.ensures.fresh matchmakers.ensures.seats)
-          (opened_kind replica_rules ReplicaIn cluster kind.Replica replicas.field-0.items refl replicas.ensures.count replicas.ensures.fresh replicas.ensures.seats)
-          (opened_kind unbatcher_rules plain cluster kind.Unbatcher unbatchers.field-0.items refl unbatchers.ensures.count unbatchers.ensures.fresh unbatchers.ensures.seats)
-          (opened_kind reader_rules ReaderIn cluster kind.Reader readers.field-0.items refl readers.ensures.count readers.ensures.fresh readers.ensures.seats)
-          (opened_kind replacer_rules ReplacerIn cluster kind.Replacer replacers.field-0.items refl replacers.ensures.count replacers.ensures.fresh replacers.ensures.seats);
+      each = by_kind (λ k. HasKind cluster (start cluster).roles [] lists k) (no_client cluster) (opened_kind batcher_rules BatcherIn
+          cluster kind.Batcher batchers.field-0.items refl batchers.ensures.count batchers.ensures.fresh batchers.ensures.seats)
+          (opened_kind leader_rules LeaderIn cluster kind.Leader leaders.field-0.items refl leaders.ensures.count leaders.ensures.fresh
+          leaders.ensures.seats)
+          (opened_kind proxy_rules ProxyIn cluster kind.Proxy proxies.field-0.items refl proxies.ensures.count proxies.ensures.fresh
+          proxies.ensures.seats)
+          (opened_kind acceptor_rules plain cluster kind.Acceptor acceptors.field-0.items refl acceptors.ensures.count
+          acceptors.ensures.fresh acceptors.ensures.seats)
+          (opened_kind matchmaker_rules plain cluster kind.Matchmaker matchmakers.field-0.items refl matchmakers.ensures.count
+          matchmakers.ensures.fresh matchmakers.ensures.seats)
+          (opened_kind replica_rules ReplicaIn cluster kind.Replica replicas.field-0.items refl replicas.ensures.count
+          replicas.ensures.fresh replicas.ensures.seats)
+          (opened_kind unbatcher_rules plain cluster kind.Unbatcher unbatchers.field-0.items refl unbatchers.ensures.count
+          unbatchers.ensures.fresh unbatchers.ensures.seats)
+          (opened_kind reader_rules ReaderIn cluster kind.Reader readers.field-0.items refl readers.ensures.count readers.ensures.fresh
+          readers.ensures.seats)
+          (opened_kind replacer_rules ReplacerIn cluster kind.Replacer replacers.field-0.items refl replacers.ensures.count
+          replacers.ensures.fresh replacers.ensures.seats);
     }

@@ -15,7 +15,8 @@ pub invariant_of-self : goal.invariant_of-self
 invariant_of-self c = λ which out.
     let place = c.new-place.result in
     let before : IsOut which c.self.inside.desk.out = still_out which place c.self.inside.desk.out (rw c.take_back.ensures.out at out) in
-    ap (has_store which) c.put_back.ensures ∙ with_has which place _ (map slot_held c.self.inside.slots.items) ∙ c.self.invariant which before
+    ap (has_store which) c.put_back.ensures ∙ with_has which place _ (map slot_held c.self.inside.slots.items)
+    ∙ c.self.invariant which before
 
 pub returns-clause-stored : goal.returns-clause-stored
 returns-clause-stored c = λ tells file is_seen.

@@ -9,6 +9,8 @@ use Rattle.cx_edge.proofs.mem_link.MemLinkLink.bind.Goals as goal
 
 pub returns-clause-once : goal.returns-clause-once
 returns-clause-once c =
-    let binds : List BindRow → Type 0 = λ rows. list_any (λ (row : BindRow). binds_either c.args.role c.args.port (bind_of row)) rows ≡ false in
+    let binds : List BindRow → Type 0 =
+    λ rows. list_any (λ (row : BindRow). binds_either c.args.role c.args.port (bind_of row)) rows ≡ false in
     let none : binds c.self.inside.binds.items = subst binds c.deref-2.ensures.value (sym c.is_bound.ensures ∙ c.if-is_bound.false) in
-    subst (λ (s : LinkState). IfSome s.history (IsUnbound c.args.role c.args.port)) c.self.view_is (told_unbound c.args.role c.args.port c.self.inside.is_silent c.self.inside.binds.items c.self.inside.notes none)
+    subst (λ (s : LinkState). IfSome s.history (IsUnbound c.args.role c.args.port)) c.self.view_is
+    (told_unbound c.args.role c.args.port c.self.inside.is_silent c.self.inside.binds.items c.self.inside.notes none)

@@ -20,5 +20,7 @@ pub returns : goal.returns
 returns c =
     let inside = c.self.inside in
     let all = counts inside.roles.items inside.changes c.self.invariant in
-    let within : c.args.number < length inside.roles.items = omega (arith, c.requires, ap (λ (l : List KeptRecord). length l) c.self.view_is, all, c.self.invariant.same_count) in
-    rw (← c.self.view_is) (one_kept inside.roles.items (changes_in inside.changes) c.args.number c.index-role.result.now c.in_ok-what.what (is_within inside.roles.items c.args.number c.index-role.result.now within c.index-role.ensures) c.in_ok-what.ensures.what)
+    let within : c.args.number < length inside.roles.items =
+    omega (arith, c.requires, ap (λ (l : List KeptRecord). length l) c.self.view_is, all, c.self.invariant.same_count) in
+    rw (← c.self.view_is) (one_kept inside.roles.items (changes_in inside.changes) c.args.number c.index-role.result.now c.in_ok-what.what
+    (is_within inside.roles.items c.args.number c.index-role.result.now within c.index-role.ensures) c.in_ok-what.ensures.what)

@@ -9,7 +9,8 @@ use Rattle.cx_kv.proofs.acting.ExecutedCommands.acts.Goals.{After-judge}
 judged : (c : After-judge) → is_new c.judge.result ≡ acts c.args.self.now c.args.command.now
 judged c =
     ap is_new c.judge.ensures.judge
-    ∙ subst (λ (list : List Command). is_new (judge_of c.self.inside.table.table c.args.command.now.client c.args.command.now.seq) ≡ acts list c.args.command.now) c.self.view_is
+    ∙ subst (λ (list : List Command). is_new (judge_of c.self.inside.table.table c.args.command.now.client c.args.command.now.seq)
+    ≡ acts list c.args.command.now) c.self.view_is
     (acts_new c.self.inside.table.table c.self.inside.commands.items c.args.command.now c.self.invariant)
 
 pub returns-in-New : goal.returns-in-New

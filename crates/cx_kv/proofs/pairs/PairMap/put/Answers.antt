@@ -13,7 +13,8 @@ invariant_of-self c =
     let done = c.set_in.ensures in (
       record {
         below = done.below;
-        rising = subst IsRising (sym done.pairs) (rising_with_text c.args.key.now c.args.text.now (picked c.self.inside.list.items c.self.inside.order.items) ordered.rising);
+        rising = subst IsRising (sym done.pairs)
+            (rising_with_text c.args.key.now c.args.text.now (picked c.self.inside.list.items c.self.inside.order.items) ordered.rising);
       },
       record {
         pairs_fit = omega (arith, room.pairs_fit, some, done.list_len, done.list_room);

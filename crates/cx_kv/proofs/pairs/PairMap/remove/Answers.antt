@@ -11,7 +11,8 @@ invariant_of-self c =
     let done = c.remove_from.ensures in (
       record {
         below = done.below;
-        rising = subst IsRising (sym done.pairs) (rising_without_key c.args.key.now (picked c.self.inside.list.items c.self.inside.order.items) ordered.rising);
+        rising = subst IsRising (sym done.pairs)
+            (rising_without_key c.args.key.now (picked c.self.inside.list.items c.self.inside.order.items) ordered.rising);
       },
       record {
         pairs_fit = omega (arith, room.pairs_fit, done.list_len, done.list_room);

@@ -16,7 +16,8 @@ returns-in_ok-plan-in-Whole c =
     let same : c.in_ok-phase1.phase1 ≡ counting v = search rules in
     let counted = c.in_ok-answer.ensures.counted ∙ ap (λ k. counted_by k p) same ∙ counted_whole (counting v) p whole in
     let cw : c.cw.result ≡ v.cw = rw (← c.self.view_is) c.cw.ensures.cw in
-    let planned : c.in_ok-plan-in-Whole.plan ≡ plan v.cw (v.promises ++ p ∷ []) = c.in_ok-plan-in-Whole.ensures.plan ∙ rw (cw, counted) refl in
+    let planned : c.in_ok-plan-in-Whole.plan ≡ plan v.cw (v.promises ++ p ∷ []) =
+    c.in_ok-plan-in-Whole.ensures.plan ∙ rw (cw, counted) refl in
     let row = ap (lead_with s.cluster s.me c.args.own.now v) planned ∙ ap (told_row s.cluster s.me c.args.own.now v p) (sym whole) in
     let Is = λ (o : Outcome LeaderVolatile). IsReply leader_rules s o c.lead_with.result c.lead_with.new.self c.lead_with.new.out.list in
     subst Is row c.lead_with.ensures

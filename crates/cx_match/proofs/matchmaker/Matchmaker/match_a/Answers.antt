@@ -7,16 +7,19 @@ use Rattle.std.proofs.lemmas.Result.{err_from_is_err_and}
 use Rattle.cx_match.proofs.matchmaker.Matchmaker.match_a.Goals as goal
 
 pub match_nack-requires-clause-other : goal.match_nack-requires-clause-other
-match_nack-requires-clause-other g c = real_above c.args.round c.self.inside.watermark c.requires.round c.self.invariant.watermark (rw c.is_before.ensures at c.if-is_before.true)
+match_nack-requires-clause-other g c = real_above c.args.round c.self.inside.watermark c.requires.round c.self.invariant.watermark
+    (rw c.is_before.ensures at c.if-is_before.true)
 
 pub match_nack-requires-then-has_later-clause-other : goal.match_nack-requires-then-has_later-clause-other
 match_nack-requires-then-has_later-clause-other g c =
     let later = rw (c.has_later.ensures, c.deref.ensures.value) at c.if-has_later.true in
-    rw (c.last_round-last.ensures, c.deref-then-has_later.ensures.value) (greatest_fits c.self.inside.entries.items (some_later c.args.round c.self.inside.entries.items later) c.self.invariant.entries)
+    rw (c.last_round-last.ensures, c.deref-then-has_later.ensures.value)
+    (greatest_fits c.self.inside.entries.items (some_later c.args.round c.self.inside.entries.items later) c.self.invariant.entries)
 
 pub match_nack-requires-then-len-ge-ROUNDS-clause-other : goal.match_nack-requires-then-len-ge-ROUNDS-clause-other
 match_nack-requires-then-len-ge-ROUNDS-clause-other g c =
-    rw (c.last_round-last-then-len-ge-ROUNDS.ensures, c.deref-then-len-ge-ROUNDS.ensures.value) (greatest_fits c.self.inside.entries.items (omega arith) c.self.invariant.entries)
+    rw (c.last_round-last-then-len-ge-ROUNDS.ensures, c.deref-then-len-ge-ROUNDS.ensures.value)
+    (greatest_fits c.self.inside.entries.items (omega arith) c.self.invariant.entries)
 
 pub keep_own-requires : goal.keep_own-requires
 keep_own-requires g c = match_fits c.args.round c.args.grid c.requires.round c.requires.grid
@@ -25,7 +28,8 @@ pub invariant_of-self-2 : goal.invariant_of-self-2
 invariant_of-self-2 g c =
     let last = rw (c.has_later.ensures, c.deref.ensures.value) at c.if-has_later.false in
     let new = rw (c.has_entry.ensures, c.deref-2.ensures.value) at c.if-has_entry.false in
-    let sound = sound_match c.self.inside.me _ c.args.round c.args.grid c.self.invariant c.requires.round c.requires.grid (all_before c.args.round c.self.inside.entries.items last new) (omega arith) in
+    let sound = sound_match c.self.inside.me _ c.args.round c.args.grid c.self.invariant c.requires.round c.requires.grid
+    (all_before c.args.round c.self.inside.entries.items last new) (omega arith) in
     rw (c.push_reserved.ensures.items, c.reserve.ensures.items) sound
 
 pub returns : goal.returns
@@ -34,7 +38,13 @@ returns g c =
     let last = rw (c.has_later.ensures, c.deref.ensures.value) at c.if-has_later.false in
     let new = rw (c.has_entry.ensures, c.deref-2.ensures.value) at c.if-has_entry.false in
     let space = has_space (length c.self.inside.entries.items) (omega arith) in
-    rw (← c.self.view_is, high, last, new, space) (done (record { why = search rules; kept = search rules; state = search rules; sends = one_told _ _ _ _ _ _ _ _ _ _ _ c.self.invariant.who c.requires.sender c.in_ok-entries-2.ensures.earlier c.deref-3.ensures.value c.requires.empty c.in_ok-room-5.ensures.list c.push-2.ensures.list c.match_b-2.ensures }) (search rules))
+    rw (← c.self.view_is, high, last, new, space) (done (record {
+      why = search rules;
+      kept = search rules;
+      state = search rules;
+      sends = one_told _ _ _ _ _ _ _ _ _ _ _ c.self.invariant.who c.requires.sender c.in_ok-entries-2.ensures.earlier
+          c.deref-3.ensures.value c.requires.empty c.in_ok-room-5.ensures.list c.push-2.ensures.list c.match_b-2.ensures;
+    }) (search rules))
 
 pub returns-in_err-keep_own : goal.returns-in_err-keep_own
 returns-in_err-keep_own g c =
@@ -61,11 +71,19 @@ returns-then-len-ge-ROUNDS g c =
     let high = rw c.is_before.ensures at c.if-is_before.false in
     let last = rw (c.has_later.ensures, c.deref.ensures.value) at c.if-has_later.false in
     let new = rw (c.has_entry.ensures, c.deref-2.ensures.value) at c.if-has_entry.false in
-    rw (← c.self.view_is, high, last, new) (done (record { why = search rules; kept = search rules; state = search rules; sends = search rules }) (search rules))
+    rw (← c.self.view_is, high, last, new)
+    (done (record { why = search rules; kept = search rules; state = search rules; sends = search rules }) (search rules))
 
 pub returns-then-has_entry : goal.returns-then-has_entry
 returns-then-has_entry g c =
     let high = rw c.is_before.ensures at c.if-is_before.false in
     let last = rw (c.has_later.ensures, c.deref.ensures.value) at c.if-has_later.false in
     let same = rw (c.has_entry.ensures, c.deref-2.ensures.value) at c.if-has_entry.true in
-    rw (← c.self.view_is, high, last, same) (done (record { why = search rules; kept = search rules; state = search rules; sends = one_told _ _ _ _ _ _ _ _ _ _ _ c.self.invariant.who c.requires.sender c.in_ok-entries.ensures.earlier c.deref-then-has_entry.ensures.value c.requires.empty c.in_ok-room-3.ensures.list c.push-then-has_entry.ensures.list c.match_b.ensures }) (search rules))
+    rw (← c.self.view_is, high, last, same) (done (record {
+      why = search rules;
+      kept = search rules;
+      state = search rules;
+      sends = one_told _ _ _ _ _ _ _ _ _ _ _ c.self.invariant.who c.requires.sender c.in_ok-entries.ensures.earlier
+          c.deref-then-has_entry.ensures.value c.requires.empty c.in_ok-room-3.ensures.list c.push-then-has_entry.ensures.list
+          c.match_b.ensures;
+    }) (search rules))

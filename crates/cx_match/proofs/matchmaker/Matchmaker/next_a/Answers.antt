@@ -3,10 +3,12 @@ use Rattle.cx_match.proofs.SoundLaws.{next_fits, sound_next}
 use Rattle.cx_match.proofs.matchmaker.Matchmaker.next_a.Goals as goal
 
 pub stop_nack-requires-clause-other : goal.stop_nack-requires-clause-other
-stop_nack-requires-clause-other g c = real_above c.args.round c.self.inside.ballot c.requires.round c.self.invariant.ballot (rw c.is_before.ensures at c.if-is_before.true)
+stop_nack-requires-clause-other g c =
+    real_above c.args.round c.self.inside.ballot c.requires.round c.self.invariant.ballot (rw c.is_before.ensures at c.if-is_before.true)
 
 pub keep_own-requires : goal.keep_own-requires
 keep_own-requires g c = next_fits c.args.round c.args.set.now c.requires.round c.set_fits.ensures
 
 pub invariant_of-self-2 : goal.invariant_of-self-2
-invariant_of-self-2 g c = sound_next c.self.inside.me _ c.self.invariant c.args.self.now.cluster c.args.round c.args.set.now c.requires.round c.requires.set
+invariant_of-self-2 g c =
+    sound_next c.self.inside.me _ c.self.invariant c.args.self.now.cluster c.args.round c.args.set.now c.requires.round c.requires.set

@@ -3,4 +3,5 @@ use Rattle.cx_match.proofs.SoundLaws.{empty_sound}
 use Rattle.cx_match.proofs.matchmaker.MatchmakerRole.new.Goals as goal
 
 pub invariant_of-result : goal.invariant_of-result
-invariant_of-result c = rw (c.new.ensures.items, c.empty.ensures) (empty_sound c.args.me (ap (λ (k : Kind). role k c.args.me.index) c.requires.kind))
+invariant_of-result c =
+    rw (c.new.ensures.items, c.empty.ensures) (empty_sound c.args.me (ap (λ (k : Kind). role k c.args.me.index) c.requires.kind))

@@ -49,8 +49,8 @@ returns-in_err-send_all-clause-acts g c =
     (c.index_mut.ensures.value ∙ ap (λ xs. get_or xs i h) same) in
     let p = err_from_is_err_and c.from_residual-in_err-send_all.result c.from_residual-in_err-send_all.ensures.1 in
     let is : c.from_residual-in_err-send_all.result ≡ Err stop.NoMemory = p.1 ∙ ap Err p.2 in
-    rw (is, same)
-    (acts_unsent (changing g.K.Keeper.append_gives g.K.Renew.renew_gives) cl gs i c.args.what.now h c.ask_if.new.seat here c.requires.ready c.in_ok-ask_if.ensures.name
+    rw (is, same) (acts_unsent (changing g.K.Keeper.append_gives g.K.Renew.renew_gives) cl gs i c.args.what.now h c.ask_if.new.seat here
+    c.requires.ready c.in_ok-ask_if.ensures.name
     r c.send_all.new.recorder (g.L.Link.history c.args.link.now) (g.L.Link.history c.send_all.new.link) (g.W.Sink.taken c.args.out.now)
     c.ask_if.new.events.items (rw same_recorded at c.in_ok-ask_if.ensures.events) (rw same_recorded at c.in_ok-ask_if.ensures.fits)
     c.in_ok-ask_if.ensures.kept
@@ -75,8 +75,8 @@ returns-in_err-take_down-clause-acts g c =
     (c.index_mut.ensures.value ∙ ap (λ xs. get_or xs i h) same) in
     let p = err_from_is_err_and c.from_residual-in_err-take_down.result c.from_residual-in_err-take_down.ensures.1 in
     let is : c.from_residual-in_err-take_down.result ≡ Err stop.NoMemory = p.1 ∙ ap Err p.2 in
-    rw (is, same)
-    (acts_unspelled (changing g.K.Keeper.append_gives g.K.Renew.renew_gives) cl gs i c.args.what.now h c.ask_if.new.seat here c.requires.ready c.in_ok-ask_if.ensures.name
+    rw (is, same) (acts_unspelled (changing g.K.Keeper.append_gives g.K.Renew.renew_gives) cl gs i c.args.what.now h c.ask_if.new.seat here
+    c.requires.ready c.in_ok-ask_if.ensures.name
     r c.take_down.new.recorder (g.L.Link.history c.args.link.now) (g.L.Link.history c.send_all.new.link) (g.W.Sink.taken c.args.out.now)
     c.ask_if.new.events.items (rw same_recorded at c.in_ok-ask_if.ensures.events) (rw same_recorded at c.in_ok-ask_if.ensures.fits)
     c.in_ok-ask_if.ensures.kept
@@ -97,8 +97,8 @@ returns-then-not-write_all-clause-acts g c =
     let text_is : c.take_down.new.text.items ≡ shown (option_map (noting c.ask_if.new.outbox.list) r) c.ask_if.new.events.items
     c.ask_if.new.text.items =
     rw (c.in_ok-send_all.ensures.noted, c.as_slice.ensures, same_recorded, c.deref.ensures.value) at c.in_ok-take_down.ensures.text in
-    rw same
-    (acts_unwritten (changing g.K.Keeper.append_gives g.K.Renew.renew_gives) cl gs i c.args.what.now h c.ask_if.new.seat here c.requires.ready c.in_ok-ask_if.ensures.name
+    rw same (acts_unwritten (changing g.K.Keeper.append_gives g.K.Renew.renew_gives) cl gs i c.args.what.now h c.ask_if.new.seat here
+    c.requires.ready c.in_ok-ask_if.ensures.name
     r c.take_down.new.recorder (g.L.Link.history c.args.link.now) (g.L.Link.history c.send_all.new.link) (g.W.Sink.taken c.args.out.now)
     (g.W.Sink.taken c.write_all.new.sink) c.ask_if.new.outbox.list c.ask_if.new.events.items c.ask_if.new.text.items
     c.take_down.new.text.items c.in_ok-ask_if.ensures.kept c.in_ok-ask_if.ensures.sends c.in_ok-ask_if.ensures.text
@@ -124,8 +124,8 @@ returns-clause-acts g c =
     let counted : c.take_down.new.recorder
     ≡ option_map (with_more_lines (length c.ask_if.new.events.items)) (option_map (noting c.ask_if.new.outbox.list) r) =
     rw (c.in_ok-send_all.ensures.noted, c.as_slice.ensures, same_recorded, c.deref.ensures.value) at c.in_ok-take_down.ensures.counted in
-    rw same
-    (acts_seated (changing g.K.Keeper.append_gives g.K.Renew.renew_gives) cl gs i c.args.what.now h c.ask_if.new.seat here c.requires.ready c.in_ok-ask_if.ensures.name
+    rw same (acts_seated (changing g.K.Keeper.append_gives g.K.Renew.renew_gives) cl gs i c.args.what.now h c.ask_if.new.seat here
+    c.requires.ready c.in_ok-ask_if.ensures.name
     r c.take_down.new.recorder (g.L.Link.history c.args.link.now) (g.L.Link.history c.send_all.new.link) (g.W.Sink.taken c.args.out.now)
     (g.W.Sink.taken c.write_all.new.sink) c.ask_if.new.outbox.list c.ask_if.new.events.items c.ask_if.new.text.items
     c.take_down.new.text.items c.in_ok-ask_if.ensures.role c.in_ok-ask_if.ensures.kept c.in_ok-ask_if.ensures.live

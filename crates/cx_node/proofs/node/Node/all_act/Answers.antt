@@ -56,9 +56,8 @@ returns-in_err-act-clause-acts g c =
       length-map c.args.self.now.guests
           (hosted_of {K = g.row.K.Denot}),
     ) in
-    rw is
-    (next_stopped (changing g.K.Keeper.append_gives g.K.Renew.renew_gives) c.args.self.now.cluster c.args.what.now s l.place c.in_err-act.field-0.0
-    (scene_of g.L.Link g.W.Sink c.args.self.now c.args.link.now c.args.out.now) before now more l.invariant.acts
+    rw is (next_stopped (changing g.K.Keeper.append_gives g.K.Renew.renew_gives) c.args.self.now.cluster c.args.what.now s l.place
+    c.in_err-act.field-0.0 (scene_of g.L.Link g.W.Sink c.args.self.now c.args.link.now c.args.out.now) before now more l.invariant.acts
     (subst (λ (cl : Cluster). Acts (changing g.K.Keeper.append_gives g.K.Renew.renew_gives) cl []
     (does_at l.place c.args.what.now (course_at l.self))
     (Err c.in_err-act.field-0.0) before now) l.invariant.cluster c.in_err-act.ensures.acts))
@@ -75,6 +74,6 @@ returns-clause-acts g c =
       length-map c.args.self.now.guests
           (hosted_of {K = g.row.K.Denot}),
     ) in
-    subst (λ k. Acts (changing g.K.Keeper.append_gives g.K.Renew.renew_gives) c.args.self.now.cluster [] (first_do k c.args.what.now s) (Ok tt)
-    (scene_of g.L.Link g.W.Sink c.args.self.now c.args.link.now c.args.out.now)
+    subst (λ k. Acts (changing g.K.Keeper.append_gives g.K.Renew.renew_gives) c.args.self.now.cluster [] (first_do k c.args.what.now s)
+    (Ok tt) (scene_of g.L.Link g.W.Sink c.args.self.now c.args.link.now c.args.out.now)
     (scene_of g.L.Link g.W.Sink l.self l.link l.out)) all l.invariant.acts

@@ -22,9 +22,8 @@ pub returns-in_err-all_act-clause-acts : goal.returns-in_err-all_act-clause-acts
 returns-in_err-all_act-clause-acts g c =
     let p = err_from_is_err_and c.from_residual-in_err-all_act.result c.from_residual-in_err-all_act.ensures.1 in
     let is : c.from_residual-in_err-all_act.result ≡ Err c.in_err-all_act.field-0.0 = p.1 ∙ ap Err p.2 in
-    rw is
-    (stopped_begun (changing g.K.Keeper.append_gives g.K.Renew.renew_gives) c.args.tend c.args.self.now.cluster c.args.turns c.in_err-all_act.field-0.0
-    (scene_of g.L.Link g.W.Sink c.args.self.now c.args.link.now c.args.out.now)
+    rw is (stopped_begun (changing g.K.Keeper.append_gives g.K.Renew.renew_gives) c.args.tend c.args.self.now.cluster c.args.turns
+    c.in_err-all_act.field-0.0 (scene_of g.L.Link g.W.Sink c.args.self.now c.args.link.now c.args.out.now)
     (scene_of g.L.Link g.W.Sink c.all_act.new.self c.all_act.new.link c.all_act.new.out) c.in_err-all_act.ensures.acts)
 
 pub loop-made-init : goal.loop-made-init

@@ -19,9 +19,8 @@ returns-in_err-counts-clause-acts g c =
     let now = scene_of g.L.Link g.W.Sink c.tick_in_turn.new.self c.tick_in_turn.new.link c.tick_in_turn.new.out in
     let p = err_from_is_err_and c.from_residual-in_err-counts.result c.from_residual-in_err-counts.ensures.1 in
     let is : c.from_residual-in_err-counts.result ≡ Err NoMemory = p.1 ∙ ap Err p.2 in
-    rw is
-    (then_stops (changing g.K.Keeper.append_gives g.K.Renew.renew_gives) c.args.self.now.cluster (in_turn (is_overtaken k.counts) k.queue s) before now
-    (subst (λ (l : List ℕ). Acts (changing g.K.Keeper.append_gives g.K.Renew.renew_gives) c.args.self.now.cluster []
+    rw is (then_stops (changing g.K.Keeper.append_gives g.K.Renew.renew_gives) c.args.self.now.cluster (in_turn (is_overtaken k.counts)
+    k.queue s) before now (subst (λ (l : List ℕ). Acts (changing g.K.Keeper.append_gives g.K.Renew.renew_gives) c.args.self.now.cluster []
     (in_turn (is_overtaken k.counts) l s) (Ok tt) before now) c.queue.ensures c.in_ok-tick_in_turn.ensures.acts))
 
 pub returns-in_err-begin_pass-clause-acts : goal.returns-in_err-begin_pass-clause-acts
@@ -32,9 +31,8 @@ returns-in_err-begin_pass-clause-acts g c =
     let now = scene_of g.L.Link g.W.Sink c.tick_in_turn.new.self c.tick_in_turn.new.link c.tick_in_turn.new.out in
     let p = err_from_is_err_and c.from_residual-in_err-begin_pass.result c.from_residual-in_err-begin_pass.ensures.1 in
     let is : c.from_residual-in_err-begin_pass.result ≡ Err NoMemory = p.1 ∙ ap Err p.2 in
-    rw is
-    (then_stops (changing g.K.Keeper.append_gives g.K.Renew.renew_gives) c.args.self.now.cluster (in_turn (is_overtaken k.counts) k.queue s) before now
-    (subst (λ (l : List ℕ). Acts (changing g.K.Keeper.append_gives g.K.Renew.renew_gives) c.args.self.now.cluster []
+    rw is (then_stops (changing g.K.Keeper.append_gives g.K.Renew.renew_gives) c.args.self.now.cluster (in_turn (is_overtaken k.counts)
+    k.queue s) before now (subst (λ (l : List ℕ). Acts (changing g.K.Keeper.append_gives g.K.Renew.renew_gives) c.args.self.now.cluster []
     (in_turn (is_overtaken k.counts) l s) (Ok tt) before now) c.queue.ensures c.in_ok-tick_in_turn.ensures.acts))
 
 pub returns-clause-care : goal.returns-clause-care

@@ -13,7 +13,8 @@ returns-in_default g c = held_none c.args.self.now.guests c.args.role (sym c.fin
 pub index-requires : goal.index-requires
 index-requires g c =
     let same = ap (λ (s : NodeState g.row.K.Denot). s.guests) c.self.view_is in
-    let inside : c.in-Some.place < length c.args.self.now.guests = place_within c.args.role c.args.self.now.guests c.in-Some.place (sym c.find.ensures ∙ c.in-Some.is) in
+    let inside : c.in-Some.place < length c.args.self.now.guests =
+    place_within c.args.role c.args.self.now.guests c.in-Some.place (sym c.find.ensures ∙ c.in-Some.is) in
     omega (arith, inside, ap length same, c.self.inside.seats.ok.0)
 
 pub returns : goal.returns

@@ -66,8 +66,8 @@ returns-clause-acts g c =
     let inside : i < length gs = place_within (role kind.Leader 0) gs i found in
     let here : slice_get gs i ≡ Some h = slice_get_read gs (length gs) i h refl inside
     (c.index.ensures ∙ ap (λ xs. get_or xs i h) same) in
-    lead_idle (changing g.K.Keeper.append_gives g.K.Renew.renew_gives) c.args.self.now.cluster (hosted_place (role kind.Leader 0) hs) i c.act.result
-    (scene_of g.L.Link g.W.Sink c.args.self.now c.args.link.now c.args.out.now)
+    lead_idle (changing g.K.Keeper.append_gives g.K.Renew.renew_gives) c.args.self.now.cluster (hosted_place (role kind.Leader 0) hs) i
+    c.act.result (scene_of g.L.Link g.W.Sink c.args.self.now c.args.link.now c.args.out.now)
     (scene_of g.L.Link g.W.Sink c.act.new.self c.act.new.link c.act.new.out) found
     (ap idle_at (hosted_at gs i h here) ∙ sym c.is_idle_leader.ensures ∙ c.if-not-is_idle_leader.false)
     (subst (λ (s : Shape). Acts (changing g.K.Keeper.append_gives g.K.Renew.renew_gives) c.args.self.now.cluster []

@@ -12,12 +12,14 @@ use Rattle.cx_node.proofs.Tended.{first_none, first_some}
 use Rattle.cx_node.proofs.node.Node.standing.Goals as goal
 
 pub returns-in_default : goal.returns-in_default
-returns-in_default g c = sym (ap (option_map standing_of) (first_none c.args.self.now.guests (ap (λ r. hosted_place r (hosted_in c.args.self.now.guests)) (sym c.first_name.ensures) ∙ sym c.find.ensures ∙ c.in_default.is)))
+returns-in_default g c = sym (ap (option_map standing_of) (first_none c.args.self.now.guests
+    (ap (λ r. hosted_place r (hosted_in c.args.self.now.guests)) (sym c.first_name.ensures) ∙ sym c.find.ensures ∙ c.in_default.is)))
 
 pub index-requires : goal.index-requires
 index-requires g c =
     let same = ap (λ (s : NodeState g.row.K.Denot). s.guests) c.self.view_is in
-    let inside : c.in-Some.place < length c.args.self.now.guests = place_within c.first_name.result c.args.self.now.guests c.in-Some.place (sym c.find.ensures ∙ c.in-Some.is) in
+    let inside : c.in-Some.place < length c.args.self.now.guests =
+    place_within c.first_name.result c.args.self.now.guests c.in-Some.place (sym c.find.ensures ∙ c.in-Some.is) in
     omega (arith, inside, ap length same, c.self.inside.seats.ok.0)
 
 pub returns : goal.returns
@@ -27,7 +29,8 @@ returns g c =
     let same = ap (λ (s : NodeState g.row.K.Denot). s.guests) c.self.view_is in
     let i = c.in-Some.place in
     let h = c.index.result.now in
-    let found : hosted_place (role kind.Leader 0) hs ≡ Some i = ap (λ r. hosted_place r hs) (sym c.first_name.ensures) ∙ sym c.find.ensures ∙ c.in-Some.is in
+    let found : hosted_place (role kind.Leader 0) hs ≡ Some i =
+    ap (λ r. hosted_place r hs) (sym c.first_name.ensures) ∙ sym c.find.ensures ∙ c.in-Some.is in
     let inside : i < length gs = place_within (role kind.Leader 0) gs i found in
     let here : slice_get gs i ≡ Some h = slice_get_read gs (length gs) i h refl inside (c.index.ensures ∙ ap (λ xs. get_or xs i h) same) in
     c.standing.ensures ∙ ap (option_map standing_of) (sym (first_some gs i h found here))

@@ -12,8 +12,8 @@ pub returns-in_err-tend_order-clause-acts : goal.returns-in_err-tend_order-claus
 returns-in_err-tend_order-clause-acts g c =
     let p = err_from_is_err_and c.from_residual.result c.from_residual.ensures.1 in
     let is : c.from_residual.result ≡ Err c.in_err-tend_order.field-0.0 = p.1 ∙ ap Err p.2 in
-    rw is (tend_prepare_order (changing g.K.Keeper.append_gives g.K.Renew.renew_gives) c.args.self.now.cluster c.args.n c.in_err-tend_order.field-0.0
-    (scene_of g.L.Link g.W.Sink c.args.self.now c.args.link.now c.args.out.now)
+    rw is (tend_prepare_order (changing g.K.Keeper.append_gives g.K.Renew.renew_gives) c.args.self.now.cluster c.args.n
+    c.in_err-tend_order.field-0.0 (scene_of g.L.Link g.W.Sink c.args.self.now c.args.link.now c.args.out.now)
     (scene_of g.L.Link g.W.Sink c.tend_order.new.self c.tend_order.new.link c.tend_order.new.out) c.in_err-tend_order.ensures.acts)
 
 pub returns-clause-acts : goal.returns-clause-acts

@@ -20,7 +20,9 @@ returns-in_err-come-clause-acts g c =
     let out = g.W.Sink.taken c.args.out.now in
     let p = err_from_is_err_and c.from_residual.result c.from_residual.ensures.1 in
     let is : c.from_residual.result ≡ Err c.in_err-come.field-0.0 = p.1 ∙ ap Err p.2 in
-    let took = took_fault (changing g.K.Keeper.append_gives g.K.Renew.renew_gives) c.args.self.now.cluster gs known link mid out c.in_err-come.field-0.0 c.requires.ready (subst (λ (k : Option Recorded). Receives k link mid (Err c.in_err-come.field-0.0)) same_known c.in_err-come.ensures.receives) in
+    let took = took_fault (changing g.K.Keeper.append_gives g.K.Renew.renew_gives)
+    c.args.self.now.cluster gs known link mid out c.in_err-come.field-0.0 c.requires.ready
+    (subst (λ (k : Option Recorded). Receives k link mid (Err c.in_err-come.field-0.0)) same_known c.in_err-come.ensures.receives) in
     rw (is, same, same_known) (took.0, took.1, tt)
 
 pub returns-in_err-heed-in-Letter-clause-acts : goal.returns-in_err-heed-in-Letter-clause-acts
@@ -33,11 +35,13 @@ returns-in_err-heed-in-Letter-clause-acts g c =
     let mid = g.L.Link.history c.receive.new.link in
     let out = g.W.Sink.taken c.args.out.now in
     let same_cluster : c.self.inside.cluster ≡ c.args.self.now.cluster = ap (λ (s : NodeState g.row.K.Denot). s.cluster) c.self.view_is in
-    let got : Receives known link mid (Ok (come.Letter c.in-Letter.number c.in-Letter.datagram)) = subst (λ (o : Come). Receives known link mid (Ok o)) c.in-Letter.is (rw same_known at c.in_ok-come.ensures.receives) in
+    let got : Receives known link mid (Ok (come.Letter c.in-Letter.number c.in-Letter.datagram)) =
+    subst (λ (o : Come). Receives known link mid (Ok o)) c.in-Letter.is (rw same_known at c.in_ok-come.ensures.receives) in
     let p = err_from_is_err_and c.from_residual-in_err-heed-in-Letter.result c.from_residual-in_err-heed-in-Letter.ensures.1 in
     let is : c.from_residual-in_err-heed-in-Letter.result ≡ Err c.in_err-heed-in-Letter.field-0.0 = p.1 ∙ ap Err p.2 in
-    let took = took_letter (changing g.K.Keeper.append_gives g.K.Renew.renew_gives) c.args.self.now.cluster c.in-Letter.number c.in-Letter.datagram gs known link mid out (Err c.in_err-heed-in-Letter.field-0.0) (scene_of g.L.Link g.W.Sink c.heed.new.self c.heed.new.link c.heed.new.out) c.requires.ready got
-    (rw (same, same_known, same_cluster) at c.in_err-heed-in-Letter.ensures.acts) in
+    let took = took_letter (changing g.K.Keeper.append_gives g.K.Renew.renew_gives) c.args.self.now.cluster c.in-Letter.number
+    c.in-Letter.datagram gs known link mid out (Err c.in_err-heed-in-Letter.field-0.0) (scene_of g.L.Link g.W.Sink c.heed.new.self
+    c.heed.new.link c.heed.new.out) c.requires.ready got (rw (same, same_known, same_cluster) at c.in_err-heed-in-Letter.ensures.acts) in
     rw is (took.0, took.1, tt)
 
 pub returns-in_ok-heed-in-Letter-clause-acts : goal.returns-in_ok-heed-in-Letter-clause-acts
@@ -50,8 +54,10 @@ returns-in_ok-heed-in-Letter-clause-acts g c =
     let mid = g.L.Link.history c.receive.new.link in
     let out = g.W.Sink.taken c.args.out.now in
     let same_cluster : c.self.inside.cluster ≡ c.args.self.now.cluster = ap (λ (s : NodeState g.row.K.Denot). s.cluster) c.self.view_is in
-    let got : Receives known link mid (Ok (come.Letter c.in-Letter.number c.in-Letter.datagram)) = subst (λ (o : Come). Receives known link mid (Ok o)) c.in-Letter.is (rw same_known at c.in_ok-come.ensures.receives) in
-    took_letter (changing g.K.Keeper.append_gives g.K.Renew.renew_gives) c.args.self.now.cluster c.in-Letter.number c.in-Letter.datagram gs known link mid out (Ok tt) (scene_of g.L.Link g.W.Sink c.heed.new.self c.heed.new.link c.heed.new.out) c.requires.ready got
+    let got : Receives known link mid (Ok (come.Letter c.in-Letter.number c.in-Letter.datagram)) =
+    subst (λ (o : Come). Receives known link mid (Ok o)) c.in-Letter.is (rw same_known at c.in_ok-come.ensures.receives) in
+    took_letter (changing g.K.Keeper.append_gives g.K.Renew.renew_gives) c.args.self.now.cluster c.in-Letter.number c.in-Letter.datagram gs
+    known link mid out (Ok tt) (scene_of g.L.Link g.W.Sink c.heed.new.self c.heed.new.link c.heed.new.out) c.requires.ready got
     (rw (same, same_known, same_cluster) at c.in_ok-heed-in-Letter.ensures.acts)
 
 pub returns-in-Foreign-clause-acts : goal.returns-in-Foreign-clause-acts
@@ -63,7 +69,9 @@ returns-in-Foreign-clause-acts g c =
     let link = g.L.Link.history c.args.link.now in
     let mid = g.L.Link.history c.receive.new.link in
     let out = g.W.Sink.taken c.args.out.now in
-    rw (same, same_known) (took_foreign (changing g.K.Keeper.append_gives g.K.Renew.renew_gives) c.args.self.now.cluster gs known link mid out c.requires.ready (subst (λ (o : Come). Receives known link mid (Ok o)) c.in-Foreign.is (rw same_known at c.in_ok-come.ensures.receives)))
+    rw (same, same_known)
+    (took_foreign (changing g.K.Keeper.append_gives g.K.Renew.renew_gives) c.args.self.now.cluster gs known link mid out c.requires.ready
+    (subst (λ (o : Come). Receives known link mid (Ok o)) c.in-Foreign.is (rw same_known at c.in_ok-come.ensures.receives)))
 
 pub returns-in-Nothing-clause-acts : goal.returns-in-Nothing-clause-acts
 returns-in-Nothing-clause-acts g c =
@@ -74,4 +82,6 @@ returns-in-Nothing-clause-acts g c =
     let link = g.L.Link.history c.args.link.now in
     let mid = g.L.Link.history c.receive.new.link in
     let out = g.W.Sink.taken c.args.out.now in
-    rw (same, same_known) (took_nothing (changing g.K.Keeper.append_gives g.K.Renew.renew_gives) c.args.self.now.cluster gs known link mid out c.requires.ready (subst (λ (o : Come). Receives known link mid (Ok o)) c.in-Nothing.is (rw same_known at c.in_ok-come.ensures.receives)))
+    rw (same, same_known)
+    (took_nothing (changing g.K.Keeper.append_gives g.K.Renew.renew_gives) c.args.self.now.cluster gs known link mid out c.requires.ready
+    (subst (λ (o : Come). Receives known link mid (Ok o)) c.in-Nothing.is (rw same_known at c.in_ok-come.ensures.receives)))

@@ -28,7 +28,8 @@ returns-then-is_meant_at-clause-acts g c =
     let same = ap (λ (s : NodeState g.row.K.Denot). s.guests) c.self.view_is in
     let i = c.args.place in
     let test = is_meant c.args.whom c.args.care.now.counts i in
-    due (changing g.K.Keeper.append_gives g.K.Renew.renew_gives) c.args.self.now.cluster (is_so test (slice_get hs i)) (does_at i (Give 0 input.Tick) (course_at c.args.self.now))
+    due (changing g.K.Keeper.append_gives g.K.Renew.renew_gives) c.args.self.now.cluster (is_so test (slice_get hs i))
+    (does_at i (Give 0 input.Tick) (course_at c.args.self.now))
     c.act.result (scene_of g.L.Link g.W.Sink c.args.self.now c.args.link.now c.args.out.now)
     (scene_of g.L.Link g.W.Sink c.act.new.self c.act.new.link c.act.new.out)
     (so_at test gs _ i c.is_meant_at.result (c.deref.ensures.value ∙ same) c.is_meant_at.ensures ∙ c.if-is_meant_at.true)
@@ -41,7 +42,7 @@ returns-clause-acts g c =
     let same = ap (λ (s : NodeState g.row.K.Denot). s.guests) c.self.view_is in
     let i = c.args.place in
     let test = is_meant c.args.whom c.args.care.now.counts i in
-    not_due (changing g.K.Keeper.append_gives g.K.Renew.renew_gives) c.args.self.now.cluster (is_so test (slice_get hs i)) (does_at i (Give 0 input.Tick) (course_at c.args.self.now))
-    (scene_of g.L.Link g.W.Sink c.args.self.now c.args.link.now c.args.out.now)
+    not_due (changing g.K.Keeper.append_gives g.K.Renew.renew_gives) c.args.self.now.cluster (is_so test (slice_get hs i))
+    (does_at i (Give 0 input.Tick) (course_at c.args.self.now)) (scene_of g.L.Link g.W.Sink c.args.self.now c.args.link.now c.args.out.now)
     (so_at test gs _ i c.is_meant_at.result (c.deref.ensures.value ∙ same) c.is_meant_at.ensures ∙ c.if-is_meant_at.false)
     c.requires.ready

@@ -15,9 +15,8 @@ use Rattle.cx_node.proofs.node.Node.tick_in_turn.Goals as goal
 pub loop-place-init : goal.loop-place-init
 loop-place-init g c =
     record {
-      acts =
-          none_asked (changing g.K.Keeper.append_gives g.K.Renew.renew_gives) c.args.self.now.cluster (is_meant c.args.whom c.args.care.now.counts)
-          c.args.places.now c.args.places.now
+      acts = none_asked (changing g.K.Keeper.append_gives g.K.Renew.renew_gives) c.args.self.now.cluster
+          (is_meant c.args.whom c.args.care.now.counts) c.args.places.now c.args.places.now
           (scene_of g.L.Link g.W.Sink c.args.self.now c.args.link.now c.args.out.now) refl;
       ready = c.requires.ready;
       blames = no_blame (failed g.L.Link g.W.Sink c.args.link.now c.args.out.now);
@@ -69,7 +68,7 @@ pub returns-clause-acts : goal.returns-clause-acts
 returns-clause-acts g c =
     let l = c.loop-place in
     let all = c.args.places.now in
-    all_asked (changing g.K.Keeper.append_gives g.K.Renew.renew_gives) c.args.self.now.cluster (is_meant c.args.whom c.args.care.now.counts) all
-    (drop l.place-index all) (scene_of g.L.Link g.W.Sink c.args.self.now c.args.link.now c.args.out.now)
+    all_asked (changing g.K.Keeper.append_gives g.K.Renew.renew_gives) c.args.self.now.cluster (is_meant c.args.whom c.args.care.now.counts)
+    all (drop l.place-index all) (scene_of g.L.Link g.W.Sink c.args.self.now c.args.link.now c.args.out.now)
     (scene_of g.L.Link g.W.Sink l.self l.link l.out) (drop_all l.place-index all c.loop-place-test.false)
     l.invariant.acts l.invariant.ready

@@ -19,9 +19,8 @@ loop-place-init g c =
     let n = length (hosted_in c.args.self.now.guests) in
     let whole : n - 0 ≡ n = omega arith in
     record {
-      acts =
-          none_asked (changing g.K.Keeper.append_gives g.K.Renew.renew_gives) c.args.self.now.cluster (is_meant c.args.whom c.args.care.now.counts)
-          (below n) (numbers 0 (n - 0))
+      acts = none_asked (changing g.K.Keeper.append_gives g.K.Renew.renew_gives) c.args.self.now.cluster
+          (is_meant c.args.whom c.args.care.now.counts) (below n) (numbers 0 (n - 0))
           (scene_of g.L.Link g.W.Sink c.args.self.now c.args.link.now c.args.out.now) (ap (numbers 0) whole);
       ready = c.requires.ready;
       blames = no_blame (failed g.L.Link g.W.Sink c.args.link.now c.args.out.now);
@@ -44,9 +43,8 @@ loop-place-preserved g c =
           (hosted_of {K = g.row.K.Denot}),
     ) in
     record {
-      acts =
-          one_asked (changing g.K.Keeper.append_gives g.K.Renew.renew_gives) c.args.self.now.cluster test (below n) (numbers l.place (n - l.place))
-          (numbers (l.place + 1) (n - (l.place + 1))) l.place
+      acts = one_asked (changing g.K.Keeper.append_gives g.K.Renew.renew_gives) c.args.self.now.cluster test (below n)
+          (numbers l.place (n - l.place)) (numbers (l.place + 1) (n - (l.place + 1))) l.place
           (scene_of g.L.Link g.W.Sink c.args.self.now c.args.link.now c.args.out.now) before now
           (numbers_more l.place n more) l.invariant.acts
           (subst (λ (cl : Cluster). Acts (changing g.K.Keeper.append_gives g.K.Renew.renew_gives) cl []
@@ -74,9 +72,8 @@ returns-in_err-tick_at-clause-acts g c =
       length-map c.args.self.now.guests
           (hosted_of {K = g.row.K.Denot}),
     ) in
-    rw is
-    (one_stopped (changing g.K.Keeper.append_gives g.K.Renew.renew_gives) c.args.self.now.cluster test (below n) (numbers l.place (n - l.place))
-    (numbers (l.place + 1) (n - (l.place + 1))) l.place c.in_err-tick_at.field-0.0
+    rw is (one_stopped (changing g.K.Keeper.append_gives g.K.Renew.renew_gives) c.args.self.now.cluster test (below n)
+    (numbers l.place (n - l.place)) (numbers (l.place + 1) (n - (l.place + 1))) l.place c.in_err-tick_at.field-0.0
     (scene_of g.L.Link g.W.Sink c.args.self.now c.args.link.now c.args.out.now) before now
     (numbers_more l.place n more) l.invariant.acts
     (subst (λ (cl : Cluster). Acts (changing g.K.Keeper.append_gives g.K.Renew.renew_gives) cl []

@@ -10,7 +10,8 @@ use Rattle.cx_phase1.proofs.phase1.Phase1.plan.Goals.{After-plan}
 
 -- the plan that is found is the one of the promises
 found : (c : After-plan) → IfOk c.plan.result (λ found. found ≡ plan c.args.low c.self.inside.told.items)
-found c = subst (λ (p : Plan). IfOk c.plan.result (λ found. found ≡ p)) (plan_same c.args.low c.self.inside.told.items c.self.inside.best c.self.inside.end c.self.invariant.best) c.plan.ensures
+found c = subst (λ (p : Plan). IfOk c.plan.result (λ found. found ≡ p))
+    (plan_same c.args.low c.self.inside.told.items c.self.inside.best c.self.inside.end c.self.invariant.best) c.plan.ensures
 
 ranges : (r : Result Plan NoMemory) (p : Plan) → IfOk r (λ found. found ≡ p) → IsPlan p → IfOk r IsPlan
 ranges (Ok x) p same is = subst IsPlan (sym same) is

@@ -6,13 +6,16 @@ use Rattle.cx_pieces.proofs.chunk.Chunk.get.Goals as goal
 pub between-requires-clause-order : goal.between-requires-clause-order
 between-requires-clause-order c =
     let inside = c.self.inside in
-    let there : slice_get inside.ends.items c.args.number ≡ Some c.in-Some.end = rw (← c.deref.ensures.value) (sym c.end_of.ensures ∙ c.in-Some.is) in
-    rw (c.begin_of.ensures, c.deref-in-Some.ensures.value) (lies 0 inside.ends.items (length inside.bytes) c.args.number c.in-Some.end c.self.invariant there).0
+    let there : slice_get inside.ends.items c.args.number ≡ Some c.in-Some.end =
+    rw (← c.deref.ensures.value) (sym c.end_of.ensures ∙ c.in-Some.is) in
+    rw (c.begin_of.ensures, c.deref-in-Some.ensures.value)
+    (lies 0 inside.ends.items (length inside.bytes) c.args.number c.in-Some.end c.self.invariant there).0
 
 pub between-requires-clause-within : goal.between-requires-clause-within
 between-requires-clause-within c =
     let inside = c.self.inside in
-    let there : slice_get inside.ends.items c.args.number ≡ Some c.in-Some.end = rw (← c.deref.ensures.value) (sym c.end_of.ensures ∙ c.in-Some.is) in
+    let there : slice_get inside.ends.items c.args.number ≡ Some c.in-Some.end =
+    rw (← c.deref.ensures.value) (sym c.end_of.ensures ∙ c.in-Some.is) in
     rw c.as_slice.ensures (lies 0 inside.ends.items (length inside.bytes) c.args.number c.in-Some.end c.self.invariant there).1
 
 pub returns-in-None : goal.returns-in-None
@@ -24,5 +27,7 @@ returns-in-None c =
 pub returns-in-Some : goal.returns-in-Some
 returns-in-Some c =
     let inside = c.self.inside in
-    let there : slice_get inside.ends.items c.args.number ≡ Some c.in-Some.end = rw (← c.deref.ensures.value) (sym c.end_of.ensures ∙ c.in-Some.is) in
-    rw (← c.self.view_is, c.between.ensures, c.begin_of.ensures, c.deref-in-Some.ensures.value, c.as_slice.ensures) (sym (cut_there 0 inside.ends.items inside.bytes c.args.number c.in-Some.end there))
+    let there : slice_get inside.ends.items c.args.number ≡ Some c.in-Some.end =
+    rw (← c.deref.ensures.value) (sym c.end_of.ensures ∙ c.in-Some.is) in
+    rw (← c.self.view_is, c.between.ensures, c.begin_of.ensures, c.deref-in-Some.ensures.value, c.as_slice.ensures)
+    (sym (cut_there 0 inside.ends.items inside.bytes c.args.number c.in-Some.end there))

@@ -20,7 +20,8 @@ returns-in_err-copy g c =
     let s = c.args.self.now in
     let b = c.in-Some.batch in
     let is : s.volatile.running ≡ Some b = search rules in
-    let awaits : (is_of_batch s.me b c.args.asking && not (is_matched s.cluster b) && is_in c.args.from.index s.volatile.set) ≡ true = search rules in
+    let awaits : (is_of_batch s.me b c.args.asking && not (is_matched s.cluster b) && is_in c.args.from.index s.volatile.set) ≡ true =
+    search rules in
     let new : is_counted c.args.from.index b.told ≡ false = search rules in
     rw (counted s.cluster s.me s.durable s.volatile c.args.from c.args.asking c.args.watermark c.args.entries.now b _ is awaits new)
     (search (rules, match_ack_takes))
@@ -30,7 +31,8 @@ returns-in_err-more g c =
     let s = c.args.self.now in
     let b = c.in-Some.batch in
     let is : s.volatile.running ≡ Some b = search rules in
-    let awaits : (is_of_batch s.me b c.args.asking && not (is_matched s.cluster b) && is_in c.args.from.index s.volatile.set) ≡ true = search rules in
+    let awaits : (is_of_batch s.me b c.args.asking && not (is_matched s.cluster b) && is_in c.args.from.index s.volatile.set) ≡ true =
+    search rules in
     let new : is_counted c.args.from.index b.told ≡ false = search rules in
     rw (counted s.cluster s.me s.durable s.volatile c.args.from c.args.asking c.args.watermark c.args.entries.now b _ is awaits new)
     (search (rules, match_ack_takes))

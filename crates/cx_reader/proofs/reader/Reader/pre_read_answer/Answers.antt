@@ -1,12 +1,13 @@
 use Rattle.cx_role.proofs.Common.{rules, ◌≡◌, ◌++◌, ◌∷◌, [], ◌&&◌, true, false, Option, Some, ℕ, refl, Cluster, RoleId, Round}
 use Rattle.cx_role.proofs.Common.{same_round, greatest_watermark, is_member_of, live_entries}
 use Rattle.cx_field.specs.declared.parts.Asking.{Asking}
-use Rattle.cx_model.specs.Reader.{Batch, ReaderDurable, ReaderVolatile, has_acked, is_matched, is_of_batch, pre_read_ack_row, pre_read_counted}
+use Rattle.cx_model.specs.Reader.{Batch, ReaderDurable, ReaderVolatile, has_acked, is_matched, is_of_batch, pre_read_ack_row}
+use Rattle.cx_model.specs.Reader.{pre_read_counted}
 use Rattle.cx_reader.proofs.Memory.{pre_read_takes}
 use Rattle.cx_reader.proofs.reader.Reader.pre_read_answer.Goals as goal
 
-counted : (c : Cluster) (me : RoleId) (d : ReaderDurable) (v : ReaderVolatile) (from : RoleId) (u : Asking) (w : Round) (n : ℕ) (b more : Batch)
-    (running : Option Batch) → running ≡ Some b
+counted : (c : Cluster) (me : RoleId) (d : ReaderDurable) (v : ReaderVolatile) (from : RoleId) (u : Asking) (w : Round) (n : ℕ)
+    (b more : Batch) (running : Option Batch) → running ≡ Some b
     → (is_of_batch me b u && is_matched c b && is_member_of (live_entries b.told) from.index) ≡ true
     → same_round w (greatest_watermark b.told) ≡ true → has_acked from.index b.acks ≡ false
     → more ≡ record b { acks = b.acks ++ record { acceptor = from.index; mark = n } ∷ [] }

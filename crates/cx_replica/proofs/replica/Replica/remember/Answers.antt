@@ -9,8 +9,8 @@ remember_base-requires-clause-held c =
     base_held c.in-Base.first c.in-Base.held c.in-Base.pairs c.in-Base.clients (rw c.in-Base.is at c.requires.ranges)
 
 pub remember_notes-requires-clause-fit : goal.remember_notes-requires-clause-fit
-remember_notes-requires-clause-fit c =
-    rw c.as_slice-in-Notes.ensures.items (notes_fit c.in-Notes.client c.in-Notes.floor c.in-Notes.notes (rw c.in-Notes.is at c.requires.ranges))
+remember_notes-requires-clause-fit c = rw c.as_slice-in-Notes.ensures.items
+    (notes_fit c.in-Notes.client c.in-Notes.floor c.in-Notes.notes (rw c.in-Notes.is at c.requires.ranges))
 
 pub remember_tail-requires-clause-ranges : goal.remember_tail-requires-clause-ranges
 remember_tail-requires-clause-ranges c =

@@ -21,5 +21,5 @@ invariant_of-result c =
     let first : new.first ≡ log.first = ap (λ (l : LogState). l.first) c.in_ok-restore.ensures.ok in
     let early = none_own i.cluster new log.first (log.list ++ values) 0 c.in_ok-restore.ensures.ok in
     let ran : after ≡ machine_from (held log) i.machine.left values = rw (c.in_ok-replay.ensures, c.held.ensures.held) refl in
-    sound_more i.cluster i.me i.live log new i.machine.left after i.wanted reads reads values c.self.invariant parts.0 first list own early ran
-    parts.1 c.self.invariant.reads c.self.invariant.few
+    sound_more i.cluster i.me i.live log new i.machine.left after i.wanted reads reads values c.self.invariant parts.0 first list own early
+    ran parts.1 c.self.invariant.reads c.self.invariant.few

@@ -76,21 +76,20 @@ module _ (T X Y : RattleType) (g : Ghosts Y.Denot X.Denot T.Denot) (d : Dict) wh
           regoal ! (λ (us : List Val). prop (WpFn 𝓤 H C Λ function (us ++ []) Post)) is₀ refl $
           enter ! C Λ function (p ∷ []) Post $ alloc_all ! (λ l. pass_all ! refl ((tt, tt), tt) $
           sets ! (agg ! (no_more !)) refl (tt, tt) $
-          sets ! (agg ! (and_then ! (get ! refl) (no_more !))) refl (tt, (tt, tt)) $
-          nothing ! $ owned ! (Mark.the_row (param 0 T)) (Is (Mark.the_row (param 0 T))) (makes (Mark.the_type (param 0 T)) tt 𝓛) (record {}) (none ∷ []) (tt, (refl, tt)) $
+          sets ! (agg ! (and_then ! (get ! refl) (no_more !))) refl (tt, (tt, tt)) $ nothing ! $ owned ! (Mark.the_row (param 0 T))
+          (Is (Mark.the_row (param 0 T))) (makes (Mark.the_type (param 0 T)) tt 𝓛) (record {}) (none ∷ []) (tt, (refl, tt)) $
           one_made ! (Mark.the_row (param 0 T)) (record {}) none $ fjoin ! $
           returns ! (look_at ! 0 refl) $ free_all ! refl $
           suffices ! _ (ends_at 𝓛 ended stayed clause_list z (one none) made (tt, tt) (tt, tt)) $ says ! refl $
           nothing ! $ nothing ! $ fjoin ! $ move ! (2 ∷ 0 ∷ 1 ∷ []) $ done !))
 
     meets : (𝓣 : Tables 𝓤 H) → Meets 𝓛 ended.signature (WpFn 𝓤 H 𝓣.C 𝓣.Λ function) (closing 𝓛 ended clause_list)
-    meets 𝓣 =
-        walk_Meets 𝓛 ended stayed (Goes-dropped 𝓛 4 (RefOf (0 ∷ []) tt (plain (λ _. param 1 X)) (λ _. tt)) yes (λ κs x f. refl), tt) clause_list
-        (WpFn 𝓤 H 𝓣.C 𝓣.Λ function) (WpFn-mono 𝓤 H 𝓛.laws 𝓣 function) (walks 𝓣.C 𝓣.Λ)
+    meets 𝓣 = walk_Meets 𝓛 ended stayed (Goes-dropped 𝓛 4 (RefOf (0 ∷ []) tt (plain (λ _. param 1 X)) (λ _. tt)) yes (λ κs x f. refl), tt)
+        clause_list (WpFn 𝓤 H 𝓣.C 𝓣.Λ function) (WpFn-mono 𝓤 H 𝓛.laws 𝓣 function) (walks 𝓣.C 𝓣.Λ)
 
 pub of_spec : {M : Type 1} → stated.statement M
 unfolding tables_of
 of_spec 𝓤 𝓛 𝓜 𝓡 wired T X Y LT LX LY g d _ =
     let 𝓣 : Tables 𝓤 𝓛.H = tables_of 𝓤 𝓛.H 𝓜 (tables 𝓤 𝓛.H 𝓜 𝓡 𝓡.env) in
-    entered 𝓤 𝓛.H (triple_of 𝓛 (ended T X Y g d).signature (closing 𝓛 (ended T X Y g d) (clause_list T X Y g d 𝓛 𝓜.mem 𝓡.returns))) 𝓣.C 𝓣.Λ (#self (args T X Y g d)) (function T X Y g d)
-    (code.unfolded 𝓤 𝓛.H 𝓜 𝓡 wired (T, (X, (Y, tt))) d) (meets T X Y g d 𝓛 𝓜.mem 𝓡.returns 𝓣)
+    entered 𝓤 𝓛.H (triple_of 𝓛 (ended T X Y g d).signature (closing 𝓛 (ended T X Y g d) (clause_list T X Y g d 𝓛 𝓜.mem 𝓡.returns))) 𝓣.C 𝓣.Λ
+    (#self (args T X Y g d)) (function T X Y g d) (code.unfolded 𝓤 𝓛.H 𝓜 𝓡 wired (T, (X, (Y, tt))) d) (meets T X Y g d 𝓛 𝓜.mem 𝓡.returns 𝓣)

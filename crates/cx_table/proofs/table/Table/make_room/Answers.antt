@@ -8,4 +8,5 @@ pub invariant_of-self-2 : goal.invariant_of-self-2
 invariant_of-self-2 c = c.room_at.ensures.still _ c.self.invariant
 
 pub returns-clause-room : goal.returns-clause-room
-returns-clause-room c = room_found c.args.client c.args.count c.room_at.new.entries.entries c.in_ok-room_at.field-0 c.in_ok-room_at.ensures.place
+returns-clause-room c =
+    room_found c.args.client c.args.count c.room_at.new.entries.entries c.in_ok-room_at.field-0 c.in_ok-room_at.ensures.place

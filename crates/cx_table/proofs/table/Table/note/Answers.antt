@@ -21,7 +21,8 @@ sound c = c.room_at.ensures.still (table c) c.self.invariant
 
 found : (c : After-index_mut)
     → lookup (nat_eq c.args.client) c.room_at.new.entries.entries ≡ Some c.index_mut.result.now
-found c = write_found c.room_at.new.entries c.in_ok-place.place c.args.client c.index_mut.result.now c.index_mut.result.now c.room_at.ensures.unique c.in_ok-place.ensures.place.at c.index_mut.ensures.value
+found c = write_found c.room_at.new.entries c.in_ok-place.place c.args.client c.index_mut.result.now c.index_mut.result.now
+    c.room_at.ensures.unique c.in_ok-place.ensures.place.at c.index_mut.ensures.value
 
 new : (c : After-index_mut) → judge_of (table c) c.args.client c.args.seq ≡ judge.New
 new c = subst (λ (s : TableState). judge_of s.table c.args.client c.args.seq ≡ judge.New) (sym c.self.view_is) c.requires.new
@@ -44,7 +45,8 @@ note-requires-clause-new c =
 
 pub note-requires-clause-room : goal.note-requires-clause-room
 note-requires-clause-room c =
-    let room = room_there c.args.client 1 c.room_at.new.entries.entries c.in_ok-place.place c.index_mut.result.now c.in_ok-place.ensures.place c.index_mut.ensures.value in
+    let room = room_there c.args.client 1 c.room_at.new.entries.entries c.in_ok-place.place c.index_mut.result.now
+    c.in_ok-place.ensures.place c.index_mut.ensures.value in
     omega arith
 
 pub invariant_of-self-2 : goal.invariant_of-self-2
@@ -53,7 +55,8 @@ invariant_of-self-2 c =
     let old = c.index_mut.result.now in
     let es = c.room_at.new.entries.entries in
     let ns = set_value_at es c.in_ok-place.place c.note.new.entry in
-    let changed = write_changed c.room_at.new.entries c.in_ok-place.place c.args.client old c.note.new.entry c.room_at.ensures.unique c.in_ok-place.ensures.place.at c.index_mut.ensures.value in
+    let changed = write_changed c.room_at.new.entries c.in_ok-place.place c.args.client old c.note.new.entry c.room_at.ensures.unique
+    c.in_ok-place.ensures.place.at c.index_mut.ensures.value in
     rw (c.with_floor.ensures, c.with_answer.ensures)
     (noted_held (table i) es ns (sound i) c.args.client c.args.floor old c.note.new.entry (found i) changed c.note.ensures.floor
     (record { client = c.args.client; seq = c.args.seq; at = c.args.at; reply = c.args.reply.now }) refl (new i) c.note.ensures.notes)
@@ -61,6 +64,8 @@ invariant_of-self-2 c =
 pub returns-clause-room : goal.returns-clause-room
 returns-clause-room c =
     let old = c.index_mut.result.now in
-    let taken = write_taken c.room_at.new.entries c.in_ok-place.place c.args.client old c.note.new.entry c.room_at.ensures.unique c.in_ok-place.ensures.place.at c.index_mut.ensures.value (omega arith) in
-    subst (λ (s : TableState). TakesRoom c.args.client s.rooms (rooms_in (set_value_at c.room_at.new.entries.entries c.in_ok-place.place c.note.new.entry))) c.self.view_is
+    let taken = write_taken c.room_at.new.entries c.in_ok-place.place c.args.client old c.note.new.entry c.room_at.ensures.unique
+    c.in_ok-place.ensures.place.at c.index_mut.ensures.value (omega arith) in
+    subst (λ (s : TableState). TakesRoom c.args.client s.rooms
+    (rooms_in (set_value_at c.room_at.new.entries.entries c.in_ok-place.place c.note.new.entry))) c.self.view_is
     (λ k. omega (arith, c.room_at.ensures.room k, taken k))

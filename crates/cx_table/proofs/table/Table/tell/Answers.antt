@@ -15,7 +15,8 @@ table c = record { floors = c.self.inside.floors.items; notes = c.self.inside.no
 
 found : (c : After-index_mut)
     → lookup (nat_eq c.args.client) c.self.inside.entries.entries ≡ Some c.index_mut.result.now
-found c = write_found c.self.inside.entries c.in-Some.place c.args.client c.index_mut.result.now c.index_mut.result.now c.place_of.ensures.unique c.in-Some.ensures.place c.index_mut.ensures.value
+found c = write_found c.self.inside.entries c.in-Some.place c.args.client c.index_mut.result.now c.index_mut.result.now
+    c.place_of.ensures.unique c.in-Some.ensures.place c.index_mut.ensures.value
 
 pub tell-requires : goal.tell-requires
 tell-requires c =
@@ -27,11 +28,14 @@ invariant_of-self c =
     let i = (goal.at.invariant_of-self c).After-index_mut in
     let old = c.index_mut.result.now in
     let es = c.self.inside.entries.entries in
-    let changed = write_changed c.self.inside.entries c.in-Some.place c.args.client old c.tell.new.entry c.place_of.ensures.unique c.in-Some.ensures.place c.index_mut.ensures.value in
-    rw (c.with_floor.ensures, c.still_noted.ensures)
-    (told_held (table i) es (set_value_at es c.in-Some.place c.tell.new.entry) c.self.invariant c.args.client c.args.floor old c.tell.new.entry (found i) changed c.tell.ensures.floor c.tell.ensures.notes)
+    let changed = write_changed c.self.inside.entries c.in-Some.place c.args.client old c.tell.new.entry c.place_of.ensures.unique
+    c.in-Some.ensures.place c.index_mut.ensures.value in
+    rw (c.with_floor.ensures, c.still_noted.ensures) (told_held (table i) es (set_value_at es c.in-Some.place c.tell.new.entry)
+    c.self.invariant c.args.client c.args.floor old c.tell.new.entry (found i) changed c.tell.ensures.floor c.tell.ensures.notes)
 
 pub returns-clause-room : goal.returns-clause-room
 returns-clause-room c =
-    subst (λ (s : TableState). KeepsRoom s.rooms (rooms_in (set_value_at c.self.inside.entries.entries c.in-Some.place c.tell.new.entry))) c.self.view_is
-    (write_kept c.self.inside.entries c.in-Some.place c.args.client c.index_mut.result.now c.tell.new.entry c.place_of.ensures.unique c.in-Some.ensures.place c.index_mut.ensures.value (omega arith))
+    subst (λ (s : TableState). KeepsRoom s.rooms (rooms_in (set_value_at c.self.inside.entries.entries c.in-Some.place c.tell.new.entry)))
+    c.self.view_is
+    (write_kept c.self.inside.entries c.in-Some.place c.args.client c.index_mut.result.now c.tell.new.entry c.place_of.ensures.unique
+    c.in-Some.ensures.place c.index_mut.ensures.value (omega arith))

@@ -11,7 +11,13 @@ use Rattle.cx_world.proofs.world.World.chosen_prefix.Goals as goal
 pub returns-clause-agreed : goal.returns-clause-agreed
 returns-clause-agreed c =
     let fields = c.self.inside in
-    let w : World = record { cluster = fields.cluster; roles = seat_roles (lists_of fields.seats); events = fields.events; kept = fields.kept; sent = fields.sent } in
+    let w : World = record {
+      cluster = fields.cluster;
+      roles = seat_roles (lists_of fields.seats);
+      events = fields.events;
+      kept = fields.kept;
+      sent = fields.sent;
+    } in
     λ fresh.
     let holds = c.self.invariant (ap (λ (x : WorldState). x.spent) c.self.view_is ∙ fresh) in
     subst (λ (x : WorldState). IfOk c.chosen_prefix.result (λ (values : List Value). IsCommandList x.cluster x.kept values)) c.self.view_is
