@@ -24,18 +24,19 @@ class DifferentialTest(Comparison):
 
     def test_the_reference_agrees(self) -> None:
         """On each kind of schedule."""
-        status, out, said = run("differential", "--runs", 10, "--events", 200, "--no-stored", "--keep", self.room / "kept")
-        self.assertEqual((status, out, said), (0, "10 schedules, 0 differ\n", ""))
+        status, out, said = run("differential", "--runs", 20, "--events", 200, "--no-stored", "--keep", self.room / "kept")
+        self.assertEqual((status, out, said), (0, "20 schedules, 0 differ\n", ""))
         self.assertFalse((self.room / "kept").exists())
 
     def test_a_difference_is_told(self) -> None:
         """The first one is shown, and each schedule is kept."""
-        status, lines = self.compared("| sed 's/ started$/ begun/'", "--runs", 2, "--events", 20, "--no-stored")
-        self.assertEqual((status, lines[-1]), (1, "2 schedules, 2 differ"))
-        self.assertEqual(lines[:5], [f"{self.room}/kept/1.schedule: other standard output", "standard output differs first in line 1",
-                                     "    wanted '@1 lead leader:0 begun'", "    got    '@1 lead leader:0 started'",
-                                     f"{self.room}/kept/2.schedule: other standard output"])
-        self.assertEqual(len(lines), 6)
+        status, lines = self.compared("| sed '1s/ lead / led /'", "--runs", 2, "--events", 20, "--no-stored")
+        kept = [self.room / f"kept/{number}.schedule" for number in (1, 2)]
+        self.assertEqual((status, lines[0], lines[1]), (1, f"{kept[0]}: other standard output", "standard output differs first in line 1"))
+        self.assertRegex(lines[2], r"^    wanted '@1 led leader:\d+ \w+'$")
+        self.assertRegex(lines[3], r"^    got    '@1 lead leader:\d+ \w+'$")
+        self.assertEqual(lines[4:], [f"{kept[1]}: other standard output", "2 schedules, 2 differ"])
+        self.assertEqual([it.read_text().partition("---\n")[2].count("\n") for it in kept], [20, 20])
 
     def test_another_rule_is_told(self) -> None:
         """A reference whose acceptors tell readers one slot too few."""
@@ -45,7 +46,7 @@ class DifferentialTest(Comparison):
         before = rules.read_text()
         rules.write_text(before.replace("max(d.top, s + 1)", "max(d.top, s)"))
         self.assertNotEqual(rules.read_text(), before)
-        status, out, said = run("differential", other / "compax", "--first", 8, "--runs", 1, "--events", 150, "--no-stored", "--keep", self.room)
+        status, out, said = run("differential", other / "compax", "--first", 3, "--runs", 1, "--events", 150, "--no-stored", "--keep", self.room)
         self.assertEqual((status, said), (1, ""))
         self.assertRegex(out, r"wanted '\+\d+ acceptor:\d+ reader:\d+ PreReadAck ")
 
