@@ -15,7 +15,7 @@ from clients import Lost
 from faults import Fault
 from headers import Header, Role, Unusable
 from inventory import role_of
-from journals import Journal, outlined
+from journals import Journal
 from loads import Load
 from outcomes import Outcome
 from rates import figures_of
@@ -26,7 +26,7 @@ from watches import WARM, Setting, Watch
 
 FILE, PROCESSES = "cluster.toml", 3
 DISK = 256 << 20                # bytes of the disk that fills up
-MOST_ROUNDS = 3                 # that a leader may begin by a full disk
+MOST_ROUNDS = 3                 # that matchmakers may hold more, by a full disk: each has room for 16
 BALLAST = "ballast"
 LEFT = 20_480                   # bytes that are left when it is full
 UNTIL_KILL = 1.0                # seconds from the removal of a folder until its process is killed
@@ -97,11 +97,11 @@ class Supervised:
                 raise Lost(f"process {number} was started again: it ended with {self.note(number).ended}")
 
     def rounds(self) -> int:
-        """How many rounds a matchmaker has stored, at most."""
+        """How many rounds a matchmaker holds, at most."""
         most = 0
         for role in self.header.roles("match"):
             with open(self.rooms[role] / role.files[0], "rb") as file:
-                most = max(most, outlined(Journal(file, role.kind))[0].counts["Match"])
+                most = max(most, rounds_held(Journal(file, role.kind)))
         return most
 
     def end(self) -> None:
@@ -109,6 +109,16 @@ class Supervised:
 
     def files(self, role: Role) -> list[pathlib.Path]:
         return [self.rooms[role] / name for name in role.files]
+
+
+def rounds_held(journal: Journal) -> int:
+    """How many rounds a matchmaker that was never replaced holds: those it recorded, but for those below one for which it forgot."""
+    held: list[tuple[int, ...]] = []
+    for frame in journal.frames():
+        name, _, round_, *_ = frame.words(journal.kind).split()
+        at = tuple(map(int, round_.split(".")))
+        held = [*held, at] if name == "Match" else [earlier for earlier in held if earlier >= at] if name == "Garbage" else held
+    return len(held)
 
 
 def mounts(room: pathlib.Path) -> list[list[str]]:
@@ -195,5 +205,5 @@ def supervised_trial(setting: Setting, fault: Fault, room: pathlib.Path) -> Outc
         load.finish(2 * PATIENCE)
         cluster.check()
         if fault.verb == "full" and cluster.rounds() > rounds + MOST_ROUNDS:
-            raise Lost(f"a matchmaker has {cluster.rounds()} rounds where it had {rounds}: a leader was started where there was no room")
+            raise Lost(f"a matchmaker holds {cluster.rounds()} rounds where it held {rounds}: a leader was started where there was no room")
         return Outcome(fault, figures, [], len(load.times), load.nodes, average)

@@ -12,6 +12,7 @@ import unittest
 
 from headers import Role, program
 from journals import GREATEST, Break, Journal
+from supervised import rounds_held
 from trials import LONGEST, SMALL, TOOLS, Trial, run
 
 RUNS = TOOLS.parent / "crates/compax/runs"
@@ -109,6 +110,17 @@ class JournalTest(unittest.TestCase):
         self.assertEqual(self.read(journal(b"\4" + ROUND + GRID, b"\5" + ROUND + GRID))[1],
                          ["0 Match round 1.0.0 grid 2x2 0,1,2,3", "26 Garbage round 1.0.0 grid 2x2 0,1,2,3", "52 closed"])
         self.assertEqual(self.read(journal(b"\6" + LATER + GRID))[1], ["0 Round round 2.3.4 grid 2x2 0,1,2,3", "26 closed"])
+
+    def test_rounds_that_a_matchmaker_holds(self) -> None:
+        """A round for which it forgot leaves itself and those above."""
+        first, second, third = (bytes([0, 0, 0, number, 0, 0, 0, 0, 0, 0]) + GRID for number in (1, 2, 3))
+        for records, held in (([], 0), ([b"\4" + first], 1), ([b"\4" + first, b"\4" + second], 2),
+                              ([b"\4" + first, b"\4" + second, b"\5" + second], 1), ([b"\4" + first, b"\4" + second, b"\5" + first, b"\4" + third], 3),
+                              ([b"\4" + first, b"\4" + third, b"\5" + second], 1)):
+            with self.subTest(held=held, records=len(records)):
+                (self.room / "a").write_bytes(journal(*records))
+                with open(self.room / "a", "rb") as file:
+                    self.assertEqual(rounds_held(Journal(file, "match")), held)
 
     def test_a_reader(self) -> None:
         turns = journal(b"\x10" + number(1), b"\x10" + number(GREATEST))
