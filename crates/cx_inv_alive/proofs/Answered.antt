@@ -194,6 +194,7 @@ module _ (c : Cluster) (l r a e b : ℕ) (command : Command) (led : nat_lt l c.l
       (row_results c p k e h.answer (less_test p c.replicas p_there) k_there
       (subst (λ n. nat_lt n c.clients ≡ true) (sym h.client_is) known)) (λ w view. (
         [],
+        refl,
         record {
           from = role kind.Unbatcher k;
           at = h.answer.at;

@@ -2,14 +2,14 @@
 use Rattle.std.proofs.Common.{◌≡◌, ◌⊎◌, ℕ, zero, suc, true, false, List, [], ◌∷◌, map, ap, ◌∙◌, refl, inl, inr, arith, Some}
 use Rattle.std.proofs.lemmas.Bool.Decides.{nat_tests}
 use Rattle.std.specs.List.{list_all}
-use Rattle.std.specs.Prelude.{◌+◌, ◌-◌, ◌==◌, Bool, max, nat_le, nat_lt, length, take}
+use Rattle.std.specs.Prelude.{◌+◌, ◌-◌, ◌==◌, Bool, max, nat_le, nat_lt, is_none, length, take}
 use Rattle.cx_base.specs.declared.cluster.Cluster.{Cluster}
 use Rattle.cx_base.specs.declared.event.Order.TheVariants.{Lead}
 use Rattle.cx_base.specs.declared.role.Kind.TheVariants as kind
 use Rattle.cx_base.specs.declared.role.RoleId.{RoleId}
 use Rattle.cx_base.specs.declared.round.Round.{Round}
 use Rattle.cx_base.specs.declared.why.Why.TheVariants as why
-use Rattle.cx_base.specs.Grid.{Shape, is_in}
+use Rattle.cx_base.specs.Grid.{Shape, grid_fault, is_in}
 use Rattle.cx_base.specs.Role.{role}
 use Rattle.cx_field.specs.declared.parts.Entry.{Entry}
 use Rattle.cx_field.specs.declared.parts.Vote.{Vote}
@@ -63,7 +63,7 @@ steps_up : (a b r : ℕ) → nat_lt a r ≡ true → nat_lt b r ≡ true → max
 steps_up a b r h k = grind (arith, nat_tests, h, k)
 
 module _ (goal : World → Type 0) (c : Cluster) (l r : ℕ) (g : Shape) (named : names_grid c g ≡ true)
-    (most : nat_le r 4294967295 ≡ true) where
+    (real : is_none (grid_fault g.rows g.cols g.members) ≡ true) (most : nat_le r 4294967295 ≡ true) where
   abbrev me : RoleId
   me = role kind.Leader l
 
@@ -81,7 +81,7 @@ module _ (goal : World → Type 0) (c : Cluster) (l r : ℕ) (g : Shape) (named 
   one_order x v n runs is room rest =
       let o = begun l n g v in
       let d = durable_of leader_rules me x.kept in
-      to_order goal c x l (Lead g) v o runs (row_lead c l g d v named room ∙ ap (λ k. begun l k g v) is)
+      to_order goal c x l (Lead g) real v o runs (row_lead c l g d v named room ∙ ap (λ k. begun l k g v) is)
       (rest (moved me (LeaderIn (asking v)) o.kept o.sends x) (left_both (is_role me) (is_role me) me (LeaderIn (asking v))
       (kept.Round (lead_round l n) g) o.sends x (same_role-itself me) (same_role-itself me))
       (state_own me (LeaderIn (asking v)) x.states) (durable_own leader_rules me (kept.Round (lead_round l n) g) x.kept)

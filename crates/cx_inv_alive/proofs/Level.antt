@@ -466,7 +466,7 @@ module _ (w : World) (h b : ℕ) (command : Command) (counts : HasCounts w.clust
   begun_on : (x y : Moment) (v : LeaderVolatile) → Start x → Left (λ a. false) (is_role me) x y → y.states me ≡ LeaderIn v
       → Grown c h (idle_leader c) v → nat_le h v.cw ≡ true → Goes goal c y
   begun_on x y v start left runs grown reached =
-      round_asked goal c 0 r g named_grid room.rounds.reachable y v runs
+      round_asked goal c 0 r g named_grid refl room.rounds.reachable y v runs
       (subst (λ (d : LeaderDurable). nat_lt (round_of d.own).r r ≡ true) (sym (left.leaders 0 refl ∙ start.own))
       (all-Member (λ l. nat_lt (round_of (leader_store w l).own).r r) (below c.leaders) room.rounds.leaders 0
       (Member-below 0 c.leaders (less 0 c.leaders counts.leaders))))

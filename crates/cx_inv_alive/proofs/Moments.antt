@@ -28,6 +28,7 @@ use Rattle.cx_inv_run.proofs.Members.{Member-first}
 use Rattle.cx_inv_run.specs.States.{State, BatcherIn, LeaderIn, ProxyIn, ReplicaIn, plain, durable_of, set_state, with_record}
 use Rattle.cx_inv_alive.proofs.Views.{CanReach, acceptors, batchers, delivered, given, leaders, matchmakers, proxies, reopened, replicas}
 use Rattle.cx_inv_alive.proofs.Views.{unbatchers}
+use Rattle.cx_inv_alive.specs.Alive.{may_help}
 
 pub record Moment : Type 0 where
   pub kept : List KeptRecord
@@ -191,20 +192,24 @@ module _ (goal : World → Type 0) (c : Cluster) (x : Moment) (j : ℕ) where
       → replica_rules.row c (role kind.Replica j) (durable_of replica_rules (role kind.Replica j) x.kept) v input.Tick ≡ o
       → Goes goal c (moved (role kind.Replica j) (ReplicaIn o.volatile) o.kept o.sends x) → Goes goal c x
   tick_replica v o is row next =
-      given c x.kept x.sent kind.Replica replicas goal j x.states v o is next (event.Tick (role kind.Replica j)) input.Tick (λ w. refl) row
+      given c x.kept x.sent kind.Replica replicas goal j x.states v o is next (event.Tick (role kind.Replica j)) input.Tick refl (λ w. refl)
+      row
 
   pub tick_batcher : (v : BatcherVolatile) (o : Outcome BatcherVolatile) → x.states (role kind.Batcher j) ≡ BatcherIn v
       → batcher_rules.row c (role kind.Batcher j) tt v input.Tick ≡ o
       → Goes goal c (moved (role kind.Batcher j) (BatcherIn o.volatile) o.kept o.sends x) → Goes goal c x
   tick_batcher v o is row next =
-      given c x.kept x.sent kind.Batcher batchers goal j x.states v o is next (event.Tick (role kind.Batcher j)) input.Tick (λ w. refl) row
+      given c x.kept x.sent kind.Batcher batchers goal j x.states v o is next (event.Tick (role kind.Batcher j)) input.Tick refl (λ w. refl)
+      row
 
   -- a leader is given an order
-  pub to_order : (order : Order) (v : LeaderVolatile) (o : Outcome LeaderVolatile) → x.states (role kind.Leader j) ≡ LeaderIn v
+  pub to_order : (order : Order) → may_help (event.Order j order Whole) ≡ true → (v : LeaderVolatile) (o : Outcome LeaderVolatile)
+      → x.states (role kind.Leader j) ≡ LeaderIn v
       → leader_rules.row c (role kind.Leader j) (durable_of leader_rules (role kind.Leader j) x.kept) v (input.Order order) ≡ o
       → Goes goal c (moved (role kind.Leader j) (LeaderIn o.volatile) o.kept o.sends x) → Goes goal c x
-  to_order order v o is row next =
-      given c x.kept x.sent kind.Leader leaders goal j x.states v o is next (event.Order j order Whole) (input.Order order) (λ w. refl) row
+  to_order order helps v o is row next =
+      given c x.kept x.sent kind.Leader leaders goal j x.states v o is next (event.Order j order Whole) (input.Order order) helps
+      (λ w. refl) row
 
   -- a proxy is stopped and opened again
   pub fresh_proxy : nat_lt j c.proxies ≡ true → Goes goal c (moved (role kind.Proxy j) (ProxyIn (proxy_rules.fresh c)) None [] x)

@@ -1,6 +1,8 @@
 -- A world as a plan sees it: changes of stores with the newest first, the datagrams, and the state of each role. What an event makes of it.
 use Rattle.std.proofs.Common.{◌≡◌, ℕ, List, ◌∷◌, ◌++◌, reverse, Option, None, Some, ap, sym, ◌∙◌, subst, refl, append-nil, []}
+use Rattle.std.proofs.lemmas.Bool.{and_from}
 use Rattle.std.proofs.lemmas.List.{reverse-append}
+use Rattle.std.specs.List.{list_all}
 use Rattle.std.specs.Option.{option_map}
 use Rattle.std.specs.Prelude.{slice_get, true, if◌then◌else◌}
 use Rattle.cx_base.specs.declared.cluster.Cluster.{Cluster}
@@ -33,6 +35,7 @@ use Rattle.cx_model.specs.Rules.{Rules}
 use Rattle.cx_model.specs.Turn.{still, turn, turn_with, whole_turn}
 use Rattle.cx_model.specs.Unbatcher.{unbatcher_rules}
 use Rattle.cx_model.specs.World.{World, Change, act_at, change, changed, come, durable_part, kept_by, run_from, step, turned, world_after}
+use Rattle.cx_inv_alive.specs.Alive.{may_help}
 use Rattle.cx_inv_run.proofs.Histories.{durable_by_time, set_twice, state_own}
 use Rattle.cx_inv_run.proofs.Members.{at-Member}
 use Rattle.cx_inv_run.specs.States.{State, Down, BatcherIn, LeaderIn, ProxyIn, ReplicaIn, plain, batcher_volatile, durable_of}
@@ -47,9 +50,10 @@ pub record View (c : Cluster) (kept : List KeptRecord) (sent : List Letter) (sta
 pub view_at : (w : World) → View w.cluster (reverse w.kept) w.sent w.roles w
 view_at w = record { cluster = refl; history = refl; mail = refl; running = λ a. refl }
 
--- from each world that is seen so, events lead to one with this property
+-- from each world that is seen so, events that may help lead to one with this property
 abbrev pub CanReach : (World → Type 0) → Cluster → List KeptRecord → List Letter → (RoleId → State) → Type 0
-CanReach goal c kept sent states = (w : World) → View c kept sent states w → (es : List Event) × goal (run_from w es)
+CanReach goal c kept sent states =
+    (w : World) → View c kept sent states w → (es : List Event) × (list_all may_help es ≡ true) × goal (run_from w es)
 
 -- KINDS OF ROLES
 
@@ -155,14 +159,14 @@ module _ (c : Cluster) (kept : List KeptRecord) (sent : List Letter) where
           let r = next (step w e)
           (taken states w view v is (input.Take d) o row e (ap (λ x. come w Whole x) (ap (λ l. slice_get l place.0) view.mail ∙ place.1)
           ∙ ap (λ x. act_at w (Give (input.Take d) Whole) x) to)) in
-          (e ∷ r.0, r.1)
+          (e ∷ r.0, r.1, r.2)
 
       -- an event that is the same in each world gives an input
-      pub given : (e : Event) (i : Input) → ((w : World) → change w e ≡ act_at w (Give i Whole) me)
+      pub given : (e : Event) (i : Input) → may_help e ≡ true → ((w : World) → change w e ≡ act_at w (Give i Whole) me)
           → the.rules.row c me (durable_of the.rules me kept) v i ≡ o → CanReach goal c kept sent states
-      given e i means row w view =
+      given e i helps means row w view =
           let r = next (step w e) (taken states w view v is i o row e (means w)) in
-          (e ∷ r.0, r.1)
+          (e ∷ r.0, and_from (may_help e) (list_all may_help r.0) helps r.1, r.2)
 
     after_stop : (states : RoleId → State) (w : World) → View c kept sent states w → (running : Option V) → View c kept sent
         (set_state me Down states) (world_after w (event.Crash me) (turned the.rules the.make w.cluster w.roles w.kept Stop me running))
@@ -204,4 +208,4 @@ module _ (c : Cluster) (kept : List KeptRecord) (sent : List Letter) where
           mail = a.mail;
           running = λ b. a.running b ∙ sym (set_twice me s Down states b);
         }) in
-        (event.Crash me ∷ event.Restart me ∷ r.0, r.1)
+        (event.Crash me ∷ event.Restart me ∷ r.0, r.1, r.2)

@@ -1,16 +1,18 @@
 -- NO DEAD ENDS. From each world that any list of events reaches, while room is left, further events bring an answer to each command that
 -- was submitted. Nothing of it is proved here.
-use Rattle.std.specs.Prelude.{◌≡◌, ℕ, ◌+◌, ◌==◌, ◌&&◌, ◌||◌, not, Bool, true, nat_lt, nat_le, filter, List, length}
+use Rattle.std.specs.Prelude.{◌≡◌, ℕ, ◌+◌, ◌==◌, ◌&&◌, ◌||◌, not, Bool, true, false, nat_lt, nat_le, filter, is_none, List, length}
 use Rattle.std.specs.List.{list_all}
 use Rattle.cx_base.specs.declared.cluster.Cluster.{Cluster}
 use Rattle.cx_base.specs.declared.command.Command.{Command}
 use Rattle.cx_base.specs.declared.command.Reply.{Reply}
 use Rattle.cx_base.specs.declared.command.Value.{Value}
 use Rattle.cx_base.specs.declared.event.Event.{Event}
+use Rattle.cx_base.specs.declared.event.Event.TheVariants as event
+use Rattle.cx_base.specs.declared.event.Order.TheVariants.{Lead}
 use Rattle.cx_base.specs.declared.role.Kind.TheVariants as kind
 use Rattle.cx_base.specs.declared.role.RoleId.{RoleId}
 use Rattle.cx_base.specs.Fold.{commands_of}
-use Rattle.cx_base.specs.Grid.{IsGrid}
+use Rattle.cx_base.specs.Grid.{IsGrid, grid_fault}
 use Rattle.cx_base.specs.Lists.{below}
 use Rattle.cx_base.specs.Noted.{floor_of, is_done}
 use Rattle.cx_base.specs.Role.{role}
@@ -37,9 +39,19 @@ pub record IsAnswered (command : Command) (w : World) : Type 0 where
   pub reply : Reply
   pub answered : Member (letter from (role kind.Client command.client) (msg.Answer command.seq at reply)) w.sent
 
--- so it is after some further events
+-- What may help: roles crash and are opened again, tick and get datagrams, and leaders are ordered to lead over grids that the program's
+-- type of a grid takes. No client asks anew, no replica snaps, and no other order is given.
+abbrev pub may_help : Event → Bool
+may_help (event.Crash r) = true
+may_help (event.Restart r) = true
+may_help (event.Tick r) = true
+may_help (event.Deliver number cut) = true
+may_help (event.Order leader (Lead g) cut) = is_none (grid_fault g.rows g.cols g.members)
+may_help other = false
+
+-- so it is after some further events of these kinds
 abbrev pub CanBeAnswered : World → Command → Type 0
-CanBeAnswered w command = (more : List Event) × IsAnswered command (run_from w more)
+CanBeAnswered w command = (more : List Event) × (list_all may_help more ≡ true) × IsAnswered command (run_from w more)
 
 -- what the stores of a world say
 

@@ -5,14 +5,15 @@
 //! left in its stores (`IsRoomy`), some further events bring an answer to each command that was
 //! submitted.
 //!
-//! Room is left while f + 1 of the first set of matchmakers haven't stopped and have recorded fewer than
-//! 16 rounds; a round is left above all in the stores, and a slot above all that are held or were voted
+//! Room is left while f + 1 of the first set of matchmakers haven't stopped and have fewer than 16 rounds
+//! recorded now; a round is left above all in the stores, and a slot above all that are held or were voted
 //! in; recorded grids have rows, as the program's type of a grid says; and neither a replica nor a vote
 //! knows that the client is done with the number.
 //!
-//! The further events stop and open roles, so nothing that only runs matters, and what a restart alone
-//! would heal is no dead end here. Nothing is said of time, nor of what nodes do by themselves; nor of
-//! reads and sessions, nor of clusters whose first set of matchmakers was replaced.
+//! The further events stop and open roles, let them tick, deliver datagrams, and order leaders to lead
+//! over real grids (`may_help`); no client asks anew. So nothing that only runs matters, and what a restart
+//! alone would heal is no dead end here. Nothing is said of time, nor of what nodes do by themselves; nor
+//! of reads and sessions, nor of clusters whose first set of matchmakers was replaced.
 #![tactic(auto)]
 
 ghost use Rattle.cx_model.specs.Promises.{OfEveryRun};
