@@ -5,8 +5,7 @@ use Rattle.std.proofs.lemmas.Bool.{cases_Bool}
 use Rattle.std.proofs.lemmas.Bool.Decides.{nat_tests}
 use Rattle.cx_base.specs.declared.role.RoleId.{RoleId}
 use Rattle.cx_base.specs.declared.role.Kind.{Kind}
-use Rattle.cx_base.specs.declared.role.Kind.TheVariants.{Client, Batcher, Leader, Proxy, Acceptor, Matchmaker, Replica, Unbatcher, Reader}
-use Rattle.cx_base.specs.declared.role.Kind.TheVariants.{Replacer}
+use Rattle.cx_base.specs.declared.role.Kind.TheVariants.{Client}
 use Rattle.cx_base.specs.Role.{same_role, code_of, kind_of}
 use Rattle.cx_edge.specs.declared.shelf.Shelf.{Shelf}
 use Rattle.cx_edge.specs.Depot.{IsOut, without}
@@ -21,15 +20,7 @@ and_both false b h = cc
 
 kind_back : (k : Kind) → kind_of (code_of k) ≡ k
 kind_back Client = refl
-kind_back Batcher = refl
-kind_back Leader = refl
-kind_back Proxy = refl
-kind_back Acceptor = refl
-kind_back Matchmaker = refl
-kind_back Replica = refl
-kind_back Unbatcher = refl
-kind_back Reader = refl
-kind_back Replacer = refl
+kind_back other = refl
 
 pub same_role-true : (a b : RoleId) → same_role a b ≡ true → a ≡ b
 same_role-true a b h =

@@ -66,39 +66,17 @@ same_write : (e : Event) (command : Command) (batcher : ℕ)
 same_write (event.Write other another) command batcher = same_asked_op other.op command.op
 same_write (event.Read client seq floor reader replica key) command batcher = read_asks key command.op
 same_write (event.Session client seq floor replica key) command batcher = session_asks key command.op
-same_write (event.Deliver number cut) command batcher = none_asks command.op
-same_write (event.Tick r) command batcher = none_asks command.op
-same_write (event.Order leader order cut) command batcher = none_asks command.op
-same_write (event.Replace replacer set cut) command batcher = none_asks command.op
-same_write (event.Snap replica cut) command batcher = none_asks command.op
-same_write (event.Crash r) command batcher = none_asks command.op
-same_write (event.Restart r) command batcher = none_asks command.op
+same_write other command batcher = none_asks command.op
 
 same_key : (e : Event) (client seq floor reader replica : ℕ) (key : List ℕ)
     → same_request e (event.Read client seq floor reader replica key) ≡ bytes_eq (asked e) (0 ∷ key)
 same_key (event.Write command batcher) client seq floor reader replica key = write_asks command.op key
-same_key (event.Read other number told another one last) client seq floor reader replica key = refl
-same_key (event.Session other number told another last) client seq floor reader replica key = refl
-same_key (event.Deliver number cut) client seq floor reader replica key = refl
-same_key (event.Tick r) client seq floor reader replica key = refl
-same_key (event.Order leader order cut) client seq floor reader replica key = refl
-same_key (event.Replace replacer set cut) client seq floor reader replica key = refl
-same_key (event.Snap snapped cut) client seq floor reader replica key = refl
-same_key (event.Crash r) client seq floor reader replica key = refl
-same_key (event.Restart r) client seq floor reader replica key = refl
+same_key other client seq floor reader replica key = refl
 
 same_session : (e : Event) (client seq floor replica : ℕ) (key : List ℕ)
     → same_request e (event.Session client seq floor replica key) ≡ bytes_eq (asked e) (4 ∷ key)
 same_session (event.Write command batcher) client seq floor replica key = write_asks_no_session command.op key
-same_session (event.Read other number told another one last) client seq floor replica key = refl
-same_session (event.Session other number told another last) client seq floor replica key = refl
-same_session (event.Deliver number cut) client seq floor replica key = refl
-same_session (event.Tick r) client seq floor replica key = refl
-same_session (event.Order leader order cut) client seq floor replica key = refl
-same_session (event.Replace replacer set cut) client seq floor replica key = refl
-same_session (event.Snap snapped cut) client seq floor replica key = refl
-same_session (event.Crash r) client seq floor replica key = refl
-same_session (event.Restart r) client seq floor replica key = refl
+same_session other client seq floor replica key = refl
 
 -- the tests on an event, by its client and number where it is a request that was sent
 pub token_alone : (t : Token) (h : Happened) → has_token t h ≡ same_token t (sent_token h)
@@ -121,13 +99,7 @@ other_request t e (event.Read client seq floor reader replica key) =
     (same_key e client seq floor reader replica key)
 other_request t e (event.Session client seq floor replica key) =
     ap (λ b. same_token t (token_of (event.Session client seq floor replica key)) && not b) (same_session e client seq floor replica key)
-other_request t e (event.Deliver number cut) = refl
-other_request t e (event.Tick r) = refl
-other_request t e (event.Order leader order cut) = refl
-other_request t e (event.Replace replacer set cut) = refl
-other_request t e (event.Snap replica cut) = refl
-other_request t e (event.Crash r) = refl
-other_request t e (event.Restart r) = refl
+other_request t e other = refl
 
 pub other_alone : (t : Token) (e : Event) (h : Happened)
     → asks_another t e h ≡ (same_token t (sent_token h) && not (bytes_eq (asked e) (asked h.event)))

@@ -19,13 +19,7 @@ abbrev pub asked : Event → List ℕ
 asked (event.Write command batcher) = asked_op command.op
 asked (event.Read client seq floor reader replica key) = 0 ∷ key
 asked (event.Session client seq floor replica key) = 4 ∷ key
-asked (event.Deliver number cut) = []
-asked (event.Tick r) = []
-asked (event.Order leader order cut) = []
-asked (event.Replace replacer set cut) = []
-asked (event.Snap replica cut) = []
-asked (event.Crash r) = []
-asked (event.Restart r) = []
+asked other = []
 
 -- the client and the number of a request that was sent
 abbrev pub sent_token : Happened → Option Token

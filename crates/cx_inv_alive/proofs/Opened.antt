@@ -23,7 +23,7 @@ use Rattle.cx_inv_alive.proofs.Moments.{Goes, Moment}
 use Rattle.cx_inv_alive.proofs.Phase.{less, less_test}
 use Rattle.cx_inv_alive.proofs.Views.{CanReach, acceptors, batchers, leaders, matchmakers, proxies, reopened, replicas, unbatchers}
 
--- all kinds of roles but clients, readers and replacers
+-- the kinds of roles that a write needs
 abbrev is_planned : Kind → Bool
 is_planned k = nat_lt 1 (code_of k) && nat_lt (code_of k) 9
 
@@ -48,7 +48,6 @@ opened_is c states (b ∷ others) a m = elim (bool_cases (same_role a b)) [
 module _ (goal : World → Type 0) (c : Cluster) (kept : List KeptRecord) (sent : List Letter) where
   one : (k : Kind) → is_planned k ≡ true → (j : ℕ) → names_role c (role k j) ≡ true → (states : RoleId → State)
       → CanReach goal c kept sent (set_state (role k j) (fresh_state c k) states) → CanReach goal c kept sent states
-  one kind.Client p j named states next = absurd cc
   one kind.Batcher p j named states next = reopened c kept sent kind.Batcher batchers goal j states named next
   one kind.Leader p j named states next = reopened c kept sent kind.Leader leaders goal j states named next
   one kind.Proxy p j named states next = reopened c kept sent kind.Proxy proxies goal j states named next
@@ -56,8 +55,7 @@ module _ (goal : World → Type 0) (c : Cluster) (kept : List KeptRecord) (sent 
   one kind.Matchmaker p j named states next = reopened c kept sent kind.Matchmaker matchmakers goal j states named next
   one kind.Replica p j named states next = reopened c kept sent kind.Replica replicas goal j states named next
   one kind.Unbatcher p j named states next = reopened c kept sent kind.Unbatcher unbatchers goal j states named next
-  one kind.Reader p j named states next = absurd cc
-  one kind.Replacer p j named states next = absurd cc
+  one other p j named states next = absurd cc
 
   each : (all : List RoleId) → ((a : RoleId) → Member a all → (is_planned a.kind ≡ true) × (names_role c a ≡ true))
       → (states : RoleId → State) → CanReach goal c kept sent (opened c all states) → CanReach goal c kept sent states

@@ -1,5 +1,5 @@
--- What all rows share in what they say of the list; the rows of acceptors, batchers and unbatchers; and that matchmakers and replacers say
--- nothing of it.
+-- What all rows share in what they say of the list; the rows of acceptors, batchers and unbatchers; and that roles other than these,
+-- clients, leaders, proxy leaders, replicas and readers say nothing of it.
 use Rattle.std.proofs.Common.{◌≡◌, ◌⊎◌, ℕ, Bool, List, [], ◌∷◌, ◌++◌, map, inl, inr, sym, subst, ⊎_elim, refl}
 use Rattle.std.specs.Prelude.{◌==◌, ◌&&◌, max, nat_lt, nat_le, length, if◌then◌else◌, Option, Some}
 use Rattle.cx_base.specs.declared.cluster.Cluster.{Cluster}
@@ -82,9 +82,15 @@ heard q history sent says me (Order order) g = tt
 -- a role whose kind neither keeps nor sends anything of the list
 
 abbrev pub IsCalm : Kind → Type 0
-IsCalm kind.Matchmaker = Unit {0}
-IsCalm kind.Replacer = Unit {0}
-IsCalm other = ⊥
+IsCalm kind.Client = ⊥
+IsCalm kind.Batcher = ⊥
+IsCalm kind.Leader = ⊥
+IsCalm kind.Proxy = ⊥
+IsCalm kind.Acceptor = ⊥
+IsCalm kind.Replica = ⊥
+IsCalm kind.Unbatcher = ⊥
+IsCalm kind.Reader = ⊥
+IsCalm other = Unit {0}
 
 module _ (q : RequestPredicates) (k : Kind) (calm : IsCalm k) where
   calm_says : (history : List KeptRecord) (from to : RoleId) (m : Msg) → IsSender k m → ListSays q history from to m

@@ -24,7 +24,7 @@ use Rattle.cx_model.specs.CommandList.{IsRight}
 use Rattle.cx_model.specs.Member.{Member}
 use Rattle.cx_model.specs.Outcome.{Outcome}
 use Rattle.cx_model.specs.Reader.{Asked, Batch, make_token}
-use Rattle.cx_inv_run.specs.States.{State, Down, Plain, BatcherIn, LeaderIn, ProxyIn, ReplicaIn, ReaderIn, ReplacerIn, with_record, log_in}
+use Rattle.cx_inv_run.specs.States.{State, BatcherIn, LeaderIn, ProxyIn, ReplicaIn, ReaderIn, with_record, log_in}
 
 -- What may be said of the commands that were asked for, of the keys of the reads that were, and of those of sessions.
 pub record RequestPredicates : Type 1 where
@@ -84,15 +84,13 @@ BatchWanted q None = Unit {0}
 BatchWanted q (Some b) = AreWanted q b.reads
 
 abbrev pub InList : RequestPredicates → State → Type 0
-InList q Down = Unit {0}
-InList q Plain = Unit {0}
 InList q (BatcherIn v) = AreAsked q v.waiting
 InList q (LeaderIn v) = ((p : Promised) → Member p v.promises → AreVotesAsked q p.votes)
     × ((p : Placed) → Member p v.proposed → AreAsked q (commands_of p.value))
 InList q (ProxyIn v) = (p : Pending) → Member p v.pending → AreAsked q (commands_of p.value)
 InList q (ReplicaIn v) = (r : Deferred) → Member r v.deferred → Wants q r.token r.key
 InList q (ReaderIn v) = AreWanted q v.waiting × BatchWanted q v.running
-InList q (ReplacerIn v) = Unit {0}
+InList q other = Unit {0}
 
 -- all of a moment
 pub record ListFacts (q : RequestPredicates) (history : List KeptRecord) (sent : List Letter) (states : RoleId → State) : Type 0 where

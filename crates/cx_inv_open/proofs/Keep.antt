@@ -112,12 +112,11 @@ is_below n k a b e h =
 
 vote_fits : (c : Cluster) (me : RoleId) (w : Written) (history : List KeptRecord) (k : Kind) → FitsAs c me w history k → VoteInWindow w
 vote_fits c me (written.Record (kept.Vote i s cw v)) history kind.Acceptor h = is_below s (cw + 32) _ _ _ h.0
-vote_fits c me (written.Record (kept.Vote i s cw v)) history kind.Leader h = let no = h.0 in cc
-vote_fits c me (written.Record (kept.Vote i s cw v)) history kind.Matchmaker h = let no = h.0 in cc
-vote_fits c me (written.Record (kept.Vote i s cw v)) history kind.Replica h = let no = h.0 in cc
-vote_fits c me (written.Record (kept.Vote i s cw v)) history kind.Reader h = let no = h.0 in cc
-vote_fits c me (written.Record (kept.Vote i s cw v)) history kind.Replacer h = let no = h.0 in cc
-vote_fits c me (written.Record (kept.Vote i s cw v)) history other h = absurd h
+vote_fits c me (written.Record (kept.Vote i s cw v)) history kind.Client h = absurd h
+vote_fits c me (written.Record (kept.Vote i s cw v)) history kind.Batcher h = absurd h
+vote_fits c me (written.Record (kept.Vote i s cw v)) history kind.Proxy h = absurd h
+vote_fits c me (written.Record (kept.Vote i s cw v)) history kind.Unbatcher h = absurd h
+vote_fits c me (written.Record (kept.Vote i s cw v)) history other h = let no = h.0 in cc
 vote_fits c me other history k h = tt
 
 votes_fit : (c : Cluster) (ks : List KeptRecord) → AllFit c ks → (k : KeptRecord) → Member k ks → VoteInWindow k.what

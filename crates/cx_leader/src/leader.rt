@@ -185,7 +185,7 @@ impl Role for Leader {
             Order::Lead(grid) => self.lead(keeper, grid, out),
             Order::Change(grid) => self.change(keeper, grid, out),
             Order::Collect => Ok(self.collect(out)?),
-            // Replacers replace the matchmakers.
+            // A leader doesn't replace the matchmakers.
             Order::Replace(_) => Ok(Why::Stranger),
         }
     }

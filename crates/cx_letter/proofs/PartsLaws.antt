@@ -3,8 +3,7 @@ use Rattle.std.proofs.Common.{◌≡◌, ℕ, Bool, true, false, ◌&&◌, ◌||
 use Rattle.std.proofs.lemmas.Bool.{eqb-true}
 use Rattle.cx_base.specs.Role.{role, code_of, kind_of}
 use Rattle.cx_base.specs.declared.role.Kind.{Kind}
-use Rattle.cx_base.specs.declared.role.Kind.TheVariants.{Client, Batcher, Leader, Proxy, Acceptor, Matchmaker, Replica, Unbatcher, Reader}
-use Rattle.cx_base.specs.declared.role.Kind.TheVariants.{Replacer}
+use Rattle.cx_base.specs.declared.role.Kind.TheVariants.{Client}
 use Rattle.cx_base.specs.declared.role.RoleId.{RoleId}
 use Rattle.cx_wire.specs.Format.{u16}
 use Rattle.cx_wire.proofs.Laws.{both}
@@ -24,15 +23,7 @@ use Rattle.cx_letter.specs.declared.message.Msg.TheVariants.{NextB, BootA, BootB
 
 same_kind : (k : Kind) → k ≡ kind_of (code_of k)
 same_kind Client = refl
-same_kind Batcher = refl
-same_kind Leader = refl
-same_kind Proxy = refl
-same_kind Acceptor = refl
-same_kind Matchmaker = refl
-same_kind Replica = refl
-same_kind Unbatcher = refl
-same_kind Reader = refl
-same_kind Replacer = refl
+same_kind other = refl
 
 only_first : (b : Bool) → (b || false) ≡ true → b ≡ true
 only_first true h = refl

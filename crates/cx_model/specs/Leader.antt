@@ -329,7 +329,7 @@ set_learnt me v Leading (Some own) =
     else only_word why.Learnt v
 set_learnt me v other own = only_word why.Learnt v
 
--- a replacer sends a set that took over
+-- a set that took over is told
 abbrev pub sets_row : RoleId → LeaderDurable → LeaderVolatile → List ℕ → Outcome LeaderVolatile
 sets_row me d v s = if is_above s v.set then set_learnt me (record v { set = s }) v.mode d.own else only_word why.Old v
 
@@ -370,7 +370,7 @@ tick_in c me v Leading (Some own) =
     replied why.Resent v (map (propose_to c me own v.cw) (open_values v) ++ map (leads_to me own.round) (below c.batchers)
     ++ stage_sends c me own v.set v.collection)
 
--- an order; matchmakers are replaced by a replacer
+-- an order; a leader doesn't replace matchmakers
 abbrev pub order_row : Cluster → RoleId → LeaderDurable → LeaderVolatile → OrderOf → Outcome LeaderVolatile
 order_row c me d v (Lead g) = lead_row c me d v g
 order_row c me d v (Change g) = change_row c me d v g

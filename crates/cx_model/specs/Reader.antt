@@ -223,7 +223,7 @@ asked_anew c me v (Some b) =
     if is_matched c b then only_word Learnt v
     else replied Learnt (with_batch v (record b { told = [] })) (ask_matchmakers me v.set b.turn)
 
--- a replacer sends a set that took over; reads wait on
+-- a set that took over is told; reads wait on
 abbrev pub sets_row : Cluster → RoleId → ReaderVolatile → List ℕ → Outcome ReaderVolatile
 sets_row c me v s = if is_above s v.set then asked_anew c me (record v { set = s }) v.running else only_word Old v
 

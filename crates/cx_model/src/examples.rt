@@ -270,8 +270,9 @@ pub fn matchmakers_are_replaced()
     ensures { MatchmakersAreReplaced }
 {}
 
-/// Two replacers have a next set decided among the same matchmakers. The first one is refused, begins anew and hears of two
-/// accepted sets. It asks for the one of the later ballot, which is decided already, and not for the one that it was ordered.
+/// Two roles that replace matchmakers have a next set decided among the same ones. The first role is refused, begins anew
+/// and hears of two accepted sets. It asks for the one of the later ballot, which is decided already, and not for the one
+/// that it was ordered.
 pub fn accepted_set_is_decided()
     ensures { AcceptedSetIsDecided }
 {}

@@ -7,8 +7,7 @@ use Rattle.std.proofs.lemmas.List.{append-nil, nil_from_length, length-append}
 use Rattle.std.specs.List.{list_any, list_all}
 use Rattle.cx_base.specs.Role.{code_of, kind_of}
 use Rattle.cx_base.specs.declared.role.Kind.{Kind}
-use Rattle.cx_base.specs.declared.role.Kind.TheVariants.{Client, Batcher, Leader, Proxy, Acceptor, Matchmaker, Replica, Unbatcher, Reader}
-use Rattle.cx_base.specs.declared.role.Kind.TheVariants.{Replacer}
+use Rattle.cx_base.specs.declared.role.Kind.TheVariants.{Client}
 use Rattle.cx_wire.specs.Format.{Miss, u8, u16, ◌▷◌, by_tag}
 use Rattle.cx_wire.proofs.Laws.{IsBytes, IsExact, u8-exact, u16-exact, ▷-exact, shaped-exact, by_tag-takes, both, ok_is, tag_fits}
 use Rattle.cx_letter.specs.Messages.{body_shape, body_with, cases_with, tells_floors, version_of}
@@ -80,15 +79,7 @@ code_back (suc (suc (suc (suc (suc (suc (suc (suc (suc (suc (suc c))))))))))) lo
 
 kind_back : (k : Kind) → kind_of (code_of k) ≡ k
 kind_back Client = refl
-kind_back Batcher = refl
-kind_back Leader = refl
-kind_back Proxy = refl
-kind_back Acceptor = refl
-kind_back Matchmaker = refl
-kind_back Replica = refl
-kind_back Unbatcher = refl
-kind_back Reader = refl
-kind_back Replacer = refl
+kind_back other = refl
 
 are_codes : List (ℕ × ℕ) → Bool
 are_codes ps = list_all (λ (p : ℕ × ℕ). not (ltb p.1 1) && not (ltb 10 p.1)) ps
@@ -341,15 +332,7 @@ small_tag m = small_kind (body_shape m).tag (has_kind m)
 
 small_code : (k : Kind) → code_of k < 256
 small_code Client = lit< tt
-small_code Batcher = lit< tt
-small_code Leader = lit< tt
-small_code Proxy = lit< tt
-small_code Acceptor = lit< tt
-small_code Matchmaker = lit< tt
-small_code Replica = lit< tt
-small_code Unbatcher = lit< tt
-small_code Reader = lit< tt
-small_code Replacer = lit< tt
+small_code other = lit< tt
 
 short_fits : (n : ℕ) → n < 65536 → u16.fits n ≡ true
 unfolding u16

@@ -8,8 +8,7 @@ use Rattle.std.proofs.lemmas.List.{append-nil}
 use Rattle.std.proofs.lemmas.Nat.{from_be_bytes-to_be_bytes_2}
 use Rattle.cx_base.specs.Role.{code_of, kind_of, role}
 use Rattle.cx_base.specs.declared.role.Kind.{Kind}
-use Rattle.cx_base.specs.declared.role.Kind.TheVariants.{Client, Batcher, Leader, Proxy, Acceptor, Matchmaker, Replica, Unbatcher, Reader}
-use Rattle.cx_base.specs.declared.role.Kind.TheVariants.{Replacer}
+use Rattle.cx_base.specs.declared.role.Kind.TheVariants.{Client}
 use Rattle.cx_base.specs.declared.role.RoleId.{RoleId}
 use Rattle.cx_wire.specs.Format.{Miss, bad, by_tag, short_field, u8, u16}
 use Rattle.cx_field.specs.Reading.{Fails}
@@ -54,27 +53,11 @@ same_letter d fit =
 
 kind_again : (k : Kind) → kind_of (code_of k % 256) ≡ k
 kind_again Client = refl
-kind_again Batcher = refl
-kind_again Leader = refl
-kind_again Proxy = refl
-kind_again Acceptor = refl
-kind_again Matchmaker = refl
-kind_again Replica = refl
-kind_again Unbatcher = refl
-kind_again Reader = refl
-kind_again Replacer = refl
+kind_again other = refl
 
 code_low : (k : Kind) → code_of k % 256 ≤ 10
 code_low Client = lit≤ tt
-code_low Batcher = lit≤ tt
-code_low Leader = lit≤ tt
-code_low Proxy = lit≤ tt
-code_low Acceptor = lit≤ tt
-code_low Matchmaker = lit≤ tt
-code_low Replica = lit≤ tt
-code_low Unbatcher = lit≤ tt
-code_low Reader = lit≤ tt
-code_low Replacer = lit≤ tt
+code_low other = lit≤ tt
 
 role_again : (r : RoleId) → u16.fits r.index ≡ true
     → role (kind_of (code_of r.kind % 256)) (from_be_bytes w16 (to_be_bytes w16 r.index)) ≡ r

@@ -14,7 +14,7 @@ pub use Rattle.cx_field.proofs.ListLaws.{entries_filter}
 pub use Rattle.cx_role.proofs.Step.{done}
 pub use Rattle.cx_role.specs.Prelude.{Shape, is_in, below, numbers, role, same_role, is_before, no_round, same_round}
 pub use Rattle.cx_role.specs.Prelude.{Cluster, Answered, Command, Placed, Value, Kind, Acceptor, Leader, Matchmaker}
-pub use Rattle.cx_role.specs.Prelude.{Reader, Replacer, RoleId, Round, Why, in_window, Entry, Token, Vote, all_fit}
+pub use Rattle.cx_role.specs.Prelude.{Reader, RoleId, Round, Why, in_window, Entry, Token, Vote, all_fit}
 pub use Rattle.cx_role.specs.Prelude.{entries_told, greatest_watermark, is_member_of, live_entries, rows_whole, names}
 pub use Rattle.cx_role.specs.Prelude.{names_ballot, names_set}
 pub use Rattle.cx_role.specs.Prelude.{names_body, names_entry, names_grid, names_role, names_round, names_value}

@@ -14,7 +14,7 @@ pub use Rattle.cx_base.specs.declared.command.Command.{Command}
 pub use Rattle.cx_base.specs.declared.command.Placed.{Placed}
 pub use Rattle.cx_base.specs.declared.command.Value.{Value}
 pub use Rattle.cx_base.specs.declared.role.Kind.{Kind}
-pub use Rattle.cx_base.specs.declared.role.Kind.TheVariants.{Acceptor, Leader, Matchmaker, Reader, Replacer}
+pub use Rattle.cx_base.specs.declared.role.Kind.TheVariants.{Acceptor, Leader, Matchmaker, Reader}
 pub use Rattle.cx_base.specs.declared.role.Kind.TheVariants as kind
 pub use Rattle.cx_base.specs.declared.role.RoleId.{RoleId}
 pub use Rattle.cx_base.specs.declared.round.Round.{Round}

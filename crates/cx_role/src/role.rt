@@ -107,7 +107,7 @@ pub trait Role: Sized {
         ensures fits { MayKeep rules (state self.old)
             (outcome_of rules (state self.old) (input.Take datagram.now)) };
 
-    /// One order, by the same law; only leaders and replacers have rows for orders.
+    /// One order, by the same law; most kinds have no rows for orders.
     fn order<K: Keeper>(
         &mut self,
         keeper: &mut K,

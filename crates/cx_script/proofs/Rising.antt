@@ -9,8 +9,7 @@ use Rattle.std.proofs.lemmas.List.{get_or-set_same, get_or-set_other}
 use Rattle.cx_base.specs.Asked.{is_valid_event}
 use Rattle.cx_base.specs.declared.cluster.Cluster.{Cluster}
 use Rattle.cx_base.specs.declared.event.Event.{Event}
-use Rattle.cx_base.specs.declared.event.Event.TheVariants as event
-use Rattle.cx_base.specs.declared.event.Event.TheVariants.{Write, Read, Session, Deliver, Tick, Snap, Crash, Restart}
+use Rattle.cx_base.specs.declared.event.Event.TheVariants.{Write, Read, Session}
 use Rattle.cx_script.specs.declared.fault.LineFault.{LineFault}
 use Rattle.cx_script.specs.declared.fault.LineFault.TheVariants.{Word}
 use Rattle.cx_script.specs.Lines.{ParsedLines, with_line, lines_of}
@@ -42,13 +41,7 @@ small c (Session other number floor replica key) client seq named is =
     let least : other < c.clients = grind (arith, nat_tests) in
     let fit = c.clients_fit in
     omega (arith, own, least, fit)
-small c (Deliver number cut) client seq named is = cc
-small c (Tick role) client seq named is = cc
-small c (event.Order leader order cut) client seq named is = cc
-small c (event.Replace replacer set cut) client seq named is = cc
-small c (Snap replica cut) client seq named is = cc
-small c (Crash role) client seq named is = cc
-small c (Restart role) client seq named is = cc
+small c other client seq named is = cc
 
 pub client_small : (c : Cluster) (line : List ℕ) (e : Event) (client seq : ℕ) → request_line c line ≡ Ok (Some e)
     → asker e ≡ Some (client, seq) → client < 64

@@ -4,8 +4,7 @@ use Rattle.std.specs.Prelude.{None, Some, option_to_list, Result, Ok, Err, if◌
 use Rattle.std.specs.List.{list_all, list_any}
 use Rattle.cx_base.specs.declared.cluster.Cluster.{Cluster}
 use Rattle.cx_base.specs.declared.event.Event.{Event}
-use Rattle.cx_base.specs.declared.event.Event.TheVariants as event
-use Rattle.cx_base.specs.declared.event.Event.TheVariants.{Write, Read, Session, Deliver, Tick, Snap, Crash, Restart}
+use Rattle.cx_base.specs.declared.event.Event.TheVariants.{Write, Read, Session}
 use Rattle.cx_script.specs.declared.fault.LineFault.{LineFault}
 use Rattle.cx_script.specs.declared.fault.LineFault.TheVariants.{Number, Word}
 use Rattle.cx_script.specs.Grammar.{line_event}
@@ -17,13 +16,7 @@ abbrev pub asker : Event → Option (ℕ × ℕ)
 asker (Write command batcher) = Some (command.client, command.seq)
 asker (Read client seq floor reader replica key) = Some (client, seq)
 asker (Session client seq floor replica key) = Some (client, seq)
-asker (Deliver number cut) = None
-asker (Tick role) = None
-asker (event.Order leader order cut) = None
-asker (event.Replace replacer set cut) = None
-asker (Snap replica cut) = None
-asker (Crash role) = None
-asker (Restart role) = None
+asker other = None
 
 -- whether it is a request of this client
 abbrev pub is_of_client : ℕ → Option (ℕ × ℕ) → Bool
@@ -102,13 +95,7 @@ abbrev pub tells_no_floor : Event → Bool
 tells_no_floor (Write command batcher) = command.floor + 1 == command.seq
 tells_no_floor (Read client seq floor reader replica key) = floor + 1 == seq
 tells_no_floor (Session client seq floor replica key) = floor + 1 == seq
-tells_no_floor (Deliver number cut) = true
-tells_no_floor (Tick role) = true
-tells_no_floor (event.Order leader order cut) = true
-tells_no_floor (event.Replace replacer set cut) = true
-tells_no_floor (Snap replica cut) = true
-tells_no_floor (Crash role) = true
-tells_no_floor (Restart role) = true
+tells_no_floor other = true
 
 -- whether the numbers of requests rise, the first one above this
 abbrev pub rise_above : ℕ → List Event → Bool

@@ -85,28 +85,12 @@ never e = cc
 none_at : (k : Kind) (index client m : ℕ) → is_client k ≡ false
     → ◌≡◌ {A = ℕ} (if (code_of k == code_of kind.Client) && (index == client) then m else 0) 0
 none_at kind.Client index client m other = never (sym other)
-none_at kind.Batcher index client m other = refl
-none_at kind.Leader index client m other = refl
-none_at kind.Proxy index client m other = refl
-none_at kind.Acceptor index client m other = refl
-none_at kind.Matchmaker index client m other = refl
-none_at kind.Replica index client m other = refl
-none_at kind.Unbatcher index client m other = refl
-none_at kind.Reader index client m other = refl
-none_at kind.Replacer index client m other = refl
+none_at k index client m other = refl
 
 one_at : (k : Kind) (index client m : ℕ) → is_client k ≡ true
     → ◌≡◌ {A = ℕ} (if (code_of k == code_of kind.Client) && (index == client) then m else 0) (if index == client then m else 0)
 one_at kind.Client index client m is = refl
-one_at kind.Batcher index client m is = never is
-one_at kind.Leader index client m is = never is
-one_at kind.Proxy index client m is = never is
-one_at kind.Acceptor index client m is = never is
-one_at kind.Matchmaker index client m is = never is
-one_at kind.Replica index client m is = never is
-one_at kind.Unbatcher index client m is = never is
-one_at kind.Reader index client m is = never is
-one_at kind.Replacer index client m is = never is
+one_at other index client m is = never is
 
 pub told_none : (d : Letter) → is_client d.to.kind ≡ false → (client : ℕ) → told_to client (Some d) ≡ 0
 told_none d other client = none_at d.to.kind d.to.index client (mark_told d.msg) other
@@ -121,15 +105,7 @@ told_at client sent (Some n) = told_to client (slice_get sent n)
 
 pub delivered_is : (client : ℕ) (sent : List Letter) (e : Event) → delivered_to client sent e ≡ told_at client sent (delivered e)
 delivered_is client sent (event.Write command batcher) = refl
-delivered_is client sent (event.Read who seq floor reader replica key) = refl
-delivered_is client sent (event.Session who seq floor replica key) = refl
-delivered_is client sent (event.Deliver n cut) = refl
-delivered_is client sent (event.Tick r) = refl
-delivered_is client sent (event.Order leader order cut) = refl
-delivered_is client sent (event.Replace replacer set cut) = refl
-delivered_is client sent (event.Snap replica cut) = refl
-delivered_is client sent (event.Crash r) = refl
-delivered_is client sent (event.Restart r) = refl
+delivered_is client sent other = refl
 
 -- what was heard with a word that doesn't say so, of an event that delivers nothing, and of one that does
 pub heard_none : (client : ℕ) (sent : List Letter) (h : Happened) → is_heard h.why ≡ false → heard_at client sent h ≡ 0
@@ -272,14 +248,6 @@ come_hears w cut n (Some d) e = subst (λ b. (not (is_heard (come w cut (Some d)
 
 pub change_hears : (w : World) (e : Event) (u : Why) → u ≡ (change w e).why
     → heard_below (length w.sent) (record { event = e; why = u }) ≡ true
-change_hears w (event.Write command batcher) u is = or-true (not (is_heard u))
-change_hears w (event.Read client seq floor reader replica key) u is = or-true (not (is_heard u))
-change_hears w (event.Session client seq floor replica key) u is = or-true (not (is_heard u))
 change_hears w (event.Deliver n cut) u is =
     subst (λ x. (not (is_heard x) || nat_lt n (length w.sent)) ≡ true) (sym is) (come_hears w cut n (slice_get w.sent n) refl)
-change_hears w (event.Tick r) u is = or-true (not (is_heard u))
-change_hears w (event.Order leader order cut) u is = or-true (not (is_heard u))
-change_hears w (event.Replace replacer set cut) u is = or-true (not (is_heard u))
-change_hears w (event.Snap replica cut) u is = or-true (not (is_heard u))
-change_hears w (event.Crash r) u is = or-true (not (is_heard u))
-change_hears w (event.Restart r) u is = or-true (not (is_heard u))
+change_hears w other u is = or-true (not (is_heard u))

@@ -1,4 +1,5 @@
-use Rattle.cx_role.proofs.Common.{◌==◌, not, role, Replacer}
+use Rattle.cx_base.specs.declared.role.Kind.TheVariants.{Replacer}
+use Rattle.cx_role.proofs.Common.{◌==◌, not, role}
 use Rattle.cx_role.proofs.Sends.{IsSendingTo}
 use Rattle.cx_model.specs.Replacer.{sets_to}
 use Rattle.cx_replace.proofs.sends.tell_others.Given as goal
