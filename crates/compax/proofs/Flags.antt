@@ -1,13 +1,11 @@
 -- What clap's getter of a `bool` reads of the rows.
-use Rattle.std.proofs.Common.{◌≡◌, refl, Bool, Option, Some, None, true, false, inl, inr, codes, unwrap_or}
-use Rattle.std.proofs.lemmas.Bool.{cases_Bool}
 use Rattle.std.proofs.lemmas.Slice.Eq.{bytes_eq-Decides}
-use Rattle.std.specs.Option.{option_map_or}
-use Rattle.std.specs.Str.{bytes_eq}
 use Rattle.std.specs.Str.Parse.{ParsesBool}
 use Rattle.clap.specs.Words.{ReadsOne, Text, one_text, rows_of}
 use Rattle.clap.specs.declared.parser.matches.Found.{Found}
 use Rattle.clap.proofs.WalkLemmas.{one_text-rows}
+use Rattle.cx_base.proofs.Common.{◌≡◌, refl, Bool, Option, Some, None, true, false, inl, inr, codes, unwrap_or, cases_Bool, option_map_or}
+use Rattle.cx_base.proofs.Common.{bytes_eq}
 use Rattle.compax.specs.Words.{is_set}
 
 -- a flag that the getter lacks isn't set

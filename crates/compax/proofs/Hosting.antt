@@ -1,6 +1,5 @@
 -- What is answered to words that ask for a node.
-use Rattle.std.proofs.Common.{◌≡◌, ℕ, Bool, List, Option, Some, None, sym, subst}
-use Rattle.cx_base.specs.declared.role.RoleId.{RoleId}
+use Rattle.cx_node.proofs.Common.{◌≡◌, ℕ, Bool, List, Option, Some, None, sym, subst, RoleId}
 use Rattle.cx_base.specs.declared.status.Status.{Status}
 use Rattle.cx_node.specs.Serving.{Outside, IsNodeAnswer, NodeCompletes, TellsBad as HostedTellsBad, TellsUsed as HostedTellsUsed}
 use Rattle.compax.specs.Answer.{IsTopAnswer}

@@ -1,7 +1,6 @@
 -- What a parse of this command's words gives.
 use Rattle.std.proofs.Common.{◌≡◌, ◌∙◌, ap, sym, refl, List, [], ◌∷◌, Option, Some, None, true, false, inl, inr, option_map}
-use Rattle.std.proofs.Common.{option_and_then}
-use Rattle.std.proofs.Common.{ap₂, is_some, Box}
+use Rattle.std.proofs.Common.{option_and_then, ap₂, is_some, Box}
 use Rattle.std.proofs.lemmas.Option.{same_Some}
 use Rattle.std.specs.Box.{box_value}
 use Rattle.clap.specs.declared.parser.matches.SubCommand.{SubCommand}

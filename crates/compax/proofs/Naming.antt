@@ -1,10 +1,7 @@
 -- Roles that are named one by one, and tested one by one.
-use Rattle.std.proofs.Common.{◌≡◌, ℕ, Bool, ◌&&◌, not, true, false, List, [], ◌∷◌, ◌++◌, append_assoc, Option, Some, None, option_map}
-use Rattle.std.proofs.Common.{option_and_then, refl, sym, ap, ◌∙◌}
-use Rattle.std.specs.List.{list_any}
-use Rattle.std.proofs.lemmas.List.{append-nil}
+use Rattle.cx_base.proofs.Common.{◌≡◌, ℕ, Bool, ◌&&◌, not, true, false, List, [], ◌∷◌, ◌++◌, append_assoc, Option, Some, None, option_map}
+use Rattle.cx_base.proofs.Common.{option_and_then, refl, sym, ap, ◌∙◌, list_any, append-nil, same_role}
 use Rattle.cx_base.specs.declared.role.RoleId.{RoleId}
-use Rattle.cx_base.specs.Role.{same_role}
 use Rattle.compax.specs.Roles.{all_roles, role_of, stand_once}
 
 -- these roles, and those that are named after them

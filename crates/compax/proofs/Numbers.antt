@@ -1,7 +1,4 @@
 -- What clap's getter of a number reads of the rows.
-use Rattle.std.proofs.Common.{◌≡◌, ap, refl, ℕ, ◌+◌, ◌≤◌, ◌^◌, List, Option, Some, None, Result, Ok, Err, true, false, inl, inr, arith}
-use Rattle.std.proofs.Common.{option_and_then}
-use Rattle.std.proofs.lemmas.Bool.{cases_Bool}
 use Rattle.std.specs.Str.Parse.{ParsesUnsigned}
 use Rattle.clap.specs.Words.{ReadsOne, one_text, rows_of, Text}
 use Rattle.clap.specs.ValueTests.{is_unsigned_in}
@@ -9,6 +6,8 @@ use Rattle.clap.specs.declared.parser.matches.Found.{Found}
 use Rattle.clap.specs.declared.builder.value_parser.ValueParser.TheVariants as parser
 use Rattle.clap.proofs.WalkLemmas.{one_text-rows}
 use Rattle.clap.proofs.ValueTestLemmas.{accepts-Accepts, Accepts-accepts}
+use Rattle.cx_base.proofs.Common.{◌≡◌, ap, refl, ℕ, ◌+◌, ◌≤◌, ◌^◌, List, Option, Some, None, Result, Ok, Err, true, false, inl, inr, arith}
+use Rattle.cx_base.proofs.Common.{option_and_then, cases_Bool}
 use Rattle.compax.specs.Words.{text_number, number_at}
 
 -- the getter of a number at a type of `bits` bits

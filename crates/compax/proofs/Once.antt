@@ -1,12 +1,7 @@
 -- A role that stands once stands at one place.
-use Rattle.std.proofs.Common.{◌≡◌, ℕ, zero, suc, Bool, ◌==◌, ◌&&◌, not, true, false, List, [], ◌∷◌, Some, slice_get, refl, sym, ap, ◌∙◌}
-use Rattle.std.proofs.Common.{arith, inl, inr}
-use Rattle.std.specs.List.{list_any}
-use Rattle.std.proofs.lemmas.Bool.{cases_Bool}
-use Rattle.std.proofs.lemmas.Bool.Decides.{nat_tests}
-use Rattle.std.proofs.lemmas.Option.{same_Some}
+use Rattle.cx_base.proofs.Common.{◌≡◌, ℕ, zero, suc, Bool, ◌==◌, ◌&&◌, not, true, false, List, [], ◌∷◌, Some, slice_get, refl, sym, ap, ◌∙◌}
+use Rattle.cx_base.proofs.Common.{arith, inl, inr, list_any, cases_Bool, nat_tests, same_Some, code_of, same_role}
 use Rattle.cx_base.specs.declared.role.RoleId.{RoleId}
-use Rattle.cx_base.specs.Role.{code_of, same_role}
 use Rattle.compax.specs.Roles.{stand_once}
 
 number_itself : (i : ℕ) → (i == i) ≡ true

@@ -1,13 +1,10 @@
 -- A text that is written in parts.
-use Rattle.std.proofs.Common.{◌≡◌, ◌≤◌, ◌<◌, ℕ, zero, suc, ◌+◌, List, [], ◌∷◌, ◌++◌, length, get_or, map, take, drop, take-append-drop}
-use Rattle.std.proofs.Common.{Option, sym, ap, ◌∙◌, subst, append_assoc, inl, inr, refl, arith}
 use Rattle.std.specs.List.{concat}
-use Rattle.std.proofs.lemmas.List.{append-nil, map_more}
+use Rattle.std.proofs.lemmas.List.{map_more}
 use Rattle.std.proofs.lemmas.List.Folds.{concat-append}
-use Rattle.std.proofs.Math.Seq.{take-append_seam, take-append-add}
-use Rattle.std.specs.Io.KnownBytes.{Appends}
-use Rattle.std.proofs.KnownBytes.{Appends-trans}
-use Rattle.cx_base.specs.Faults.{Rises}
+use Rattle.cx_base.proofs.Common.{◌≡◌, ◌≤◌, ◌<◌, ℕ, zero, suc, ◌+◌, List, [], ◌∷◌, ◌++◌, length, get_or, map, take, drop, take-append-drop}
+use Rattle.cx_base.proofs.Common.{Option, sym, ap, ◌∙◌, subst, append_assoc, inl, inr, refl, arith, append-nil, take-append_seam}
+use Rattle.cx_base.proofs.Common.{take-append-add, Appends, Appends-trans, Rises}
 use Rattle.cx_edge.specs.Sink.{AppendsPart, SaysText}
 
 rises_later : (m n k : ℕ) → m ≤ n → Rises n k → Rises m k

@@ -1,8 +1,7 @@
 -- What words say that are written out, whatever the program is called.
-use Rattle.std.proofs.Common.{◌≡◌, refl, ℕ, List, [], ◌∷◌, codes, Some, None, true, false}
 use Rattle.clap.proofs.OnLiterals.{clap_on_literals}
+use Rattle.cx_base.proofs.Common.{◌≡◌, refl, ℕ, List, [], ◌∷◌, codes, Some, None, true, false, role}
 use Rattle.cx_base.specs.declared.role.Kind.TheVariants.{Batcher, Client}
-use Rattle.cx_base.specs.Role.{role}
 use Rattle.compax.specs.declared.words.Invocation.TheVariants.{Replay, Generate, Node}
 use Rattle.compax.specs.Words.{said}
 

@@ -1,9 +1,7 @@
 -- The window that words ask for is from 1 to 64.
-use Rattle.std.proofs.Common.{◌≡◌, ◌⊎◌, inl, inr, ◌≤◌, ◌&&◌, ℕ, Bool, true, false, nat_le, List, Option, None, Some, option_and_then}
-use Rattle.std.proofs.Common.{option_map, if◌then◌else◌, leb-true, subst, codes}
-use Rattle.std.specs.Str.{bytes_eq}
-use Rattle.std.proofs.lemmas.Bool.{and_parts, cases_Bool}
 use Rattle.clap.specs.Words.{Row, Text, fault_of, subcommand_of}
+use Rattle.cx_base.proofs.Common.{◌≡◌, ◌⊎◌, inl, inr, ◌≤◌, ◌&&◌, ℕ, Bool, true, false, nat_le, List, Option, None, Some, option_and_then}
+use Rattle.cx_base.proofs.Common.{option_map, if◌then◌else◌, leb-true, subst, codes, bytes_eq, and_parts, cases_Bool}
 use Rattle.cx_base.specs.declared.role.RoleId.{RoleId}
 use Rattle.compax.specs.declared.words.Invocation.{Invocation}
 use Rattle.compax.specs.declared.words.Invocation.TheVariants.{Replay, Generate, Node}

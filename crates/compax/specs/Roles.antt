@@ -1,12 +1,11 @@
 -- The roles that words name.
 use Rattle.std.specs.Prelude.{ℕ, Bool, ◌&&◌, not, true, List, [], ◌∷◌, find, Option, Some, None, option_map, option_and_then, if◌then◌else◌}
-use Rattle.std.specs.List.{list_any}
-use Rattle.std.specs.Str.{bytes_eq}
+use Rattle.std.specs.Prelude.{bytes_eq}
+use Rattle.cx_base.specs.Prelude.{list_any, kind_text, role, same_role}
 use Rattle.cx_base.specs.declared.role.Kind.{Kind}
 use Rattle.cx_base.specs.declared.role.Kind.TheVariants.{Client, Batcher, Leader, Proxy, Acceptor, Matchmaker, Replica, Unbatcher, Reader}
 use Rattle.cx_base.specs.declared.role.Kind.TheVariants.{Replacer}
 use Rattle.cx_base.specs.declared.role.RoleId.{RoleId}
-use Rattle.cx_base.specs.Role.{kind_text, role, same_role}
 use Rattle.cx_script.specs.Places.{index_below, index_part, kind_part}
 
 abbrev pub kinds : List Kind

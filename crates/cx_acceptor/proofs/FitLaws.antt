@@ -1,12 +1,12 @@
 -- An acceptor keeps a vote that it may keep.
-use Rattle.cx_role.proofs.Common.{◌≡◌, ℕ, ◌&&◌, true, nat_lt, refl, and_parts, le-leb, Value, RoleId, Round, same_role}
-use Rattle.cx_role.proofs.Common.{is_before, in_window, Letter, Take, names, names_round, names_value, by_test, Running}
-use Rattle.cx_role.proofs.Common.{outcome_of, MayKeep}
+use Rattle.std.proofs.lemmas.Bool.{le-leb, ltb-false}
+use Rattle.cx_role.proofs.Common.{◌≡◌, ℕ, ◌&&◌, true, nat_lt, refl, and_parts, Value, RoleId, Round, same_role, is_before, in_window}
+use Rattle.cx_role.proofs.Common.{Letter, Take, names, names_round, names_value, by_test, Running, outcome_of, MayKeep, acceptor_rules}
+use Rattle.cx_role.proofs.Common.{is_of_round, vote_at}
 use Rattle.cx_role.proofs.Common.msg
 use Rattle.cx_role.proofs.Named.{body_named}
-use Rattle.std.proofs.lemmas.Bool.{ltb-false}
 use Rattle.cx_letter.specs.LetterParts.{PartsFit}
-use Rattle.cx_model.specs.Acceptor.{AcceptorDurable, acceptor_rules, is_of_round, phase2a_row, vote_at}
+use Rattle.cx_model.specs.Acceptor.{AcceptorDurable, phase2a_row}
 
 module _ (s : Running AcceptorDurable (Unit {0})) (i : Round) (n cw : ℕ) (v : Value) where
   phase2a_fit : (from : RoleId) → names_round s.cluster i ≡ true → names_value s.cluster v ≡ true

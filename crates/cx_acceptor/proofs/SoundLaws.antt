@@ -1,15 +1,15 @@
 -- An acceptor stays sound.
-use Rattle.cx_role.proofs.Common.{◌≡◌, ◌≤◌, ◌<◌, ℕ, ◌+◌, ◌^◌, ◌&&◌, Bool, true, not, nat_le, nat_lt, max, List, [], ◌∷◌}
-use Rattle.cx_role.proofs.Common.{refl, arith, and_parts, nat_tests, Cluster, Value, Acceptor, RoleId, Round}
-use Rattle.cx_role.proofs.Common.{role, is_before, no_round, Record, Vote, in_window, names_round, names_value}
+use Rattle.cx_role.specs.Prelude.{Acceptor, round, slots_rise, vote_in_range, AcceptorDurable}
+use Rattle.cx_role.proofs.Common.{◌≡◌, ◌≤◌, ◌<◌, ℕ, ◌+◌, ◌^◌, ◌&&◌, Bool, true, not, nat_le, nat_lt, max, List, [], ◌∷◌, refl, arith}
+use Rattle.cx_role.proofs.Common.{and_parts, nat_tests, Cluster, Value, RoleId, Round, role, is_before, no_round, Record, Vote, in_window}
+use Rattle.cx_role.proofs.Common.{names_round, names_value, value, fits, vote_at, is_of_round}
 use Rattle.cx_role.proofs.Common.kept
 use Rattle.cx_role.proofs.Ranges.{max_fits, real_or_none}
 use Rattle.cx_wire.specs.Format.{u16, u32, u64}
-use Rattle.cx_field.specs.Fields.{mark, round, round0, slot, value}
-use Rattle.cx_field.specs.Ranges.{slots_rise, vote_in_range}
-use Rattle.cx_letter.specs.Records.{fits, kept_record}
+use Rattle.cx_field.specs.Fields.{mark, round0, slot}
+use Rattle.cx_letter.specs.Records.{kept_record}
 use Rattle.cx_field.proofs.Rising.{rises-filter}
-use Rattle.cx_model.specs.Acceptor.{AcceptorDurable, acceptor_after, acceptor_fits, votes_from_slot, vote_at, is_of_round}
+use Rattle.cx_model.specs.Acceptor.{acceptor_after, acceptor_fits, votes_from_slot}
 use Rattle.cx_acceptor.specs.Sound.{IsSound}
 use Rattle.cx_acceptor.proofs.VoteLaws.{all_in, all_with, rising_with}
 

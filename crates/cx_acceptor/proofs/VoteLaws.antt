@@ -1,13 +1,11 @@
 -- Votes by rising slot.
-use Rattle.cx_role.proofs.Common.{◌≡◌, ◌≤◌, ◌<◌, ℕ, suc, ◌+◌, ◌==◌, Bool, true, false, not, nat_le, nat_lt, position}
-use Rattle.cx_role.proofs.Common.{if◌then◌else◌, List, [], ◌∷◌, length, Option, refl, list_all, get_or, set, sym}
-use Rattle.cx_role.proofs.Common.{◌∙◌, arith, nat_tests, Vote}
-use Rattle.std.specs.List.{insert, position_or_len}
-use Rattle.std.specs.Option.{unwrap_or}
 use Rattle.std.proofs.lemmas.List.Recursion.{is_position_or_len}
 use Rattle.std.proofs.lemmas.List.Sums.{prefix_len-le-length}
+use Rattle.cx_base.proofs.Common.{◌≡◌, ◌≤◌, ◌<◌, ℕ, suc, ◌+◌, ◌==◌, Bool, true, false, not, nat_le, nat_lt, position, if◌then◌else◌, List}
+use Rattle.cx_base.proofs.Common.{[], ◌∷◌, length, Option, refl, list_all, get_or, set, sym, ◌∙◌, arith, nat_tests, insert, position_or_len}
+use Rattle.cx_base.proofs.Common.{unwrap_or}
+use Rattle.cx_role.specs.Prelude.{Vote, slots_rise, vote_in_range}
 use Rattle.cx_field.specs.Fields.{votes}
-use Rattle.cx_field.specs.Ranges.{slots_rise, vote_in_range}
 use Rattle.cx_field.proofs.ListLaws.{votes_fit}
 use Rattle.cx_model.specs.Acceptor.{with_vote}
 

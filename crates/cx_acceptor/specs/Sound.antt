@@ -1,9 +1,6 @@
 -- What is so of every acceptor.
-use Rattle.std.specs.Prelude.{◌≡◌}
-use Rattle.cx_role.specs.Prelude.{IsTrue, list_all, Acceptor, RoleId, role, Vote}
-use Rattle.cx_field.specs.Fields.{mark, round0}
-use Rattle.cx_field.specs.Ranges.{slots_rise, vote_in_range}
-use Rattle.cx_model.specs.Acceptor.{AcceptorDurable}
+use Rattle.std.specs.Prelude.{◌≡◌, IsTrue}
+use Rattle.cx_role.specs.Prelude.{list_all, Acceptor, RoleId, role, Vote, mark, round0, slots_rise, vote_in_range, AcceptorDurable}
 
 -- it is an acceptor, its promise is a round or none, its chosen watermark and top are numbers of slots, and its votes are in
 -- the window from the chosen watermark on, by rising slot

@@ -1,9 +1,7 @@
 -- An array of zeros into whose front a name, a set or a grid's members were copied.
-use Rattle.std.proofs.Common.{◌≡◌, ◌≤◌, ◌++◌, ◌-◌, ◌*◌, ℕ, List, length, take, drop, replicate, sym, ap, subst, ◌∙◌, arith, IsTrue}
-use Rattle.std.proofs.lemmas.List.{take_at, drop_at, length-append, length-drop, length-replicate, drop-replicate}
-use Rattle.cx_base.specs.Grid.{IsGrid, Shape}
-use Rattle.cx_base.specs.Name.{IsName}
-use Rattle.cx_base.specs.Sets.{is_rising}
+use Rattle.std.proofs.lemmas.List.{length-replicate, drop-replicate}
+use Rattle.cx_base.proofs.Common.{◌≡◌, ◌≤◌, ◌++◌, ◌-◌, ◌*◌, ℕ, List, length, take, drop, replicate, sym, ap, subst, ◌∙◌, arith, IsTrue}
+use Rattle.cx_base.proofs.Common.{take_at, drop_at, length-append, length-drop, IsGrid, Shape, IsName, is_rising}
 
 -- bytes before an array of zeros are such an array
 pub name_padded : (limit : ℕ) (front bytes : List ℕ) → front ≡ bytes → IsName limit bytes

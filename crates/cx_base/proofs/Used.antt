@@ -1,18 +1,15 @@
 -- Which numbers of clients a client table knows to be used.
-use Rattle.std.proofs.Common.{◌≡◌, ◌⊎◌, ℕ, ◌+◌, Bool, true, false, not, ◌&&◌, ◌||◌, List, [], ◌∷◌, ◌++◌, inl, inr, ap, sym, subst, ◌∙◌}
-use Rattle.std.proofs.Common.{refl, arith}
-use Rattle.std.specs.Prelude.{◌==◌, nat_le, nat_lt, max, None}
-use Rattle.std.specs.List.{list_any}
+use Rattle.std.proofs.Common.{inl, inr, ap, sym, subst, ◌∙◌, arith}
 use Rattle.std.proofs.lemmas.Bool.{cases_Bool, and_parts, eqb-true, both_ways}
 use Rattle.std.proofs.lemmas.Bool.Decides.{nat_tests}
 use Rattle.std.proofs.lemmas.List.Folds.{list_any-append}
+use Rattle.cx_base.specs.Prelude.{◌≡◌, ◌⊎◌, ℕ, ◌+◌, Bool, true, false, not, ◌&&◌, ◌||◌, List, [], ◌∷◌, ◌++◌, refl, ◌==◌, nat_le, nat_lt}
+use Rattle.cx_base.specs.Prelude.{max, None, list_any, overtakes, Table, are_rising, comes_before, floor_of, is_answer_of, is_done}
+use Rattle.cx_base.specs.Prelude.{is_answer_done, is_used, still_noted, with_answer, with_floor, with_note, with_told}
 use Rattle.cx_base.specs.declared.command.Answered.{Answered}
 use Rattle.cx_base.specs.declared.command.Command.{Command}
 use Rattle.cx_base.specs.declared.command.Floor.{Floor}
 use Rattle.cx_base.specs.declared.command.Reply.{Reply}
-use Rattle.cx_base.specs.Fold.{overtakes}
-use Rattle.cx_base.specs.Noted.{Table, are_rising, comes_before, floor_of, is_answer_of, is_done, is_answer_done, is_used, still_noted}
-use Rattle.cx_base.specs.Noted.{with_answer, with_floor, with_note, with_told}
 
 -- Booleans
 

@@ -10,6 +10,7 @@ pub mod Log
 pub mod Name
 pub mod NameFields
 pub mod Noted
+pub mod Prelude
 pub mod Role
 pub mod Round
 pub mod Same

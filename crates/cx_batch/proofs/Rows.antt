@@ -1,8 +1,7 @@
 -- What a batcher is not asked for.
-use Rattle.cx_role.proofs.Common.{◌≡◌, refl, Cluster, Command, RoleId, Round, Msg, only_word}
+use Rattle.cx_model.specs.Prelude.{◌≡◌, refl, Cluster, Command, RoleId, Round, Msg, only_word, BatcherVolatile, batcher_takes}
 use Rattle.cx_role.proofs.Common.msg
 use Rattle.cx_base.specs.declared.why.Why.TheVariants.{Stranger}
-use Rattle.cx_model.specs.Batcher.{BatcherVolatile, batcher_takes}
 
 -- what is neither a command nor a round
 pub other_takes : (c : Cluster) (me : RoleId) (v : BatcherVolatile) (m : Msg)

@@ -1,9 +1,6 @@
 -- A batcher and the commands that it holds.
-use Rattle.std.specs.Prelude.{◌≡◌, ◌<◌}
-use Rattle.cx_role.specs.Prelude.{ℕ, Bool, List, length, IsTrue, list_all, Cluster, Command, RoleId, Round, Running}
-use Rattle.cx_base.specs.declared.role.Kind.TheVariants.{Batcher}
-use Rattle.cx_field.specs.Fields.{command}
-use Rattle.cx_model.specs.Batcher.{BatcherVolatile}
+use Rattle.std.specs.Prelude.{◌≡◌, ◌<◌, ℕ, Bool, List, length, IsTrue}
+use Rattle.cx_role.specs.Prelude.{list_all, Cluster, Command, RoleId, Round, Running, Batcher, command, BatcherVolatile}
 
 -- a batcher, and fewer commands than a batch, each in its ranges
 pub record CanWait (batch : ℕ) (me : RoleId) (waiting : List Command) : Type 0 where

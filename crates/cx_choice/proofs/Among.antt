@@ -1,16 +1,10 @@
 -- The values that are chosen, vote by vote.
-use Rattle.std.proofs.Common.{◌≡◌, ◌&&◌, ◌||◌, ◌==◌, ◌∷◌, ◌++◌, ◌∙◌, [], ℕ, Bool, true, false, Bor, List, refl, inl, inr, ap, sym}
-use Rattle.std.proofs.lemmas.Bool.{cases_Bool}
 use Rattle.std.proofs.lemmas.List.Folds.{list_any-append}
-use Rattle.std.specs.List.{list_any}
-use Rattle.cx_base.specs.Grid.{Shape}
-use Rattle.cx_base.specs.Same.{same_value}
+use Rattle.cx_base.proofs.Common.{◌∙◌, Bor, inl, inr, ap, sym, cases_Bool}
+use Rattle.cx_model.specs.Prelude.{◌≡◌, ◌&&◌, ◌||◌, ◌==◌, ◌∷◌, ◌++◌, [], ℕ, Bool, true, false, List, refl, list_any, Shape, same_value}
+use Rattle.cx_model.specs.Prelude.{Value, Round, KeptRecord, Written}
 use Rattle.cx_base.proofs.SameLaws.{same_value-true}
-use Rattle.cx_base.specs.declared.command.Value.{Value}
-use Rattle.cx_base.specs.declared.round.Round.{Round}
 use Rattle.cx_letter.specs.declared.kept.Record.TheVariants as kept
-use Rattle.cx_letter.specs.declared.input.KeptRecord.{KeptRecord}
-use Rattle.cx_letter.specs.declared.input.Written.{Written}
 use Rattle.cx_letter.specs.declared.input.Written.TheVariants as written
 use Rattle.cx_choice.proofs.Casts.{same_among}
 use Rattle.cx_choice.proofs.Whole.{chosen_by_whole}

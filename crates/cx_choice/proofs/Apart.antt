@@ -1,19 +1,12 @@
 -- What is chosen in a slot is chosen by the rounds and by the slot's votes alone.
-use Rattle.std.proofs.Common.{◌≡◌, ◌&&◌, ◌||◌, ◌∷◌, ◌==◌, ◌∙◌, [], ℕ, Bool, true, false, List, Option, filter, ap, refl, inl, inr, sym}
-use Rattle.std.proofs.lemmas.Bool.{cases_Bool}
 use Rattle.std.proofs.lemmas.List.Folds.{list_any-append}
 use Rattle.std.proofs.lemmas.List.Sorted.{list_any-IsPermutation}
-use Rattle.std.specs.List.{list_any}
-use Rattle.cx_base.specs.Grid.{Shape}
-use Rattle.cx_base.specs.declared.command.Value.{Value}
-use Rattle.cx_base.specs.declared.role.Kind.TheVariants.{Acceptor}
-use Rattle.cx_base.specs.declared.round.Round.{Round}
-use Rattle.cx_base.specs.Role.{role, same_role}
-use Rattle.cx_base.specs.Round.{same_round}
-use Rattle.cx_model.specs.Chosen.{is_vote, has_vote, is_chosen_in, is_chosen_by, is_chosen, chosen_vote, first_chosen, chosen_at}
+use Rattle.cx_base.proofs.Common.{◌∙◌, ap, inl, inr, sym, cases_Bool}
+use Rattle.cx_model.specs.Prelude.{◌≡◌, ◌&&◌, ◌||◌, ◌∷◌, ◌==◌, [], ℕ, Bool, true, false, List, Option, filter, refl, list_any, Shape, Value}
+use Rattle.cx_model.specs.Prelude.{Acceptor, Round, role, same_role, same_round, is_vote, has_vote, is_chosen_in, is_chosen, chosen_vote}
+use Rattle.cx_model.specs.Prelude.{first_chosen, chosen_at, KeptRecord, Written}
+use Rattle.cx_model.specs.Chosen.{is_chosen_by}
 use Rattle.cx_letter.specs.declared.kept.Record.TheVariants as kept
-use Rattle.cx_letter.specs.declared.input.KeptRecord.{KeptRecord}
-use Rattle.cx_letter.specs.declared.input.Written.{Written}
 use Rattle.cx_letter.specs.declared.input.Written.TheVariants as written
 use Rattle.cx_choice.proofs.Casts.{same_in}
 use Rattle.cx_choice.specs.Enough.{is_chosen_among, selects}

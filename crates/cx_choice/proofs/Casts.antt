@@ -1,25 +1,12 @@
 -- Votes that are listed with their rounds.
-use Rattle.std.proofs.Common.{◌≡◌, ◌<◌, ◌+◌, ◌++◌, ◌&&◌, ◌∷◌, ◌∙◌, [], ℕ, Bool, true, false, Bor, List, append_assoc, drop, get_or, length}
-use Rattle.std.proofs.Common.{nat_lt, refl, inl, inr, ap, sym, arith}
-use Rattle.std.proofs.lemmas.Bool.{cases_Bool}
-use Rattle.std.proofs.lemmas.Bool.Decides.{nat_tests}
-use Rattle.std.proofs.lemmas.List.{drop_more, map-append}
-use Rattle.std.proofs.lemmas.List.Elements.{All-head, All-push, All-tail}
 use Rattle.std.proofs.lemmas.List.Sorted.{All-permutation, IsPermutation-map, list_any-IsPermutation}
-use Rattle.std.specs.List.{All, list_all, list_any}
 use Rattle.std.specs.List.Sorted.{IsPermutation}
-use Rattle.cx_base.specs.Grid.{Shape}
-use Rattle.cx_base.specs.Lists.{below}
-use Rattle.cx_base.specs.Role.{role, same_role}
-use Rattle.cx_base.specs.Round.{same_round}
-use Rattle.cx_base.specs.declared.command.Value.{Value}
-use Rattle.cx_base.specs.declared.role.Kind.TheVariants.{Acceptor}
-use Rattle.cx_base.specs.declared.round.Round.{Round}
-use Rattle.cx_grid.specs.Quorum.{column_of}
-use Rattle.cx_model.specs.Chosen.{has_vote, is_chosen_in, is_vote}
+use Rattle.cx_base.proofs.Common.{◌∙◌, Bor, append_assoc, inl, inr, ap, sym, arith, cases_Bool, nat_tests, drop_more, map-append, All-head}
+use Rattle.cx_base.proofs.Common.{All-push, All-tail}
+use Rattle.cx_model.specs.Prelude.{◌≡◌, ◌<◌, ◌+◌, ◌++◌, ◌&&◌, ◌∷◌, [], ℕ, Bool, true, false, List, drop, get_or, length, nat_lt, refl, All}
+use Rattle.cx_model.specs.Prelude.{list_all, list_any, Shape, below, role, same_role, same_round, Value, Acceptor, Round, column_of}
+use Rattle.cx_model.specs.Prelude.{has_vote, is_chosen_in, is_vote, KeptRecord, Written}
 use Rattle.cx_letter.specs.declared.kept.Record.TheVariants as kept
-use Rattle.cx_letter.specs.declared.input.KeptRecord.{KeptRecord}
-use Rattle.cx_letter.specs.declared.input.Written.{Written}
 use Rattle.cx_letter.specs.declared.input.Written.TheVariants as written
 use Rattle.cx_choice.specs.Enough.{is_chosen_among, is_enough}
 use Rattle.cx_choice.specs.OfRound.{IsByRound, of_round}

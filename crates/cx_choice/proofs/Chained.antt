@@ -1,10 +1,7 @@
 -- The chain of a slot's votes, from one of them on.
-use Rattle.std.proofs.Common.{◌≡◌, ◌<◌, ◌≤◌, ◌+◌, ◌==◌, ℕ, zero, suc, true, false, List, [], ◌∷◌, ◌++◌, Some, drop, get_or, length, map}
-use Rattle.std.proofs.Common.{slice_get, ap, subst, sym, refl, inl, inr, ◌∙◌, append_assoc, arith}
-use Rattle.std.proofs.lemmas.Bool.{cases_Bool}
-use Rattle.std.proofs.lemmas.Bool.Decides.{nat_tests}
 use Rattle.std.proofs.lemmas.Grind.{get_or_default_zero}
-use Rattle.std.proofs.lemmas.List.{map-append}
+use Rattle.cx_base.proofs.Common.{◌≡◌, ◌<◌, ◌≤◌, ◌+◌, ◌==◌, ℕ, zero, suc, true, false, List, [], ◌∷◌, ◌++◌, Some, drop, get_or, length, map}
+use Rattle.cx_base.proofs.Common.{slice_get, ap, subst, sym, refl, inl, inr, ◌∙◌, append_assoc, arith, cases_Bool, nat_tests, map-append}
 use Rattle.cx_letter.specs.declared.input.KeptRecord.{KeptRecord}
 use Rattle.cx_choice.proofs.Numbered.{next_kept}
 use Rattle.cx_choice.specs.Chains.{HaveVotes, Puts, first_vote, vote_from}

@@ -1,14 +1,10 @@
 -- In the order of their rounds, those of one round are together.
-use Rattle.std.proofs.Common.{◌≡◌, ◌<◌, ◌≤◌, ◌+◌, ◌-◌, ◌∷◌, [], ℕ, zero, suc, Bool, true, false, List, drop, filter, get_or, length, not}
-use Rattle.std.proofs.Common.{take, nat_lt, ap, refl, sym, inl, inr, ◌∙◌, arith}
-use Rattle.std.proofs.lemmas.Bool.{cases_Bool}
-use Rattle.std.proofs.lemmas.Bool.Decides.{nat_tests}
 use Rattle.std.proofs.lemmas.List.Sorted.{sorted_far}
 use Rattle.std.specs.Cmp.{IsStrictWeakOrder}
 use Rattle.std.specs.List.{AllWithin}
-use Rattle.std.specs.List.Sorted.{IsPartitionedBy}
-use Rattle.cx_base.specs.Round.{is_before, same_round}
-use Rattle.cx_base.specs.declared.round.Round.{Round}
+use Rattle.cx_base.proofs.Common.{◌≡◌, ◌<◌, ◌≤◌, ◌+◌, ◌-◌, ◌∷◌, [], ℕ, zero, suc, Bool, true, false, List, drop, filter, get_or, length}
+use Rattle.cx_base.proofs.Common.{not, take, nat_lt, ap, refl, sym, inl, inr, ◌∙◌, arith, cases_Bool, nat_tests, IsPartitionedBy, is_before}
+use Rattle.cx_letter.specs.Prelude.{same_round, Round}
 use Rattle.cx_choice.proofs.Order.{before_differs, behind_differs, chain, neither, one_way}
 use Rattle.cx_choice.specs.OfRound.{IsBegin, IsByRound, IsEndOfRound, of_round}
 use Rattle.cx_choice.specs.declared.of_round.OfRound.{OfRound}

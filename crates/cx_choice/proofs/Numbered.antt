@@ -1,7 +1,6 @@
 -- Records that are read by their numbers.
-use Rattle.std.proofs.Common.{◌≡◌, ◌+◌, ℕ, zero, suc, List, [], ◌∷◌, ◌++◌, Some, drop, slice_get, ap, sym, ◌∙◌, append_assoc, arith}
-use Rattle.cx_base.specs.Grid.{Shape}
-use Rattle.cx_letter.specs.declared.input.KeptRecord.{KeptRecord}
+use Rattle.std.proofs.Common.{ap, sym, ◌∙◌, append_assoc, arith}
+use Rattle.cx_model.specs.Prelude.{◌≡◌, ◌+◌, ℕ, zero, suc, List, [], ◌∷◌, ◌++◌, Some, drop, slice_get, Shape, KeptRecord}
 use Rattle.cx_choice.specs.Sorted.{begun_by, rounds_of}
 use Rattle.cx_choice.specs.declared.of_round.OfRound.{OfRound}
 

@@ -1,9 +1,7 @@
 -- The order of rounds.
-use Rattle.std.proofs.Common.{◌≡◌, true, false, arith}
-use Rattle.std.proofs.lemmas.Bool.Decides.{nat_tests}
 use Rattle.std.specs.Ordering.{is_lt, nat_cmp, ordering_then}
-use Rattle.cx_base.specs.Round.{is_before, same_round}
-use Rattle.cx_base.specs.declared.round.Round.{Round}
+use Rattle.cx_base.proofs.Common.{◌≡◌, true, false, arith, nat_tests, is_before}
+use Rattle.cx_letter.specs.Prelude.{same_round, Round}
 
 -- at most one of two rounds is before the other
 pub one_way : (a b : Round) → is_before a b ≡ true → is_before b a ≡ false

@@ -1,16 +1,9 @@
 -- Which of a slot's votes is the first for a value that is chosen there, and where its record is.
-use Rattle.std.proofs.Common.{◌≡◌, ◌<◌, ◌≤◌, ◌+◌, ℕ, zero, suc, Bool, true, false, List, [], ◌∷◌, Option, None, Some, length, map, get_or}
-use Rattle.std.proofs.Common.{slice_get, nat_lt, ap, sym, refl, inl, inr, ◌∙◌, arith}
-use Rattle.std.proofs.lemmas.Bool.{cases_Bool}
-use Rattle.std.proofs.lemmas.Bool.Decides.{nat_tests}
-use Rattle.std.proofs.lemmas.List.{length-map}
-use Rattle.std.specs.List.{position, position_or_len}
-use Rattle.cx_base.specs.Grid.{Shape}
-use Rattle.cx_base.specs.declared.command.Value.{Value}
-use Rattle.cx_model.specs.Chosen.{chosen_at, chosen_vote, first_chosen}
+use Rattle.cx_base.proofs.Common.{◌≡◌, ◌<◌, ◌≤◌, ◌+◌, ℕ, zero, suc, Bool, true, false, List, [], ◌∷◌, Option, None, Some, length, map}
+use Rattle.cx_base.proofs.Common.{get_or, slice_get, nat_lt, ap, sym, refl, inl, inr, ◌∙◌, arith, cases_Bool, nat_tests, length-map}
+use Rattle.cx_base.proofs.Common.{position, position_or_len, Shape}
+use Rattle.cx_model.specs.Prelude.{Value, chosen_at, chosen_vote, first_chosen, KeptRecord, Written}
 use Rattle.cx_letter.specs.declared.kept.Record.TheVariants as kept
-use Rattle.cx_letter.specs.declared.input.KeptRecord.{KeptRecord}
-use Rattle.cx_letter.specs.declared.input.Written.{Written}
 use Rattle.cx_letter.specs.declared.input.Written.TheVariants as written
 use Rattle.cx_choice.proofs.Apart.{chosen_by_votes, same_selects}
 use Rattle.cx_choice.specs.Enough.{selects}

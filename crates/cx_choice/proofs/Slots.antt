@@ -1,8 +1,6 @@
 -- The next slot of the chosen prefix.
-use Rattle.std.proofs.Common.{◌≡◌, ℕ, suc, ◌+◌, ◌-◌, ◌<◌, [], ◌∷◌, List, None, Some, arith, refl}
-use Rattle.cx_base.specs.declared.command.Value.{Value}
-use Rattle.cx_model.specs.Chosen.{chosen_at, prefix_from}
-use Rattle.cx_letter.specs.declared.input.KeptRecord.{KeptRecord}
+use Rattle.std.proofs.Common.{arith}
+use Rattle.cx_model.specs.Prelude.{◌≡◌, ℕ, suc, ◌+◌, ◌-◌, ◌<◌, [], ◌∷◌, List, None, Some, refl, Value, chosen_at, prefix_from, KeptRecord}
 
 pub prefix_step : (history : List KeptRecord) (slot count : ℕ) (v : Value) → slot < count → chosen_at history slot ≡ Some v
     → prefix_from history slot (count - slot) ≡ v ∷ prefix_from history (slot + 1) (count - (slot + 1))

@@ -1,22 +1,9 @@
 -- A value is chosen in a slot exactly where a vote for it is whole.
-use Rattle.std.proofs.Common.{◌≡◌, ◌&&◌, ◌||◌, ◌==◌, ◌∷◌, [], ℕ, zero, suc, Bool, true, false, List, filter, map, nat_lt, refl, inl, inr}
-use Rattle.std.proofs.Common.{sym, ◌∙◌, arith}
-use Rattle.std.proofs.lemmas.Bool.{cases_Bool}
-use Rattle.std.proofs.lemmas.Bool.Decides.{nat_tests}
-use Rattle.std.specs.List.{list_all, list_any}
-use Rattle.cx_base.specs.Grid.{Shape}
-use Rattle.cx_base.specs.Lists.{below}
-use Rattle.cx_base.specs.Role.{role, same_role}
-use Rattle.cx_base.specs.Round.{same_round}
-use Rattle.cx_base.specs.Same.{same_value}
-use Rattle.cx_base.specs.declared.command.Value.{Value}
-use Rattle.cx_base.specs.declared.role.Kind.TheVariants.{Acceptor}
-use Rattle.cx_base.specs.declared.round.Round.{Round}
-use Rattle.cx_grid.specs.Quorum.{column_of, member_at}
-use Rattle.cx_model.specs.Chosen.{has_vote, is_chosen_in, is_vote}
+use Rattle.cx_base.proofs.Common.{inl, inr, sym, ◌∙◌, arith, cases_Bool, nat_tests}
+use Rattle.cx_model.specs.Prelude.{◌≡◌, ◌&&◌, ◌||◌, ◌==◌, ◌∷◌, [], ℕ, zero, suc, Bool, true, false, List, filter, map, nat_lt, refl}
+use Rattle.cx_model.specs.Prelude.{list_all, list_any, Shape, below, role, same_role, same_round, same_value, Value, Acceptor, Round}
+use Rattle.cx_model.specs.Prelude.{column_of, member_at, has_vote, is_chosen_in, is_vote, KeptRecord, Written}
 use Rattle.cx_letter.specs.declared.kept.Record.TheVariants as kept
-use Rattle.cx_letter.specs.declared.input.KeptRecord.{KeptRecord}
-use Rattle.cx_letter.specs.declared.input.Written.{Written}
 use Rattle.cx_letter.specs.declared.input.Written.TheVariants as written
 use Rattle.cx_choice.specs.Enough.{ChosenByWholeVotes, is_chosen_among, is_enough, is_whole_vote}
 use Rattle.cx_choice.specs.OfRound.{of_round}

@@ -1,7 +1,6 @@
 -- The votes of each slot as chains of numbers: each is one more than a record's, and 0 where no vote follows.
 use Rattle.std.specs.Prelude.{ℕ, true, ◌≡◌, ◌≤◌, ◌<◌, ◌+◌, if◌then◌else◌, List, [], ◌∷◌, Some, drop, length, get_or, slice_get}
-use Rattle.cx_letter.specs.declared.input.KeptRecord.{KeptRecord}
-use Rattle.cx_letter.specs.declared.input.Written.{Written}
+use Rattle.cx_model.specs.Prelude.{KeptRecord, Written}
 use Rattle.cx_choice.specs.Sorted.{is_vote_in}
 use Rattle.cx_choice.specs.declared.chains.VoteChains.{VoteChains}
 

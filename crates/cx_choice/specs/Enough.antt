@@ -1,15 +1,8 @@
 -- Votes whose round has enough votes for their value, by which a choice is found vote by vote.
 use Rattle.std.specs.Prelude.{◌≡◌, ◌==◌, ◌&&◌, ℕ, Bool, false, List}
 use denote.Ref.{Bor}
-use Rattle.std.specs.List.{list_any}
-use Rattle.cx_base.specs.Grid.{Shape}
-use Rattle.cx_base.specs.declared.command.Value.{Value}
-use Rattle.cx_base.specs.declared.round.Round.{Round}
-use Rattle.cx_base.specs.Same.{same_value}
-use Rattle.cx_model.specs.Chosen.{is_chosen_in}
+use Rattle.cx_model.specs.Prelude.{list_any, Shape, Value, Round, same_value, is_chosen_in, KeptRecord, Written}
 use Rattle.cx_letter.specs.declared.kept.Record.TheVariants as kept
-use Rattle.cx_letter.specs.declared.input.KeptRecord.{KeptRecord}
-use Rattle.cx_letter.specs.declared.input.Written.{Written}
 use Rattle.cx_letter.specs.declared.input.Written.TheVariants as written
 use Rattle.cx_choice.specs.OfRound.{of_round}
 use Rattle.cx_choice.specs.declared.of_round.OfRound.{OfRound}

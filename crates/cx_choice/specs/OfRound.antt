@@ -1,9 +1,7 @@
 -- What belongs to rounds, in the order of the rounds.
-use Rattle.std.specs.Prelude.{◌≡◌, ◌≤◌, ℕ, true, false, List, length, filter}
+use Rattle.std.specs.Prelude.{◌≡◌, ◌≤◌, ℕ, true, false, List, length, filter, IsSortedBy}
 use Rattle.std.specs.List.{AllWithin}
-use Rattle.std.specs.List.Sorted.{IsSortedBy}
-use Rattle.cx_base.specs.Round.{is_before, same_round}
-use Rattle.cx_base.specs.declared.round.Round.{Round}
+use Rattle.cx_letter.specs.Prelude.{is_before, same_round, Round}
 use Rattle.cx_choice.specs.declared.of_round.OfRound.{OfRound}
 
 -- none is of an earlier round than one before it

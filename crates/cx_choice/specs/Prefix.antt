@@ -1,11 +1,7 @@
 -- The chosen values, by the records with votes for them.
 use Rattle.std.specs.Prelude.{ℕ, Bool, true, false, ◌≡◌, ◌==◌, ◌&&◌, List, Option, None, Some, slice_get}
-use Rattle.cx_base.specs.declared.command.Value.{Value}
-use Rattle.cx_base.specs.declared.command.Value.TheVariants.{Noop}
-use Rattle.cx_model.specs.Chosen.{is_chosen, chosen_at}
+use Rattle.cx_model.specs.Prelude.{Value, Noop, is_chosen, chosen_at, KeptRecord, Written}
 use Rattle.cx_letter.specs.declared.kept.Record.TheVariants as kept
-use Rattle.cx_letter.specs.declared.input.KeptRecord.{KeptRecord}
-use Rattle.cx_letter.specs.declared.input.Written.{Written}
 use Rattle.cx_letter.specs.declared.input.Written.TheVariants as written
 
 -- whether a change is a record of a vote in a slot for a value that is chosen there

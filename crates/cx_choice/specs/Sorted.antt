@@ -1,14 +1,8 @@
 -- The records on which a choice rests, apart: the rounds, and the votes of a slot.
-use Rattle.std.specs.Prelude.{◌≡◌, ◌==◌, ◌++◌, ◌∷◌, [], ℕ, Bool, false, List, Option, None, Some, filter, map}
+use Rattle.std.specs.Prelude.{◌≡◌, ◌==◌, ◌++◌, ◌∷◌, [], ℕ, Bool, false, List, Option, None, Some, filter, map, All, IsPermutation}
 use denote.Ref.{Bor}
-use Rattle.std.specs.List.{All}
-use Rattle.std.specs.List.Sorted.{IsPermutation}
-use Rattle.cx_base.specs.Grid.{Shape}
-use Rattle.cx_base.specs.Round.{no_round}
-use Rattle.cx_base.specs.declared.round.Round.{Round}
+use Rattle.cx_model.specs.Prelude.{Shape, no_round, Round, KeptRecord, Written}
 use Rattle.cx_letter.specs.declared.kept.Record.TheVariants as kept
-use Rattle.cx_letter.specs.declared.input.KeptRecord.{KeptRecord}
-use Rattle.cx_letter.specs.declared.input.Written.{Written}
 use Rattle.cx_letter.specs.declared.input.Written.TheVariants as written
 use Rattle.cx_choice.specs.OfRound.{IsByRound}
 use Rattle.cx_choice.specs.declared.of_round.OfRound.{OfRound}

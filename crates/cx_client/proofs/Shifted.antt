@@ -1,11 +1,7 @@
 -- A request that goes to others is the same request.
-use Rattle.std.proofs.Common.{◌≡◌, ◌<◌, ◌+◌, ◌%◌, ◌&&◌, ℕ, zero, true, List, [], ◌∷◌, map, Option, None, Some, nat_lt, refl, ap, ◌∙◌, sym}
-use Rattle.std.proofs.Common.{arith}
-use Rattle.std.proofs.lemmas.Bool.{and_from, and_parts}
-use Rattle.std.proofs.lemmas.Bool.Decides.{nat_tests}
 use Rattle.std.proofs.Math.Nat.{mod-add-mod, mod-eq_of_lt, mod-lt}
-use Rattle.cx_base.specs.declared.cluster.Cluster.{Cluster}
-use Rattle.cx_base.specs.declared.event.Event.{Event}
+use Rattle.cx_inv_run.proofs.Common.{◌≡◌, ◌<◌, ◌+◌, ◌%◌, ◌&&◌, ℕ, zero, true, List, [], ◌∷◌, map, Option, None, Some, nat_lt, refl, ap, ◌∙◌}
+use Rattle.cx_inv_run.proofs.Common.{sym, arith, and_from, and_parts, nat_tests, Cluster, Event}
 use Rattle.cx_base.specs.declared.event.Event.TheVariants as event
 use Rattle.cx_client.specs.Asking.{further, shifted}
 use Rattle.cx_script.specs.Names.{names_event}

@@ -1,30 +1,15 @@
 -- What each step of a client sends and completes.
-use Rattle.std.proofs.Common.{◌≡◌, ◌⊎◌, ◌≤◌, ◌<◌, ◌+◌, ◌-◌, ◌&&◌, get_or, inl, inr, ℕ, suc, Bool, true, false, not, nat_lt, List, [], ◌∷◌}
-use Rattle.std.proofs.Common.{◌++◌, append_assoc, drop, filter, length, map, max, min, take, Option, None, Some, refl, sym, subst, ap, ◌∙◌}
-use Rattle.std.proofs.Common.{eqb-true, arith}
-use Rattle.std.specs.List.{list_all, position}
-use Rattle.std.proofs.lemmas.Bool.{and_from, and_parts, cases_Bool}
-use Rattle.std.proofs.lemmas.Bool.Decides.{nat_tests}
-use Rattle.std.proofs.lemmas.List.{drop-drop, drop_at, get_or-drop, length-append, length-drop, length-take-le, length_push, take_at}
-use Rattle.std.proofs.lemmas.List.Folds.{list_all-append}
-use Rattle.cx_base.specs.declared.cluster.Cluster.{Cluster}
-use Rattle.cx_base.specs.declared.event.Event.{Event}
+use Rattle.std.proofs.lemmas.List.{drop-drop, drop_at, get_or-drop, length_push, take_at}
+use Rattle.cx_role.proofs.Common.{◌≡◌, ◌⊎◌, ◌≤◌, ◌<◌, ◌+◌, ◌-◌, ◌&&◌, get_or, inl, inr, ℕ, suc, Bool, true, false, not, nat_lt, List, []}
+use Rattle.cx_role.proofs.Common.{◌∷◌, ◌++◌, append_assoc, drop, filter, length, map, max, min, take, Option, None, Some, refl, sym, subst}
+use Rattle.cx_role.proofs.Common.{ap, ◌∙◌, eqb-true, arith, list_all, position, and_from, and_parts, cases_Bool, nat_tests, length-append}
+use Rattle.cx_role.proofs.Common.{length-drop, length-take-le, list_all-append, Cluster, Event, Client, Why, role, same_role, mark_told}
+use Rattle.cx_role.proofs.Common.{number_itself, Member, names, by_test, request, Letter, Msg, Stranger}
 use Rattle.cx_base.specs.declared.event.Event.TheVariants as event
-use Rattle.cx_base.specs.declared.role.Kind.TheVariants.{Client}
-use Rattle.cx_base.specs.declared.why.Why.{Why}
-use Rattle.cx_base.specs.Role.{role, same_role}
 use Rattle.cx_inv_run.proofs.Members.{Member-all, Member-any, Member-filter, Member-first, Member-map, Member-second, all-Member}
 use Rattle.cx_inv_run.proofs.Members.{any-Member, filter-Member}
 use Rattle.cx_wire.specs.Format.{u64}
 use Rattle.cx_field.specs.Fields.{at, mark}
-use Rattle.cx_model.specs.Heard.{mark_told}
-use Rattle.cx_model.specs.Lists.{number_itself}
-use Rattle.cx_model.specs.Member.{Member}
-use Rattle.cx_model.specs.Names.{names}
-use Rattle.cx_model.specs.Outcome.{by_test}
-use Rattle.cx_model.specs.Request.{request}
-use Rattle.cx_letter.specs.Letter.{Letter}
-use Rattle.cx_letter.specs.declared.message.Msg.{Msg}
 use Rattle.cx_letter.specs.declared.message.Msg.TheVariants as msg
 use Rattle.cx_script.specs.Names.{names_event}
 use Rattle.cx_script.specs.Requests.{IsScript, asks, number_of, rise_above}
@@ -40,7 +25,7 @@ use Rattle.cx_client.specs.Window.{without_request}
 use Rattle.cx_client.proofs.Shifted.{all_itself, asks_shifted, named_shifted}
 use Rattle.cx_client.proofs.Windows.{all_above, all_below, at_place, filter_rises, first_is, is_left, last_or, newly_is, none_found}
 use Rattle.cx_client.proofs.Windows.{one_number, only_one, some_of, without_at}
-use Rattle.cx_base.specs.declared.why.Why.TheVariants.{Heard, Idle, Resent, Stranger}
+use Rattle.cx_base.specs.declared.why.Why.TheVariants.{Heard, Idle, Resent}
 
 -- ---- what is sent
 

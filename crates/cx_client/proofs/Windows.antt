@@ -1,21 +1,14 @@
 -- What is true of requests whose numbers rise: which of them are outstanding, and what becomes of them once a number is completed.
-use Rattle.std.proofs.Common.{◌≡◌, ◌⊎◌, inl, inr, None, Some, ℕ, zero, suc, ◌+◌, ◌-◌, ◌≤◌, ◌<◌, Bool, true, false, not, cond, List, [], ◌∷◌}
-use Rattle.std.proofs.Common.{◌++◌, drop, filter, length, get_or, take, min, eqb-true, IfSome, refl, sym, subst, ap, ◌∙◌, arith}
-use Rattle.std.specs.Prelude.{nat_le, nat_lt, slice_get}
-use Rattle.std.specs.List.{list_any, list_all, position, position_or_len}
-use Rattle.std.proofs.lemmas.Bool.{and_from, and_parts, cases_Bool, or_from, or_right}
-use Rattle.std.proofs.lemmas.Bool.Decides.{nat_tests}
-use Rattle.std.proofs.lemmas.List.{append_assoc, get_or-take, length-take, length-take-le, set_at, take_all, take_more}
+use Rattle.std.proofs.lemmas.List.{set_at}
 use Rattle.std.proofs.lemmas.List.Filters.{length-filter_both}
-use Rattle.std.proofs.lemmas.List.Quantifiers.{position-Some}
-use Rattle.std.proofs.lemmas.List.Sums.{fails_before_first}
-use lib.ListN.{set}
 use lib.Seq.{paste}
-use Rattle.cx_base.specs.Asked.{floor_fits, is_valid_event}
-use Rattle.cx_base.specs.declared.event.Event.{Event}
+use Rattle.cx_base.proofs.Common.{◌≡◌, ◌⊎◌, inl, inr, None, Some, ℕ, zero, suc, ◌+◌, ◌-◌, ◌≤◌, ◌<◌, Bool, true, false, not, cond, List, []}
+use Rattle.cx_base.proofs.Common.{◌∷◌, ◌++◌, drop, filter, length, get_or, take, min, eqb-true, IfSome, refl, sym, subst, ap, ◌∙◌, arith}
+use Rattle.cx_base.proofs.Common.{nat_le, nat_lt, slice_get, list_any, list_all, position, position_or_len, and_from, and_parts, cases_Bool}
+use Rattle.cx_base.proofs.Common.{or_from, or_right, nat_tests, append_assoc, get_or-take, length-take, length-take-le, take_all, take_more}
+use Rattle.cx_base.proofs.Common.{position-Some, fails_before_first, set, floor_fits, is_valid_event}
+use Rattle.cx_inv_run.proofs.Common.{Event, Member-all, Member-filter, filter-Member, Member}
 use Rattle.cx_base.specs.declared.event.Event.TheVariants as event
-use Rattle.cx_inv_run.proofs.Members.{Member-all, Member-filter, filter-Member}
-use Rattle.cx_model.specs.Member.{Member}
 use Rattle.cx_script.specs.Requests.{number_of, rise_above}
 use Rattle.cx_client.specs.Window.{first_of, floor_for, has_number, is_near, is_outstanding, newly, outstanding, event_with_floor}
 use Rattle.cx_client.specs.Window.{without_request}

@@ -1,7 +1,6 @@
 -- Whom a client asks for its requests: those that its lines name, or, where it asks others, so many places further.
 use Rattle.std.specs.Prelude.{ℕ, ◌+◌, ◌%◌, min, Option, None, Some}
-use Rattle.cx_base.specs.declared.cluster.Cluster.{Cluster}
-use Rattle.cx_base.specs.declared.event.Event.{Event}
+use Rattle.cx_letter.specs.Prelude.{Cluster, Event}
 use Rattle.cx_base.specs.declared.event.Event.TheVariants as event
 
 -- the index so many places further, of so many; behind the last one comes the first

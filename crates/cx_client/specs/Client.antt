@@ -1,22 +1,12 @@
 -- A client with its script: up to a window of requests outstanding at a time.
 use Rattle.std.specs.Prelude.{◌≡◌, ◌≤◌, ℕ, ◌+◌, Bool, true, false, ◌==◌, ◌&&◌, max, List, [], ◌∷◌, ◌++◌, drop, filter, length, map, take}
 use Rattle.std.specs.Prelude.{Option, None, Some, IsTrue, if◌then◌else◌}
-use Rattle.std.specs.List.{list_all}
-use Rattle.cx_base.specs.declared.cluster.Cluster.{Cluster}
-use Rattle.cx_base.specs.declared.event.Event.{Event}
-use Rattle.cx_base.specs.declared.role.Kind.TheVariants.{Client}
-use Rattle.cx_base.specs.declared.role.RoleId.{RoleId}
-use Rattle.cx_base.specs.declared.why.Why.{Why}
-use Rattle.cx_base.specs.declared.why.Why.TheVariants.{Heard, Idle, Resent, Stranger}
-use Rattle.cx_base.specs.Role.{role, same_role}
+use Rattle.cx_role.specs.Prelude.{list_all, Cluster, Event, Client, RoleId, Why, Heard, Stranger, role, same_role, mark, mark_told, names}
+use Rattle.cx_role.specs.Prelude.{Letter, Msg}
+use Rattle.cx_base.specs.declared.why.Why.TheVariants.{Idle, Resent}
 use Rattle.cx_client.specs.Asking.{one_further, set_back, shifted}
 use Rattle.cx_client.specs.declared.asking.ClientOptions.{ClientOptions}
 use Rattle.cx_client.specs.Window.{floor_for, has_number, is_outstanding, newly, outstanding, request_letters, without_request}
-use Rattle.cx_field.specs.Fields.{mark}
-use Rattle.cx_model.specs.Heard.{mark_told}
-use Rattle.cx_model.specs.Names.{names}
-use Rattle.cx_letter.specs.Letter.{Letter}
-use Rattle.cx_letter.specs.declared.message.Msg.{Msg}
 use Rattle.cx_letter.specs.declared.message.Msg.TheVariants as msg
 use Rattle.cx_script.specs.Requests.{IsScript, asks}
 

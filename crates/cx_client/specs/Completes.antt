@@ -1,17 +1,9 @@
 -- What a client sends, and when a datagram completes a request.
 use Rattle.std.specs.Prelude.{◌≡◌, ℕ, ◌+◌, ◌==◌, ◌&&◌, max, Bool, true, nat_lt, List, ◌∷◌, ◌++◌, take, Some, if◌then◌else◌}
-use Rattle.std.specs.List.{list_all}
-use Rattle.cx_base.specs.declared.event.Event.{Event}
-use Rattle.cx_base.specs.Role.{same_role}
+use Rattle.cx_role.specs.Prelude.{list_all, Event, same_role, mark_told, Member, names, request, Letter, Msg}
 use Rattle.cx_client.specs.Asking.{set_back}
 use Rattle.cx_client.specs.Client.{ClientState, answer_number, left}
 use Rattle.cx_client.specs.Window.{floor_for, outstanding, event_with_floor, without_request}
-use Rattle.cx_model.specs.Heard.{mark_told}
-use Rattle.cx_model.specs.Member.{Member}
-use Rattle.cx_model.specs.Names.{names}
-use Rattle.cx_model.specs.Request.{request}
-use Rattle.cx_letter.specs.Letter.{Letter}
-use Rattle.cx_letter.specs.declared.message.Msg.{Msg}
 use Rattle.cx_letter.specs.declared.message.Msg.TheVariants as msg
 use Rattle.cx_script.specs.Requests.{number_of}
 

@@ -1,20 +1,11 @@
 -- Worked steps of a client with the requests 1, 3, 64, 65 and 66 and a window of 4, of one whose sessions are 1 and 3, one outstanding at a
 -- time, and of clients that ask others or don't, in a cluster with 2 batchers, 2 readers and 3 replicas. What is expected was worked out by
 -- hand.
-use Rattle.std.specs.Prelude.{◌≡◌, ℕ, ◌-◌, false, true, List, [], ◌∷◌, map, None}
+use Rattle.std.specs.Prelude.{◌≡◌, ℕ, ◌-◌, false, true, List, [], ◌∷◌, map, None, flat_map}
 use Rattle.std.proofs.Common.{lit≤}
-use Rattle.std.specs.List.{flat_map}
-use Rattle.cx_base.specs.declared.command.Op.TheVariants.{Del}
-use Rattle.cx_base.specs.declared.event.Event.{Event}
+use Rattle.cx_letter.specs.Prelude.{Del, Event, Absent, Cluster, Batcher, Client, Reader, Replica, Unbatcher, RoleId, role, Letter, letter}
+use Rattle.cx_model.specs.Prelude.{one_of_each, Msg}
 use Rattle.cx_base.specs.declared.event.Event.TheVariants as event
-use Rattle.cx_base.specs.declared.command.Reply.TheVariants.{Absent}
-use Rattle.cx_base.specs.declared.cluster.Cluster.{Cluster}
-use Rattle.cx_base.specs.declared.role.Kind.TheVariants.{Batcher, Client, Reader, Replica, Unbatcher}
-use Rattle.cx_base.specs.declared.role.RoleId.{RoleId}
-use Rattle.cx_base.specs.Role.{role}
-use Rattle.cx_model.specs.Examples.{one_of_each}
-use Rattle.cx_letter.specs.Letter.{Letter, letter}
-use Rattle.cx_letter.specs.declared.message.Msg.{Msg}
 use Rattle.cx_letter.specs.declared.message.Msg.TheVariants as msg
 use Rattle.cx_client.specs.declared.asking.ClientOptions.{ClientOptions}
 use Rattle.cx_client.specs.Client.{ClientState, client_hears, client_opened, client_start, client_takes, client_ticks}

@@ -1,10 +1,7 @@
 -- The requests of a client that are outstanding, among those that are left: uncompleted, in the order of their numbers.
-use Rattle.std.specs.Prelude.{ℕ, ◌+◌, ◌-◌, ◌==◌, Bool, not, nat_le, List, [], ◌∷◌, filter, take}
-use Rattle.std.specs.List.{flat_map, list_any}
-use Rattle.cx_base.specs.declared.event.Event.{Event}
+use Rattle.std.specs.Prelude.{ℕ, ◌+◌, ◌-◌, ◌==◌, Bool, not, nat_le, List, [], ◌∷◌, filter, take, flat_map}
+use Rattle.cx_model.specs.Prelude.{list_any, Event, request, Letter}
 use Rattle.cx_base.specs.declared.event.Event.TheVariants as event
-use Rattle.cx_model.specs.Request.{request}
-use Rattle.cx_letter.specs.Letter.{Letter}
 use Rattle.cx_script.specs.Requests.{number_of}
 
 -- the number of the first request, 0 of none

@@ -1,13 +1,12 @@
 -- The unknown keys of a table beside those of the members that it spells.
-use Rattle.std.proofs.Common.{◌≡◌, ℕ, refl, List, [], ◌∷◌, Option, Some, option_map, find, not, string_bytes, Less, inl, inr, ap}
-use Rattle.std.proofs.lemmas.Bool.{cases_Bool}
+use Rattle.std.proofs.Common.{find, Less, String, Global}
 use Rattle.std.specs.List.{AllByRecursion}
 use Rattle.std.specs.List.Sorted.{IsStrictlySortedBy}
 use Rattle.std.specs.Map.{keys_of}
 use Rattle.std.specs.String.{string_cmp}
 use Rattle.toml.proofs.Views.{Entry}
 use Rattle.toml.specs.View.{members_view}
-use Rattle.std.proofs.Common.{String, Global}
+use Rattle.cx_base.proofs.Common.{◌≡◌, ℕ, refl, List, [], ◌∷◌, Option, Some, option_map, not, string_bytes, inl, inr, ap, cases_Bool}
 use Rattle.cx_cluster.specs.Keys.{is_key}
 use Rattle.cx_cluster.specs.Reading.{least_unknown, lesser}
 

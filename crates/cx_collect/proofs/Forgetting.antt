@@ -1,11 +1,7 @@
 -- How many matchmakers were counted.
-use Rattle.std.specs.Prelude.{◌≡◌, ◌≢◌, ◌+◌, ℕ, Bool, true, false, not, ◌==◌, nat_lt, List, [], ◌∷◌, length, refl}
-use Rattle.std.proofs.Common.{arith}
-use Rattle.std.proofs.lemmas.Bool.{and_parts, or_parts, not-true, lt-ltb, le-ltb}
-use Rattle.std.proofs.lemmas.Bool.Decides.{nat_tests}
-use Rattle.cx_base.specs.Grid.{is_in}
-use Rattle.cx_grid.specs.Quorum.{with_mark}
-use Rattle.cx_model.specs.Collection.{is_collecting}
+use Rattle.cx_base.proofs.Common.{◌≡◌, ◌≢◌, ◌+◌, ℕ, Bool, true, false, not, ◌==◌, nat_lt, List, [], ◌∷◌, length, refl, arith, and_parts}
+use Rattle.cx_base.proofs.Common.{or_parts, not-true, lt-ltb, le-ltb, nat_tests, is_in}
+use Rattle.cx_model.specs.Prelude.{with_mark, is_collecting}
 use Rattle.cx_model.specs.declared.states.Stage.TheVariants.{Retired}
 use Rattle.cx_collect.specs.Collecting.{CollectorState, IsCount, counts_forgotten, forgotten_by}
 

@@ -1,7 +1,6 @@
 -- A collector as contracts see it.
 use Rattle.std.specs.Prelude.{◌≡◌, ◌≤◌, ◌+◌, ℕ, Bool, not, ◌&&◌, nat_le, if◌then◌else◌, [], length, IsTrue}
-use Rattle.cx_base.specs.Grid.{Shape, is_in}
-use Rattle.cx_model.specs.Collection.{Collection, is_informing, is_collecting, with_informed, with_forgotten}
+use Rattle.cx_model.specs.Prelude.{Shape, is_in, Collection, is_informing, is_collecting, with_informed, with_forgotten}
 
 -- the grid whose columns are informed, how many matchmakers may be lost, and how far it is
 pub record CollectorState : Type 0 where

@@ -1,24 +1,9 @@
 -- How hosted roles stand beside the model's world, and what some events do to those that take no part in them.
-use Rattle.std.proofs.Common.{◌≡◌, true, false, List, ◌++◌, Option, ap, sym, ◌∙◌}
+use Rattle.cx_role.proofs.Common.{◌≡◌, true, false, List, ◌++◌, Option, ap, sym, ◌∙◌, RoleId, same_role, State, BatcherIn, LeaderIn}
+use Rattle.cx_role.proofs.Common.{ProxyIn, ReplicaIn, ReaderIn, ReplacerIn, plain, acceptor_rules, batcher_rules, leader_rules, list_other}
+use Rattle.cx_role.proofs.Common.{matchmaker_rules, names_role, proxy_rules, reader_rules, replacer_rules, replica_rules, Rules, Running}
+use Rattle.cx_role.proofs.Common.{folded, unbatcher_rules, World, durable_part, kept_by, Letter, Written}
 use Rattle.cx_base.specs.declared.role.Kind.TheVariants as kind
-use Rattle.cx_base.specs.declared.role.RoleId.{RoleId}
-use Rattle.cx_base.specs.Role.{same_role}
-use Rattle.cx_inv_run.specs.States.{State, BatcherIn, LeaderIn, ProxyIn, ReplicaIn, ReaderIn, ReplacerIn, plain}
-use Rattle.cx_model.specs.Acceptor.{acceptor_rules}
-use Rattle.cx_model.specs.Batcher.{batcher_rules}
-use Rattle.cx_model.specs.Leader.{leader_rules}
-use Rattle.cx_model.specs.Lists.{list_other}
-use Rattle.cx_model.specs.Matchmaker.{matchmaker_rules}
-use Rattle.cx_model.specs.Names.{names_role}
-use Rattle.cx_model.specs.Proxy.{proxy_rules}
-use Rattle.cx_model.specs.Reader.{reader_rules}
-use Rattle.cx_model.specs.Replacer.{replacer_rules}
-use Rattle.cx_model.specs.Replica.{replica_rules}
-use Rattle.cx_model.specs.Rules.{Rules, Running, folded}
-use Rattle.cx_model.specs.Unbatcher.{unbatcher_rules}
-use Rattle.cx_model.specs.World.{World, durable_part, kept_by}
-use Rattle.cx_letter.specs.Letter.{Letter}
-use Rattle.cx_letter.specs.declared.input.Written.{Written}
 use Rattle.cx_course.specs.Hosted.{Hosted, ClientAt, BatcherAt, LeaderAt, ProxyAt, AcceptorAt, MatchmakerAt, ReplicaAt, UnbatcherAt}
 use Rattle.cx_course.specs.Hosted.{ReaderAt, ReplacerAt, name_of}
 use Rattle.cx_course.proofs.Asker.{IsAsker, IsTraced, SparesClient, still_asks}

@@ -1,22 +1,12 @@
 -- How a hosted client stands beside the model's run of what was recorded.
-use Rattle.std.proofs.Common.{◌≡◌, ◌<◌, ℕ, true, Option, Some, ap, sym, ◌∙◌, subst}
-use Rattle.std.specs.Prelude.{drop, length}
-use Rattle.cx_base.specs.declared.cluster.Cluster.{Cluster}
-use Rattle.cx_base.specs.declared.event.Cut.{Cut}
-use Rattle.cx_base.specs.declared.event.Event.{Event}
+use Rattle.cx_inv_run.proofs.Common.{◌≡◌, ◌<◌, ℕ, true, Option, Some, ap, sym, ◌∙◌, subst, drop, length, Cluster, Cut, Event, Happened}
+use Rattle.cx_inv_run.proofs.Common.{Token, heard_by, Member, names_role, token_of, was_sent, World, start, Letter}
 use Rattle.cx_base.specs.declared.event.Event.TheVariants as event
-use Rattle.cx_base.specs.declared.event.Happened.{Happened}
 use Rattle.cx_client.specs.Asking.{shifted}
 use Rattle.cx_client.specs.Client.{ClientState, IsClient, left}
 use Rattle.cx_client.proofs.Windows.{one_number}
 use Rattle.cx_client.specs.Window.{event_with_floor}
-use Rattle.cx_field.specs.declared.parts.Token.{Token}
-use Rattle.cx_model.specs.Heard.{heard_by, is_heard}
-use Rattle.cx_model.specs.Member.{Member}
-use Rattle.cx_model.specs.Names.{names_role}
-use Rattle.cx_model.specs.Request.{token_of, was_sent}
-use Rattle.cx_model.specs.World.{World, start}
-use Rattle.cx_letter.specs.Letter.{Letter}
+use Rattle.cx_model.specs.Heard.{is_heard}
 use Rattle.cx_record.specs.Readable.{IsRecordable}
 use Rattle.cx_script.specs.Requests.{number_of, rise_above}
 use Rattle.cx_course.specs.Alike.{IsFreshClient}

@@ -1,29 +1,16 @@
 -- A step of a hosted client is events of the model.
-use Rattle.std.proofs.Common.{◌≡◌, ◌⊎◌, ℕ, Bool, true, false, List, [], ◌∷◌, ◌++◌, None, Some, map, ap, sym, ◌∙◌, subst, refl, inl, inr}
-use Rattle.std.specs.Prelude.{slice_get, if◌then◌else◌}
-use Rattle.std.specs.List.{flat_map}
-use Rattle.cx_base.specs.Asked.{floor_fits}
-use Rattle.cx_base.specs.declared.event.Cut.TheVariants.{Whole}
-use Rattle.cx_base.specs.declared.event.Event.{Event}
+use Rattle.cx_role.proofs.Common.{◌≡◌, ◌⊎◌, ℕ, Bool, true, false, List, [], ◌∷◌, ◌++◌, None, Some, map, ap, sym, ◌∙◌, subst, refl, inl, inr}
+use Rattle.cx_role.proofs.Common.{slice_get, if◌then◌else◌, flat_map, floor_fits, Whole, Event, Order, RoleId, role, mark_told}
+use Rattle.cx_role.proofs.Common.{same_role-itself, Member, names_role, DeliversOneOf, World, run_from, step, Letter}
 use Rattle.cx_base.specs.declared.event.Event.TheVariants as event
-use Rattle.cx_base.specs.declared.event.Order.{Order}
 use Rattle.cx_base.specs.declared.role.Kind.TheVariants as kind
-use Rattle.cx_base.specs.declared.role.RoleId.{RoleId}
 use Rattle.cx_base.specs.declared.why.Why.TheVariants as why
-use Rattle.cx_base.specs.Role.{role}
 use Rattle.cx_client.specs.Asking.{shifted}
 use Rattle.cx_client.specs.Client.{ClientMoved, ClientState, client_start, client_takes, client_ticks, hearing, left, client_stays}
 use Rattle.cx_client.specs.Window.{floor_for, outstanding, request_letters, event_with_floor}
 use Rattle.cx_client.proofs.Shifted.{all_itself, asks_shifted}
 use Rattle.cx_client.proofs.Windows.{fits, is_left}
 use Rattle.cx_inv_run.proofs.Members.{Member-at, Member-cases, Member-map, all-Member}
-use Rattle.cx_model.specs.Heard.{mark_told}
-use Rattle.cx_model.specs.Lists.{same_role-itself}
-use Rattle.cx_model.specs.Member.{Member}
-use Rattle.cx_model.specs.Names.{names_role}
-use Rattle.cx_model.specs.Promises.{DeliversOneOf}
-use Rattle.cx_model.specs.World.{World, run_from, step}
-use Rattle.cx_letter.specs.Letter.{Letter}
 use Rattle.cx_letter.specs.declared.input.Input.TheVariants as input
 use Rattle.cx_record.specs.Readable.{IsRecordable}
 use Rattle.cx_script.specs.Requests.{asks, number_of}

@@ -1,30 +1,14 @@
 -- A step of any hosted role, beside the events that are recorded of it.
-use Rattle.std.proofs.Common.{◌≡◌, ◌<◌, ◌⊎◌, ◌==◌, ℕ, Bool, true, false, List, [], ◌∷◌, ◌++◌, length, None, Some, ap, sym, ◌∙◌, subst, refl}
-use Rattle.std.proofs.Common.{inl, inr, append-nil}
-use Rattle.std.specs.Prelude.{nat_lt, slice_get, if◌then◌else◌}
-use Rattle.std.proofs.lemmas.Bool.{and_from, true≢false}
-use Rattle.std.proofs.lemmas.Option.{none-some, slice_get_within}
-use Rattle.cx_base.specs.declared.cluster.Cluster.{Cluster}
-use Rattle.cx_base.specs.declared.event.Cut.{Cut}
-use Rattle.cx_base.specs.declared.event.Cut.TheVariants.{Whole}
-use Rattle.cx_base.specs.declared.event.Event.{Event}
+use Rattle.cx_role.proofs.Common.{◌≡◌, ◌<◌, ◌⊎◌, ◌==◌, ℕ, Bool, true, false, List, [], ◌∷◌, ◌++◌, length, None, Some, ap, sym, ◌∙◌, subst}
+use Rattle.cx_role.proofs.Common.{refl, inl, inr, append-nil, nat_lt, slice_get, if◌then◌else◌, and_from, true≢false, none-some}
+use Rattle.cx_role.proofs.Common.{slice_get_within, Cluster, Cut, Whole, Event, Order, Kind, RoleId, count_of, code_of, role, same_role}
+use Rattle.cx_role.proofs.Common.{State, same_role-itself, Member, names_role, World, act_at, come, run_from, Letter, Input}
 use Rattle.cx_base.specs.declared.event.Event.TheVariants as event
-use Rattle.cx_base.specs.declared.event.Order.{Order}
 use Rattle.cx_base.specs.declared.event.Order.TheVariants.{Lead, Change, Collect, Replace}
-use Rattle.cx_base.specs.declared.role.Kind.{Kind}
 use Rattle.cx_base.specs.declared.role.Kind.TheVariants as kind
-use Rattle.cx_base.specs.declared.role.RoleId.{RoleId}
-use Rattle.cx_base.specs.Cluster.{count_of}
-use Rattle.cx_base.specs.Role.{code_of, role, same_role}
 use Rattle.cx_client.specs.Client.{ClientState}
-use Rattle.cx_inv_run.specs.States.{State}
-use Rattle.cx_model.specs.Lists.{role_from_parts, same_role-itself}
-use Rattle.cx_model.specs.Member.{Member}
-use Rattle.cx_model.specs.Names.{names_role}
-use Rattle.cx_model.specs.World.{World, act_at, come, run_from}
-use Rattle.cx_letter.specs.Letter.{Letter}
+use Rattle.cx_model.specs.Lists.{role_from_parts}
 use Rattle.cx_letter.specs.declared.input.Act.TheVariants as act
-use Rattle.cx_letter.specs.declared.input.Input.{Input}
 use Rattle.cx_letter.specs.declared.input.Input.TheVariants as input
 use Rattle.cx_record.specs.Readable.{HasGrid, IsRecordable, tells_all}
 use Rattle.cx_script.specs.Names.{names_order}

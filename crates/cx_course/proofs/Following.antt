@@ -1,25 +1,12 @@
 -- A recording node follows the model's run of what it recorded: what stands between two steps, and that a step keeps it.
-use Rattle.std.proofs.Common.{◌≡◌, ◌<◌, ◌≤◌, ◌+◌, ◌==◌, ◌^◌, ◌⊎◌, ℕ, zero, suc, false, List, [], ◌∷◌, ◌++◌, length, Some, option_map, ap}
-use Rattle.std.proofs.Common.{sym, ◌∙◌, subst, refl, inl, inr, arith, append_assoc, length-append}
-use Rattle.std.specs.Prelude.{get_or, slice_get, slice_set}
-use Rattle.std.specs.List.{All}
-use Rattle.std.proofs.lemmas.Bool.{cases_Bool}
-use Rattle.std.proofs.lemmas.Bool.Decides.{nat_tests}
-use Rattle.std.proofs.lemmas.Option.{same_Some}
-use Rattle.cx_base.specs.declared.cluster.Cluster.{Cluster}
-use Rattle.cx_base.specs.declared.event.Event.{Event}
-use Rattle.cx_base.specs.declared.role.RoleId.{RoleId}
-use Rattle.cx_base.specs.Role.{same_role}
+use Rattle.cx_inv_run.proofs.Common.{Member-cases, run_append, run_cluster, by_role}
+use Rattle.cx_role.proofs.Common.{◌≡◌, ◌<◌, ◌≤◌, ◌+◌, ◌==◌, ◌^◌, ◌⊎◌, ℕ, zero, suc, false, List, [], ◌∷◌, ◌++◌, length, Some, option_map}
+use Rattle.cx_role.proofs.Common.{ap, sym, ◌∙◌, subst, refl, inl, inr, arith, append_assoc, length-append, get_or, slice_get, slice_set}
+use Rattle.cx_role.proofs.Common.{All, cases_Bool, nat_tests, same_Some, Cluster, Event, RoleId, same_role, differ_role, get_set_other}
+use Rattle.cx_role.proofs.Common.{get_set_same, Member, DeliversOneOf, World, change, kept_by, run, run_from, start, Letter, Written}
+use Rattle.cx_role.proofs.Common.{Record}
 use Rattle.cx_inv_open.specs.Reopened.{stored_as}
-use Rattle.cx_inv_run.proofs.Members.{Member-cases}
-use Rattle.cx_inv_run.proofs.Steps.{run_append, run_cluster, run_from_append}
-use Rattle.cx_model.specs.Lists.{by_role, differ_role, get_set_other, get_set_same}
-use Rattle.cx_model.specs.Member.{Member}
-use Rattle.cx_model.specs.Promises.{DeliversOneOf}
-use Rattle.cx_model.specs.World.{World, change, kept_by, run, run_from, start}
-use Rattle.cx_letter.specs.Letter.{Letter}
-use Rattle.cx_letter.specs.declared.input.Written.{Written}
-use Rattle.cx_letter.specs.declared.kept.Record.{Record}
+use Rattle.cx_inv_run.proofs.Steps.{run_from_append}
 use Rattle.cx_promises.proofs.Lawful.{lawful}
 use Rattle.cx_record.specs.Numbers.{most_lines}
 use Rattle.cx_record.specs.Readable.{IsRecordable}

@@ -1,13 +1,8 @@
 -- A recording node begins beside the model's start.
-use Rattle.std.proofs.Common.{◌≡◌, true, List, [], ap, sym, ◌∙◌, refl, lit≤}
-use Rattle.cx_base.specs.declared.cluster.Cluster.{Cluster}
-use Rattle.cx_base.specs.declared.role.Kind.{Kind}
+use Rattle.cx_inv_run.proofs.Common.{◌≡◌, true, List, [], ap, sym, ◌∙◌, refl, lit≤, Cluster, Kind, RoleId, State, fresh_state, Rules, start}
 use Rattle.cx_base.specs.declared.role.Kind.TheVariants as kind
-use Rattle.cx_base.specs.declared.role.RoleId.{RoleId}
 use Rattle.cx_inv_open.specs.Reopened.{stored_as}
-use Rattle.cx_inv_run.specs.States.{State, fresh_state}
-use Rattle.cx_model.specs.Rules.{Rules, Running}
-use Rattle.cx_model.specs.World.{start}
+use Rattle.cx_model.specs.Rules.{Running}
 use Rattle.cx_course.specs.Alike.{AreFresh, IsFresh, IsFreshRole}
 use Rattle.cx_course.specs.Course.{course_of}
 use Rattle.cx_course.specs.Hosted.{Hosted, ClientAt}

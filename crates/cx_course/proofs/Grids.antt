@@ -1,15 +1,10 @@
 -- The orders that a node gives: their grids are grids, of acceptors of the cluster.
-use Rattle.std.proofs.Common.{◌≡◌, ◌≤◌, ◌<◌, ◌+◌, ◌/◌, ◌%◌, ◌==◌, ℕ, zero, suc, min, true, arith, lit≤, lt-ltb, refl, sym, subst}
-use Rattle.std.specs.Prelude.{nat_lt}
-use Rattle.std.specs.List.{list_all}
-use Rattle.cx_base.specs.declared.cluster.Cluster.{Cluster}
-use Rattle.cx_base.specs.declared.event.Order.TheVariants.{Lead, Change, Collect}
+use Rattle.std.proofs.Common.{◌/◌}
+use Rattle.cx_inv_run.proofs.Common.{◌≡◌, ◌≤◌, ◌<◌, ◌+◌, ◌%◌, ◌==◌, ℕ, zero, suc, min, true, arith, lit≤, lt-ltb, refl, sym, subst, nat_lt}
+use Rattle.cx_inv_run.proofs.Common.{list_all, Cluster, Lead, Collect, RoleId, IsGrid, Shape, numbers, Member-all, either_way}
+use Rattle.cx_base.specs.declared.event.Order.TheVariants.{Change}
 use Rattle.cx_base.specs.declared.role.Kind.TheVariants as kind
-use Rattle.cx_base.specs.declared.role.RoleId.{RoleId}
-use Rattle.cx_base.specs.Grid.{IsGrid, Shape}
-use Rattle.cx_base.specs.Lists.{numbers}
-use Rattle.cx_inv_run.proofs.Members.{Member-all, numbers-Member}
-use Rattle.cx_model.specs.Outcome.{either_way}
+use Rattle.cx_inv_run.proofs.Members.{numbers-Member}
 use Rattle.cx_script.specs.Names.{names_members}
 use Rattle.cx_course.specs.Run.{first_grid, grid_of}
 use Rattle.cx_course.proofs.Doings.{IsOrder}

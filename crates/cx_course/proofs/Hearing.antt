@@ -1,25 +1,12 @@
 -- What a client has heard when one event more has happened, and where the datagrams of a run are from.
-use Rattle.std.proofs.Common.{◌≡◌, ◌<◌, ◌+◌, ℕ, zero, suc, Bool, true, false, List, [], ◌∷◌, ◌++◌, Option, None, Some, max, ap, sym, ◌∙◌}
-use Rattle.std.proofs.Common.{subst, refl, inl, inr, arith}
-use Rattle.std.specs.Prelude.{length, slice_get, if◌then◌else◌}
-use Rattle.std.proofs.lemmas.Bool.{true≢false}
-use Rattle.std.proofs.lemmas.List.{length-append}
-use Rattle.std.proofs.lemmas.Option.{none-some}
-use Rattle.cx_base.specs.declared.event.Cut.{Cut}
-use Rattle.cx_base.specs.declared.event.Event.{Event}
+use Rattle.cx_role.proofs.Common.{◌≡◌, ◌<◌, ◌+◌, ℕ, zero, suc, Bool, true, false, List, [], ◌∷◌, ◌++◌, Option, None, Some, max, ap, sym}
+use Rattle.cx_role.proofs.Common.{◌∙◌, subst, refl, inl, inr, arith, length, slice_get, if◌then◌else◌, true≢false, length-append, none-some}
+use Rattle.cx_role.proofs.Common.{Cut, Event, Happened, RoleId, role, same_role, heard_at, heard_by, is_heard, told_to, bool_cases}
+use Rattle.cx_role.proofs.Common.{same_role-true, Member, names_role, token_of, World, Change, change, come, world_after, Letter}
 use Rattle.cx_base.specs.declared.event.Event.TheVariants as event
-use Rattle.cx_base.specs.declared.event.Happened.{Happened}
 use Rattle.cx_base.specs.declared.role.Kind.TheVariants as kind
-use Rattle.cx_base.specs.declared.role.RoleId.{RoleId}
-use Rattle.cx_base.specs.Role.{role, same_role}
 use Rattle.cx_inv_run.proofs.Members.{Member-cases}
-use Rattle.cx_model.specs.Heard.{delivered_to, heard_at, heard_by, is_heard, told_to}
-use Rattle.cx_model.specs.Lists.{bool_cases, same_role-true}
-use Rattle.cx_model.specs.Member.{Member}
-use Rattle.cx_model.specs.Names.{names_role}
-use Rattle.cx_model.specs.Request.{token_of}
-use Rattle.cx_model.specs.World.{World, Change, change, come, world_after}
-use Rattle.cx_letter.specs.Letter.{Letter}
+use Rattle.cx_model.specs.Heard.{delivered_to}
 use Rattle.cx_course.proofs.Asker.{IsTraced, SparesClient}
 
 -- ---- what is delivered had been sent

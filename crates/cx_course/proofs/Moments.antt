@@ -1,17 +1,8 @@
 -- The moments of a recording node's run: what stands between two steps follows at each of them, and every change of a store that is next.
-use Rattle.std.proofs.Common.{◌≡◌, ◌≤◌, ◌+◌, ℕ, zero, suc, Bool, true, false, List, [], ◌∷◌, ◌++◌, length, map, nat_le, take, Option, None}
-use Rattle.std.proofs.Common.{Some, ap, sym, ◌∙◌, subst, refl, arith, append-nil, append_assoc}
-use Rattle.std.specs.Prelude.{slice_get}
-use Rattle.std.specs.Option.{option_map}
-use Rattle.std.proofs.lemmas.Bool.{true≢false}
-use Rattle.std.proofs.lemmas.Bool.Decides.{nat_tests}
-use Rattle.std.proofs.lemmas.Option.{none-some, same_Some}
-use Rattle.cx_base.specs.declared.cluster.Cluster.{Cluster}
-use Rattle.cx_base.specs.declared.event.Event.{Event}
+use Rattle.cx_role.proofs.Common.{◌≡◌, ◌≤◌, ◌+◌, ℕ, zero, suc, Bool, true, false, List, [], ◌∷◌, ◌++◌, length, map, nat_le, take, Option}
+use Rattle.cx_role.proofs.Common.{None, Some, ap, sym, ◌∙◌, subst, refl, arith, append-nil, append_assoc, slice_get, option_map, true≢false}
+use Rattle.cx_role.proofs.Common.{nat_tests, none-some, same_Some, Cluster, Event, KeeperChange, run, Written}
 use Rattle.cx_inv_open.specs.Reopened.{stored_as}
-use Rattle.cx_keep.specs.Keeper.{KeeperChange}
-use Rattle.cx_model.specs.World.{run}
-use Rattle.cx_letter.specs.declared.input.Written.{Written}
 use Rattle.cx_record.specs.Lines.{events_text}
 use Rattle.cx_record.specs.Numbers.{Recorded, most_lines}
 use Rattle.cx_course.specs.declared.doing.Doing.{Doing}

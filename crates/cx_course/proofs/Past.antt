@@ -1,9 +1,6 @@
 -- What was done by a moment, as far as a run tells it, and what a step adds.
-use Rattle.std.proofs.Common.{◌≡◌, ℕ, List, [], ◌∷◌, ◌++◌, map, ap, ap₂, ◌∙◌, refl, append-nil}
-use Rattle.std.specs.List.{flat_map}
-use Rattle.std.proofs.lemmas.Grind.{flat_map-append}
-use Rattle.cx_base.specs.declared.event.Event.{Event}
-use Rattle.cx_letter.specs.Letter.{Letter}
+use Rattle.cx_role.proofs.Common.{◌≡◌, ℕ, List, [], ◌∷◌, ◌++◌, map, ap, ap₂, ◌∙◌, refl, append-nil, flat_map, flat_map-append, Event}
+use Rattle.cx_role.proofs.Common.{Letter}
 use Rattle.cx_course.specs.Action.{Action, Answered, Kept, Noted, Printed, Sent, answered_by, answered_in, kept_as, kept_in, noted_by}
 use Rattle.cx_course.specs.Action.{noted_in, sent_by, sent_in, step_actions}
 use Rattle.cx_course.specs.Changing.{StoreChange}

@@ -1,25 +1,15 @@
 -- Requests of a hosted client go out: each is an event of the model that sends exactly the client's datagram.
-use Rattle.std.proofs.Common.{◌≡◌, ℕ, List, [], ◌∷◌, ◌++◌, Option, Some, map, ap, sym, ◌∙◌, subst, refl, inl, inr, append-nil, append_assoc}
-use Rattle.std.proofs.lemmas.Bool.{true≢false}
-use Rattle.std.proofs.lemmas.Option.{none-some, same_Some}
-use Rattle.cx_base.specs.declared.event.Event.{Event}
+use Rattle.cx_inv_run.proofs.Common.{◌≡◌, ℕ, List, [], ◌∷◌, ◌++◌, Option, Some, map, ap, sym, ◌∙◌, subst, refl, inl, inr, append-nil}
+use Rattle.cx_inv_run.proofs.Common.{append_assoc, true≢false, none-some, same_Some, Event, Happened, role, Token, Member-cases, heard_by}
+use Rattle.cx_inv_run.proofs.Common.{Member, names_role, request, token_of, World, ask, change, world_after, run_from, Letter}
 use Rattle.cx_base.specs.declared.event.Event.TheVariants as event
-use Rattle.cx_base.specs.declared.event.Happened.{Happened}
 use Rattle.cx_base.specs.declared.role.Kind.TheVariants as kind
 use Rattle.cx_base.specs.declared.why.Why.TheVariants as why
-use Rattle.cx_base.specs.Role.{role}
 use Rattle.cx_client.specs.Asking.{shifted}
 use Rattle.cx_client.specs.Client.{ClientState, left}
 use Rattle.cx_client.specs.Window.{floor_for, request_letters, event_with_floor}
 use Rattle.cx_client.proofs.Windows.{above, rise_above_floor}
-use Rattle.cx_field.specs.declared.parts.Token.{Token}
-use Rattle.cx_inv_run.proofs.Members.{Member-cases}
-use Rattle.cx_model.specs.Heard.{heard_by}
-use Rattle.cx_model.specs.Member.{Member}
-use Rattle.cx_model.specs.Names.{names_role}
-use Rattle.cx_model.specs.Request.{request, token_of}
-use Rattle.cx_model.specs.World.{World, Change, ask, change, world_after, run_from, step}
-use Rattle.cx_letter.specs.Letter.{Letter}
+use Rattle.cx_model.specs.World.{Change, step}
 use Rattle.cx_course.proofs.Asker.{IsAsker, IsTold, IsTraced, SparesClient}
 use Rattle.cx_course.proofs.Hearing.{heard_still, traced_behind}
 use Rattle.cx_course.proofs.Scripts.{Mine, Out, dropped, its_token, not_stale, sent_as}

@@ -1,49 +1,22 @@
 -- One step of a role of the protocol, beside the one event that is recorded of it.
-use Rattle.std.proofs.Common.{◌≡◌, ◌==◌, ◌&&◌, ℕ, true, false, List, [], ◌∷◌, ◌++◌, Option, None, Some, option_map, ap, sym, ◌∙◌, subst}
-use Rattle.std.proofs.Common.{refl}
-use Rattle.std.proofs.lemmas.Bool.{true≢false}
-use Rattle.std.proofs.lemmas.Option.{none-some}
-use Rattle.cx_base.specs.declared.cluster.Cluster.{Cluster}
-use Rattle.cx_base.specs.declared.event.Cut.TheVariants.{Whole}
-use Rattle.cx_base.specs.declared.event.Event.{Event}
-use Rattle.cx_base.specs.declared.role.Kind.{Kind}
+use Rattle.cx_inv_run.proofs.Common.{◌≡◌, ◌==◌, ◌&&◌, ℕ, true, false, List, [], ◌∷◌, ◌++◌, Option, None, Some, option_map, ap, sym, ◌∙◌}
+use Rattle.cx_inv_run.proofs.Common.{subst, refl, true≢false, none-some, Cluster, Whole, Event, Kind, RoleId, code_of, OfKind, State}
+use Rattle.cx_inv_run.proofs.Common.{BatcherIn, LeaderIn, ProxyIn, ReplicaIn, ReaderIn, ReplacerIn, plain, plain_volatile, batcher_volatile}
+use Rattle.cx_inv_run.proofs.Common.{leader_volatile, proxy_volatile, replica_volatile, reader_volatile, replacer_volatile, acceptor_kinds}
+use Rattle.cx_inv_run.proofs.Common.{batcher_kinds, matchmaker_kinds, proxy_kinds, reader_kinds, replica_kinds, unbatcher_kinds}
+use Rattle.cx_inv_run.proofs.Common.{leader_kinds, replacer_kinds, acceptor_rules, batcher_rules, leader_rules, list_own, number_itself}
+use Rattle.cx_inv_run.proofs.Common.{matchmaker_rules, Member, names_role, DeliversOneOf, proxy_rules, reader_rules, replacer_rules}
+use Rattle.cx_inv_run.proofs.Common.{ReplicaDurable, ReplicaVolatile, replica_renewed, replica_rules, Rules, folded, folded_from}
+use Rattle.cx_inv_run.proofs.Common.{unbatcher_rules, World, act_at, act_of, change, durable_part, kept_by, list_of, nothing, run_from}
+use Rattle.cx_inv_run.proofs.Common.{turned, Letter, Act, Input, KeptRecord, Written, Record}
+use Rattle.cx_role.specs.Prelude.{Append, KeeperChange, Renewal, Running, outcome_of, running_after, Change, step, snapped_by}
 use Rattle.cx_base.specs.declared.role.Kind.TheVariants as kind
-use Rattle.cx_base.specs.declared.role.RoleId.{RoleId}
 use Rattle.cx_base.specs.declared.why.Why.TheVariants as why
-use Rattle.cx_base.specs.Role.{code_of}
 use Rattle.cx_inv_open.specs.Reopened.{stored_as}
-use Rattle.cx_inv_run.specs.Kinds.{OfKind}
-use Rattle.cx_inv_run.specs.States.{State, BatcherIn, LeaderIn, ProxyIn, ReplicaIn, ReaderIn, ReplacerIn, plain, plain_volatile}
-use Rattle.cx_inv_run.specs.States.{batcher_volatile, leader_volatile, proxy_volatile, replica_volatile, reader_volatile, replacer_volatile}
-use Rattle.cx_inv_run.proofs.Senders.{acceptor_kinds, batcher_kinds, matchmaker_kinds, proxy_kinds, reader_kinds, replica_kinds}
-use Rattle.cx_inv_run.proofs.Senders.{unbatcher_kinds}
-use Rattle.cx_inv_run.proofs.LeaderSenders.{leader_kinds, replacer_kinds}
-use Rattle.cx_keep.specs.Keeper.{Append, KeeperChange, Renewal}
-use Rattle.cx_model.specs.Acceptor.{acceptor_rules}
-use Rattle.cx_model.specs.Batcher.{batcher_rules}
-use Rattle.cx_model.specs.Leader.{leader_rules}
-use Rattle.cx_model.specs.Lists.{list_own, number_itself}
-use Rattle.cx_model.specs.Matchmaker.{matchmaker_rules}
-use Rattle.cx_model.specs.Member.{Member}
-use Rattle.cx_model.specs.Names.{names_role}
-use Rattle.cx_model.specs.Promises.{DeliversOneOf}
-use Rattle.cx_model.specs.Proxy.{proxy_rules}
-use Rattle.cx_model.specs.Reader.{reader_rules}
-use Rattle.cx_model.specs.Replacer.{replacer_rules}
-use Rattle.cx_model.specs.Replica.{ReplicaDurable, ReplicaVolatile, replica_renewed, replica_rules}
-use Rattle.cx_model.specs.Rules.{Rules, Running, folded, folded_from, outcome_of, running_after, with_kept}
-use Rattle.cx_model.specs.Unbatcher.{unbatcher_rules}
-use Rattle.cx_model.specs.World.{World, Change, act_at, act_of, change, durable_part, kept_by, list_of, nothing, run_from, step, turned}
-use Rattle.cx_letter.specs.Letter.{Letter}
-use Rattle.cx_letter.specs.declared.input.Act.{Act}
+use Rattle.cx_model.specs.Rules.{with_kept}
 use Rattle.cx_letter.specs.declared.input.Act.TheVariants as act
-use Rattle.cx_letter.specs.declared.input.Input.{Input}
 use Rattle.cx_letter.specs.declared.input.Input.TheVariants as input
-use Rattle.cx_letter.specs.declared.input.KeptRecord.{KeptRecord}
-use Rattle.cx_letter.specs.declared.input.Written.{Written}
 use Rattle.cx_letter.specs.declared.input.Written.TheVariants as written
-use Rattle.cx_letter.specs.declared.kept.Record.{Record}
-use Rattle.cx_role.specs.Snap.{snapped_by}
 use Rattle.cx_course.specs.declared.doing.Doing.{Doing}
 use Rattle.cx_course.specs.declared.doing.Doing.TheVariants.{Begin, Give, Snap}
 use Rattle.cx_course.specs.Changing.{StoreChange, change_for, changed_by}

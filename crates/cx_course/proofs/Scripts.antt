@@ -1,29 +1,15 @@
 -- What is known of the requests of a script, and why none of them is stale.
-use Rattle.std.proofs.Common.{◌≡◌, ◌≤◌, ◌<◌, ◌==◌, ◌&&◌, ◌||◌, not, nat_le, ℕ, zero, suc, Bool, true, false, List, [], ◌∷◌, drop, Option}
-use Rattle.std.proofs.Common.{None, Some, ap, sym, ◌∙◌, subst, refl, inl, inr, arith}
-use Rattle.std.specs.List.{list_any}
-use Rattle.std.specs.Str.{bytes_eq}
-use Rattle.std.proofs.lemmas.Bool.{and_parts, and_from, cases_Bool, true≢false}
-use Rattle.std.proofs.lemmas.Bool.Decides.{nat_tests}
-use Rattle.std.proofs.lemmas.Option.{none-some, same_Some}
-use Rattle.cx_base.specs.declared.cluster.Cluster.{Cluster}
-use Rattle.cx_base.specs.declared.command.Op.{Op}
-use Rattle.cx_base.specs.declared.command.Op.TheVariants.{Put, Del, App}
-use Rattle.cx_base.specs.declared.event.Event.{Event}
+use Rattle.cx_letter.specs.Prelude.{Op, Put, Del, App, same_op}
+use Rattle.cx_inv_run.proofs.Common.{◌≡◌, ◌≤◌, ◌<◌, ◌==◌, ◌&&◌, ◌||◌, not, nat_le, ℕ, zero, suc, Bool, true, false, List, [], ◌∷◌, drop}
+use Rattle.cx_inv_run.proofs.Common.{Option, None, Some, ap, sym, ◌∙◌, subst, refl, inl, inr, arith, list_any, bytes_eq, and_parts}
+use Rattle.cx_inv_run.proofs.Common.{and_from, cases_Bool, true≢false, nat_tests, none-some, same_Some, Cluster, Event, Happened}
+use Rattle.cx_inv_run.proofs.Common.{floor_fits, is_valid_event, Token, all-Member, same_number, number_itself, Member, floor_in, is_past}
+use Rattle.cx_inv_run.proofs.Common.{is_stale, same_request, same_token, token_of, was_sent, World}
 use Rattle.cx_base.specs.declared.event.Event.TheVariants as event
-use Rattle.cx_base.specs.declared.event.Happened.{Happened}
-use Rattle.cx_base.specs.Asked.{floor_fits, is_valid_event}
-use Rattle.cx_base.specs.Same.{same_op}
 use Rattle.cx_client.specs.Asking.{shifted}
 use Rattle.cx_client.specs.Client.{ClientState, left}
 use Rattle.cx_client.specs.Window.{floor_for, event_with_floor}
 use Rattle.cx_client.proofs.Shifted.{named_shifted}
-use Rattle.cx_field.specs.declared.parts.Token.{Token}
-use Rattle.cx_inv_run.proofs.Members.{all-Member}
-use Rattle.cx_model.specs.Lists.{same_number, number_itself}
-use Rattle.cx_model.specs.Member.{Member}
-use Rattle.cx_model.specs.Request.{floor_in, is_past, is_stale, same_request, same_token, token_of, was_sent}
-use Rattle.cx_model.specs.World.{World}
 use Rattle.cx_record.specs.Readable.{HasRanges, IsRecordable, tells_all}
 use Rattle.cx_script.specs.Names.{names_event}
 use Rattle.cx_script.specs.Requests.{asks, number_of}

@@ -1,19 +1,10 @@
 -- The list in each store after a step: that of the model, and what the changes that a node made leave.
-use Rattle.std.proofs.Common.{◌≡◌, Bool, true, false, List, [], ◌∷◌, ◌++◌, Option, None, Some, option_map, ap, sym, ◌∙◌, subst, refl}
-use Rattle.std.proofs.Common.{append-nil, if◌then◌else◌, slice_get}
-use Rattle.cx_base.specs.declared.role.Kind.{Kind}
+use Rattle.cx_role.proofs.Common.{◌≡◌, Bool, true, false, List, [], ◌∷◌, ◌++◌, Option, None, Some, option_map, ap, sym, ◌∙◌, subst, refl}
+use Rattle.cx_role.proofs.Common.{append-nil, if◌then◌else◌, slice_get, Kind, RoleId, same_role, KeeperChange, list_after, list_other}
+use Rattle.cx_role.proofs.Common.{list_own, same_role-itself, replica_rules, kept_by, KeptRecord, Written, Record}
 use Rattle.cx_base.specs.declared.role.Kind.TheVariants as kind
-use Rattle.cx_base.specs.declared.role.RoleId.{RoleId}
-use Rattle.cx_base.specs.Role.{same_role}
 use Rattle.cx_inv_open.specs.Reopened.{stored_as}
-use Rattle.cx_keep.specs.Keeper.{KeeperChange, list_after}
-use Rattle.cx_model.specs.Lists.{list_other, list_own, same_role-itself}
-use Rattle.cx_model.specs.Replica.{replica_rules}
-use Rattle.cx_model.specs.World.{kept_by}
-use Rattle.cx_letter.specs.declared.input.KeptRecord.{KeptRecord}
-use Rattle.cx_letter.specs.declared.input.Written.{Written}
 use Rattle.cx_letter.specs.declared.input.Written.TheVariants as written
-use Rattle.cx_letter.specs.declared.kept.Record.{Record}
 use Rattle.cx_course.specs.Changing.{StoreChange, change_for, changed_by, changes_of, lists_after}
 use Rattle.cx_course.proofs.Roles.{MayWrite, stored_by}
 

@@ -1,21 +1,15 @@
 -- What a datagram does to a hosted client, beside its delivery in the model.
-use Rattle.std.proofs.Common.{◌≡◌, ◌+◌, ◌&&◌, ℕ, zero, suc, Bool, true, false, not, ◌⊎◌, List, [], ◌∷◌, ◌++◌, append_assoc, drop, filter}
-use Rattle.std.proofs.Common.{length, map, max, take, Option, None, Some, ap, sym, ◌∙◌, subst, refl, inl, inr, arith, append-nil, eqb-true}
-use Rattle.std.specs.Prelude.{slice_get, if◌then◌else◌}
-use Rattle.std.proofs.lemmas.Bool.{cases_Bool}
-use Rattle.std.proofs.lemmas.List.{drop_at, length-take-le, length_push}
-use Rattle.std.proofs.lemmas.Option.{none-some}
-use Rattle.cx_base.specs.declared.cluster.Cluster.{Cluster}
-use Rattle.cx_base.specs.declared.event.Cut.TheVariants.{Whole}
-use Rattle.cx_base.specs.declared.event.Event.{Event}
+use Rattle.std.proofs.lemmas.List.{drop_at, length_push}
+use Rattle.cx_inv_run.proofs.Common.{Member-cases, Member-filter, Member-first, Member-second, any-Member, filter-Member, names_body, Give}
+use Rattle.cx_role.proofs.Common.{◌≡◌, ◌+◌, ◌&&◌, ℕ, zero, suc, Bool, true, false, not, ◌⊎◌, List, [], ◌∷◌, ◌++◌, append_assoc, drop}
+use Rattle.cx_role.proofs.Common.{filter, length, map, max, take, Option, None, Some, ap, sym, ◌∙◌, subst, refl, inl, inr, arith}
+use Rattle.cx_role.proofs.Common.{append-nil, eqb-true, slice_get, if◌then◌else◌, cases_Bool, none-some, Cluster, Whole, Event, Happened}
+use Rattle.cx_role.proofs.Common.{Kind, RoleId, Why, role, same_role, heard_at, heard_by, mark_told, differ_role, same_role-itself, Member}
+use Rattle.cx_role.proofs.Common.{names, names_role, token_of, World, act_of, change, world_after, nothing, Token, Letter, Msg}
+use Rattle.cx_role.proofs.Common.{length-take-le, told_to, Change, step}
 use Rattle.cx_base.specs.declared.event.Event.TheVariants as event
-use Rattle.cx_base.specs.declared.event.Happened.{Happened}
-use Rattle.cx_base.specs.declared.role.Kind.{Kind}
 use Rattle.cx_base.specs.declared.role.Kind.TheVariants as kind
-use Rattle.cx_base.specs.declared.role.RoleId.{RoleId}
-use Rattle.cx_base.specs.declared.why.Why.{Why}
 use Rattle.cx_base.specs.declared.why.Why.TheVariants as why
-use Rattle.cx_base.specs.Role.{role, same_role}
 use Rattle.cx_client.specs.Asking.{one_further, shifted}
 use Rattle.cx_client.specs.Client.{ClientMoved, ClientState, again, answer_number, client_completes, client_hears, client_takes}
 use Rattle.cx_client.specs.Client.{client_ticks, client_told, client_waits, after_completion, hearing, left, client_stays}
@@ -24,18 +18,7 @@ use Rattle.cx_client.specs.Window.{without_request}
 use Rattle.cx_client.proofs.Shifted.{all_itself}
 use Rattle.cx_client.proofs.Steps.{completed_is_client, further_is_client}
 use Rattle.cx_client.proofs.Windows.{is_left, only_one, taken}
-use Rattle.cx_inv_run.proofs.Members.{Member-cases, Member-filter, Member-first, Member-second, any-Member, filter-Member}
-use Rattle.cx_model.specs.Heard.{heard_at, heard_by, mark_told, told_to}
-use Rattle.cx_model.specs.Lists.{differ_role, same_role-itself}
-use Rattle.cx_model.specs.Member.{Member}
-use Rattle.cx_model.specs.Names.{names, names_body, names_role}
-use Rattle.cx_model.specs.Request.{token_of}
-use Rattle.cx_model.specs.World.{World, Change, act_of, change, world_after, nothing, step}
-use Rattle.cx_field.specs.declared.parts.Token.{Token}
-use Rattle.cx_letter.specs.Letter.{Letter}
-use Rattle.cx_letter.specs.declared.input.Act.TheVariants.{Give}
 use Rattle.cx_letter.specs.declared.input.Input.TheVariants as input
-use Rattle.cx_letter.specs.declared.message.Msg.{Msg}
 use Rattle.cx_letter.specs.declared.message.Msg.TheVariants as msg
 use Rattle.cx_script.specs.Requests.{number_of}
 use Rattle.cx_course.proofs.Asker.{IsAsker, IsTold, IsTraced, SparesClient, unheard}

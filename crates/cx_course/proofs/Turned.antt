@@ -1,29 +1,12 @@
 -- What an act at a role that runs does to the world, to that role and to each other.
-use Rattle.std.proofs.Common.{◌≡◌, ℕ, true, false, List, [], Option, None, Some, option_map, ap, sym, ◌∙◌, subst, refl}
-use Rattle.cx_base.specs.declared.cluster.Cluster.{Cluster}
-use Rattle.cx_base.specs.declared.event.Cut.TheVariants.{Whole}
-use Rattle.cx_base.specs.declared.event.Event.{Event}
-use Rattle.cx_base.specs.declared.role.Kind.{Kind}
-use Rattle.cx_base.specs.declared.role.RoleId.{RoleId}
-use Rattle.cx_base.specs.declared.why.Why.{Why}
+use Rattle.cx_inv_run.proofs.Common.{◌≡◌, ℕ, true, false, List, [], Option, None, Some, option_map, ap, sym, ◌∙◌, subst, refl, Cluster}
+use Rattle.cx_inv_run.proofs.Common.{Whole, Event, Kind, RoleId, Why, same_role, State, state_other, state_own, heard_at, Member}
+use Rattle.cx_inv_run.proofs.Common.{names_role, Outcome, token_of, Rules, Turn, snap_turn, turn, turn_with, World, act_at, act_of, change}
+use Rattle.cx_inv_run.proofs.Common.{changed, durable_part, kept_by, turned, world_after, Letter, Act, KeptRecord, Written, Record}
 use Rattle.cx_base.specs.declared.why.Why.TheVariants as why
-use Rattle.cx_base.specs.Role.{same_role}
-use Rattle.cx_inv_run.specs.States.{State}
-use Rattle.cx_inv_run.proofs.Histories.{state_other, state_own}
-use Rattle.cx_model.specs.Heard.{heard_at}
-use Rattle.cx_model.specs.Member.{Member}
-use Rattle.cx_model.specs.Names.{names_role}
-use Rattle.cx_model.specs.Outcome.{Outcome}
-use Rattle.cx_model.specs.Request.{token_of}
-use Rattle.cx_model.specs.Rules.{Rules, Running}
-use Rattle.cx_model.specs.Turn.{Turn, snap_turn, turn, turn_with}
-use Rattle.cx_model.specs.World.{World, Change, act_at, act_of, change, changed, durable_part, kept_by, step, turned, world_after}
-use Rattle.cx_letter.specs.Letter.{Letter}
-use Rattle.cx_letter.specs.declared.input.Act.{Act}
-use Rattle.cx_letter.specs.declared.input.KeptRecord.{KeptRecord}
-use Rattle.cx_letter.specs.declared.input.Written.{Written}
+use Rattle.cx_model.specs.Rules.{Running}
+use Rattle.cx_model.specs.World.{Change, step}
 use Rattle.cx_letter.specs.declared.input.Written.TheVariants as written
-use Rattle.cx_letter.specs.declared.kept.Record.{Record}
 use Rattle.cx_course.proofs.Alike.{IsRole, Moves, Spares}
 use Rattle.cx_course.proofs.Asker.{IsTraced}
 use Rattle.cx_course.proofs.Hearing.{IsThere, is_there, spares, traced_behind}

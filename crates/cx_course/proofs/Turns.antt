@@ -1,26 +1,12 @@
 -- Each part of a node's run, tended or not, keeps the node beside the model's run.
-use Rattle.std.proofs.Common.{◌≡◌, ◌+◌, ◌%◌, ◌==◌, ◌&&◌, ◌||◌, ℕ, zero, suc, Bool, true, false, not, List, [], ◌∷◌, length, Option, None}
-use Rattle.std.proofs.Common.{Some, option_map, ap, sym, ◌∙◌, subst, refl, inl, inr, arith, if◌then◌else◌}
-use Rattle.std.specs.Prelude.{bytes_eq, count_by, is_some, slice_get}
-use Rattle.std.specs.Option.{option_map_or}
-use Rattle.std.proofs.lemmas.Bool.{cases_Bool}
-use Rattle.std.proofs.lemmas.Option.{none-some, same_Some}
-use Rattle.cx_base.specs.declared.cluster.Cluster.{Cluster}
-use Rattle.cx_base.specs.declared.event.Order.{Order}
+use Rattle.cx_role.proofs.Common.{◌≡◌, ◌+◌, ◌%◌, ◌==◌, ◌&&◌, ◌||◌, ℕ, zero, suc, Bool, true, false, not, List, [], ◌∷◌, length, Option}
+use Rattle.cx_role.proofs.Common.{None, Some, option_map, ap, sym, ◌∙◌, subst, refl, inl, inr, arith, if◌then◌else◌, bytes_eq, count_by}
+use Rattle.cx_role.proofs.Common.{is_some, slice_get, option_map_or, cases_Bool, none-some, same_Some, Cluster, Order, Kind, RoleId, below}
+use Rattle.cx_role.proofs.Common.{role, same_role, LeaderDurable, LeaderVolatile, same_role-true, either_way, Running, World, run, Letter}
 use Rattle.cx_base.specs.declared.event.Order.TheVariants as order
-use Rattle.cx_base.specs.declared.role.Kind.{Kind}
 use Rattle.cx_base.specs.declared.role.Kind.TheVariants as kind
-use Rattle.cx_base.specs.declared.role.RoleId.{RoleId}
-use Rattle.cx_base.specs.Lists.{below}
-use Rattle.cx_base.specs.Role.{role, same_role}
 use Rattle.cx_inv_run.proofs.Steps.{run_cluster}
 use Rattle.cx_leader.specs.Tending.{can_collect, is_new_leader}
-use Rattle.cx_model.specs.Leader.{LeaderDurable, LeaderVolatile}
-use Rattle.cx_model.specs.Lists.{same_role-true}
-use Rattle.cx_model.specs.Outcome.{either_way}
-use Rattle.cx_model.specs.Rules.{Running}
-use Rattle.cx_model.specs.World.{World, run}
-use Rattle.cx_letter.specs.Letter.{Letter}
 use Rattle.cx_msg.specs.Datagrams.{spelling}
 use Rattle.cx_letter.specs.declared.input.Input.TheVariants as input
 use Rattle.cx_record.specs.Numbers.{Numbered, last_from, last_sent, numbered, or_else}

@@ -1,10 +1,7 @@
 -- What a node does, one action after another, and what of it others see.
-use Rattle.std.specs.Prelude.{◌≡◌, ℕ, Bool, true, false, List, [], ◌∷◌, ◌++◌, map, Option}
-use Rattle.std.specs.List.{flat_map}
-use Rattle.cx_base.specs.declared.event.Event.{Event}
-use Rattle.cx_base.specs.declared.role.RoleId.{RoleId}
+use Rattle.std.specs.Prelude.{◌≡◌, ℕ, Bool, true, false, List, [], ◌∷◌, ◌++◌, map, Option, flat_map}
+use Rattle.cx_letter.specs.Prelude.{Event, RoleId, Letter}
 use Rattle.cx_course.specs.Changing.{StoreChange}
-use Rattle.cx_letter.specs.Letter.{Letter}
 
 -- One action of a node: a role is bound to its port, a take of the link gives this, a role's store is changed, the link
 -- is asked to send a datagram, a byte is printed. Of a node that records: a line was written for this event, a client took

@@ -1,22 +1,10 @@
 -- How a recording node begins: its roles are fresh.
 use Rattle.std.specs.Prelude.{◌≡◌, ℕ, true, List, [], slice_get, Some}
-use Rattle.cx_base.specs.declared.cluster.Cluster.{Cluster}
-use Rattle.cx_base.specs.declared.event.Event.{Event}
+use Rattle.cx_model.specs.Prelude.{Cluster, Event, acceptor_rules, batcher_rules, leader_rules, matchmaker_rules, Member, names_role}
+use Rattle.cx_model.specs.Prelude.{proxy_rules, reader_rules, replacer_rules, replica_rules, Rules, Running, opened, unbatcher_rules}
 use Rattle.cx_client.specs.Client.{ClientState, IsClient}
 use Rattle.cx_course.specs.Hosted.{Hosted, ClientAt, BatcherAt, LeaderAt, ProxyAt, AcceptorAt, MatchmakerAt, ReplicaAt, UnbatcherAt}
 use Rattle.cx_course.specs.Hosted.{ReaderAt, ReplacerAt, name_of}
-use Rattle.cx_model.specs.Acceptor.{acceptor_rules}
-use Rattle.cx_model.specs.Batcher.{batcher_rules}
-use Rattle.cx_model.specs.Leader.{leader_rules}
-use Rattle.cx_model.specs.Matchmaker.{matchmaker_rules}
-use Rattle.cx_model.specs.Member.{Member}
-use Rattle.cx_model.specs.Names.{names_role}
-use Rattle.cx_model.specs.Proxy.{proxy_rules}
-use Rattle.cx_model.specs.Reader.{reader_rules}
-use Rattle.cx_model.specs.Replacer.{replacer_rules}
-use Rattle.cx_model.specs.Replica.{replica_rules}
-use Rattle.cx_model.specs.Rules.{Rules, Running, opened}
-use Rattle.cx_model.specs.Unbatcher.{unbatcher_rules}
 use Rattle.cx_record.specs.Readable.{IsRecordable}
 
 -- a role of the cluster that was opened without records

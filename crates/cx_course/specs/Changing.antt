@@ -1,13 +1,8 @@
 -- The changes of the stores of hosted roles.
 use Rattle.std.specs.Prelude.{List, [], ◌∷◌, Option, None, Some, if◌then◌else◌}
-use Rattle.cx_base.specs.declared.role.RoleId.{RoleId}
-use Rattle.cx_base.specs.Role.{same_role}
-use Rattle.cx_keep.specs.Keeper.{KeeperChange, Append, Renewal, list_after}
-use Rattle.cx_model.specs.Replica.{replica_renewed, replica_rules}
-use Rattle.cx_model.specs.Rules.{folded}
-use Rattle.cx_letter.specs.declared.input.Written.{Written}
+use Rattle.cx_role.specs.Prelude.{RoleId, same_role, KeeperChange, Append, Renewal, list_after, replica_renewed, replica_rules, folded}
+use Rattle.cx_role.specs.Prelude.{Written, Record}
 use Rattle.cx_letter.specs.declared.input.Written.TheVariants as written
-use Rattle.cx_letter.specs.declared.kept.Record.{Record}
 
 -- a change of the store of a role
 pub record StoreChange : Type 0 where

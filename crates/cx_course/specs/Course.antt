@@ -1,23 +1,16 @@
 -- Hosted roles with the record of their run, and one step of a role: what it is in a schedule, and what is seen of it outside.
 use Rattle.std.specs.Prelude.{ℕ, Bool, true, List, [], ◌∷◌, ◌++◌, length, map, Option, None, Some, slice_get, slice_set, if◌then◌else◌}
-use Rattle.std.specs.List.{flat_map}
-use Rattle.std.specs.Option.{option_map, option_map_or}
-use Rattle.cx_base.specs.declared.event.Cut.TheVariants.{Whole}
-use Rattle.cx_base.specs.declared.event.Event.{Event}
+use Rattle.std.specs.Prelude.{flat_map, option_map}
+use Rattle.cx_role.specs.Prelude.{option_map_or, Whole, Event, Kind, RoleId, role, same_role, Letter, Msg}
 use Rattle.cx_base.specs.declared.event.Event.TheVariants as event
-use Rattle.cx_base.specs.declared.role.Kind.{Kind}
 use Rattle.cx_base.specs.declared.role.Kind.TheVariants as kind
-use Rattle.cx_base.specs.declared.role.RoleId.{RoleId}
-use Rattle.cx_base.specs.Role.{role, same_role}
 use Rattle.cx_client.specs.Client.{left}
 use Rattle.cx_client.specs.Window.{floor_for}
 use Rattle.cx_course.specs.declared.doing.Doing.{Doing}
 use Rattle.cx_course.specs.declared.doing.Doing.TheVariants.{Begin, Give, Snap}
 use Rattle.cx_course.specs.Action.{Action, Answered, Filled, Noted, Took, step_actions}
 use Rattle.cx_course.specs.Hosted.{Hosted, ClientAt, Step, does, name_of}
-use Rattle.cx_letter.specs.Letter.{Letter}
 use Rattle.cx_letter.specs.declared.input.Input.TheVariants as input
-use Rattle.cx_letter.specs.declared.message.Msg.{Msg}
 use Rattle.cx_letter.specs.declared.message.Msg.TheVariants as msg
 use Rattle.cx_record.specs.Lines.{events_text}
 use Rattle.cx_record.specs.Numbers.{Recorded, blank, has_room, with_step}

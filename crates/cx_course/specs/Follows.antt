@@ -1,17 +1,9 @@
 -- What a recording node's run is: at each moment between two steps, the model's run of what it recorded.
 use Rattle.std.specs.Prelude.{◌≡◌, ◌≤◌, ◌^◌, ℕ, Bool, true, false, List, [], length, take, Option, None, Some, slice_get}
-use Rattle.cx_base.specs.declared.cluster.Cluster.{Cluster}
-use Rattle.cx_base.specs.declared.event.Event.{Event}
-use Rattle.cx_base.specs.declared.role.RoleId.{RoleId}
+use Rattle.cx_model.specs.Prelude.{Cluster, Event, RoleId, Member, DeliversOneOf, change, kept_by, run, start, Letter, Written, Record}
 use Rattle.cx_course.specs.Action.{Action, Filled, Kept, Took, answered_in, kept_in, noted_in, sent_in}
 use Rattle.cx_course.specs.Changing.{StoreChange, change_for, changes_of, lists_after}
 use Rattle.cx_inv_open.specs.Reopened.{stored_as}
-use Rattle.cx_model.specs.Member.{Member}
-use Rattle.cx_model.specs.Promises.{DeliversOneOf}
-use Rattle.cx_model.specs.World.{change, kept_by, run, start}
-use Rattle.cx_letter.specs.Letter.{Letter}
-use Rattle.cx_letter.specs.declared.input.Written.{Written}
-use Rattle.cx_letter.specs.declared.kept.Record.{Record}
 use Rattle.cx_promises.specs.Lawful.{IsLawful}
 use Rattle.cx_record.specs.Readable.{AreRead}
 

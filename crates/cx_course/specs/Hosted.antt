@@ -1,25 +1,14 @@
 -- A hosted role, and what it does with what it is given.
-use Rattle.std.specs.Prelude.{ℕ, Bool, true, false, List, [], ◌∷◌, Option, if◌then◌else◌}
-use Rattle.std.specs.Option.{option_map}
-use Rattle.cx_base.specs.declared.role.Kind.{Kind}
+use Rattle.std.specs.Prelude.{ℕ, Bool, true, false, List, [], ◌∷◌, Option, if◌then◌else◌, option_map}
+use Rattle.cx_role.specs.Prelude.{Kind, RoleId, Letter, Input, Append, Renewal, AcceptorDurable, acceptor_rules, BatcherVolatile}
+use Rattle.cx_role.specs.Prelude.{batcher_rules, LeaderDurable, LeaderVolatile, leader_rules, is_idle, MatchmakerDurable, matchmaker_rules}
+use Rattle.cx_role.specs.Prelude.{ProxyVolatile, proxy_rules, ReaderDurable, ReaderVolatile, reader_rules, ReplacerDurable}
+use Rattle.cx_role.specs.Prelude.{ReplacerVolatile, replacer_rules, ReplicaDurable, ReplicaVolatile, replica_renewed, replica_rules, Rules}
+use Rattle.cx_role.specs.Prelude.{Running, outcome_of, running_after, unbatcher_rules, snapped_by}
 use Rattle.cx_base.specs.declared.role.Kind.TheVariants as kind
-use Rattle.cx_base.specs.declared.role.RoleId.{RoleId}
-use Rattle.cx_letter.specs.Letter.{Letter}
-use Rattle.cx_letter.specs.declared.input.Input.{Input}
 use Rattle.cx_letter.specs.declared.input.Input.TheVariants as input
-use Rattle.cx_keep.specs.Keeper.{Append, Renewal}
 use Rattle.cx_client.specs.Client.{ClientState, ClientMoved, client_start, client_takes, client_ticks}
-use Rattle.cx_model.specs.Acceptor.{AcceptorDurable, acceptor_rules}
-use Rattle.cx_model.specs.Batcher.{BatcherVolatile, batcher_rules}
-use Rattle.cx_model.specs.Leader.{LeaderDurable, LeaderVolatile, leader_rules, is_idle}
-use Rattle.cx_model.specs.Matchmaker.{MatchmakerDurable, matchmaker_rules}
-use Rattle.cx_model.specs.Proxy.{ProxyVolatile, proxy_rules}
-use Rattle.cx_model.specs.Reader.{ReaderDurable, ReaderVolatile, reader_rules}
-use Rattle.cx_model.specs.Replacer.{ReplacerDurable, ReplacerVolatile, replacer_rules}
-use Rattle.cx_model.specs.Replica.{ReplicaDurable, ReplicaVolatile, replica_renewed, replica_rules, replica_snap}
-use Rattle.cx_model.specs.Rules.{Rules, Running, outcome_of, running_after}
-use Rattle.cx_model.specs.Unbatcher.{unbatcher_rules}
-use Rattle.cx_role.specs.Snap.{snapped_by}
+use Rattle.cx_model.specs.Replica.{replica_snap}
 use Rattle.cx_trace.specs.Trace.{told_text}
 use Rattle.cx_course.specs.declared.doing.Doing.{Doing}
 use Rattle.cx_course.specs.declared.doing.Doing.TheVariants.{Begin, Give, Snap}

@@ -2,19 +2,11 @@
 -- leader orders, by what it has counted, and not by the numbers of its turns.
 use Rattle.std.specs.Prelude.{ℕ, ◌+◌, ◌*◌, ◌/◌, ◌%◌, ◌==◌, min, nat_lt, nat_le, Bool, false, not, ◌&&◌, ◌||◌, List, [], ◌∷◌, ◌++◌, filter}
 use Rattle.std.specs.Prelude.{map, length, sum, count_by, is_some, Option, None, Some, slice_get, if◌then◌else◌}
-use Rattle.std.specs.Option.{option_map_or}
-use Rattle.cx_base.specs.declared.cluster.Cluster.{Cluster}
-use Rattle.cx_base.specs.declared.event.Order.{Order}
+use Rattle.cx_role.specs.Prelude.{option_map_or, Cluster, Order, Kind, RoleId, below, role, same_role, LeaderDurable, LeaderVolatile}
+use Rattle.cx_role.specs.Prelude.{is_idle, held, Running}
 use Rattle.cx_base.specs.declared.event.Order.TheVariants as order
-use Rattle.cx_base.specs.declared.role.Kind.{Kind}
 use Rattle.cx_base.specs.declared.role.Kind.TheVariants as kind
-use Rattle.cx_base.specs.declared.role.RoleId.{RoleId}
-use Rattle.cx_base.specs.Lists.{below}
-use Rattle.cx_base.specs.Role.{role, same_role}
 use Rattle.cx_leader.specs.Tending.{can_collect, has_heard, has_open, is_new_leader, is_spent}
-use Rattle.cx_model.specs.Leader.{LeaderDurable, LeaderVolatile, is_idle}
-use Rattle.cx_model.specs.Replica.{held}
-use Rattle.cx_model.specs.Rules.{Running}
 use Rattle.cx_proxy.specs.Tending.{awaits_votes}
 use Rattle.cx_letter.specs.declared.input.Input.TheVariants as input
 use Rattle.cx_course.specs.declared.doing.Doing.TheVariants.{Begin, Give}

@@ -1,14 +1,11 @@
 -- What is noted stays as it was when more is noted, and what a crash leaves where it fills what was not synced.
-use Rattle.std.proofs.Common.{◌≡◌, ◌+◌, ◌-◌, ◌≤◌, ◌&&◌, ℕ, Bool, true, false, List, [], ◌∷◌, ◌++◌, length, take, drop, fold, refl, sym, ◌∙◌}
-use Rattle.std.proofs.Common.{ap, subst, arith, inl, inr, length-append, length-drop}
+use Rattle.std.proofs.Common.{fold}
 use Rattle.std.specs.declared.alloc.Global.{Global}
-use Rattle.std.specs.Prelude.{Vec, Result, Ok, Err, IfOk, nat_le, slice_range, replicate}
-use Rattle.std.proofs.Math.Seq.{drop-append_seam}
-use Rattle.std.proofs.lemmas.Bool.{cases_Bool}
-use Rattle.std.proofs.lemmas.Bool.Decides.{nat_tests}
-use Rattle.std.proofs.lemmas.List.{take_all, length-take-le, length-replicate, take-append-le, drop-append-le, map-append}
-use Rattle.std.proofs.lemmas.List.Folds.{list_all-append}
-use borrow.Author.Tests.{leb-true}
+use Rattle.std.proofs.lemmas.List.{length-replicate}
+use Rattle.cx_base.proofs.Common.{◌≡◌, ◌+◌, ◌-◌, ◌≤◌, ◌&&◌, ℕ, Bool, true, false, List, [], ◌∷◌, ◌++◌, length, take, drop, refl, sym, ◌∙◌}
+use Rattle.cx_base.proofs.Common.{ap, subst, arith, inl, inr, length-append, length-drop, Vec, Result, Ok, Err, IfOk, nat_le, slice_range}
+use Rattle.cx_base.proofs.Common.{replicate, drop-append_seam, cases_Bool, nat_tests, take_all, length-take-le, take-append-le}
+use Rattle.cx_base.proofs.Common.{drop-append-le, map-append, list_all-append, leb-true}
 use Rattle.cx_disk.specs.Disk.{written, Torn}
 use Rattle.cx_disk.specs.declared.memory.Call.{Call}
 use Rattle.cx_disk.specs.declared.memory.Call.TheVariants as call

@@ -1,7 +1,5 @@
 -- What a link in memory says of a role and a port that none of its rows binds.
-use Rattle.std.proofs.Common.{◌≡◌, ◌∙◌, ◌||◌, ℕ, Bool, true, false, List, [], ◌∷◌, map, ap, refl, sym}
-use Rattle.std.specs.Prelude.{IfSome}
-use Rattle.std.specs.List.{list_any}
+use Rattle.cx_base.proofs.Common.{◌≡◌, ◌∙◌, ◌||◌, ℕ, Bool, true, false, List, [], ◌∷◌, map, ap, refl, sym, IfSome, list_any}
 use Rattle.cx_base.specs.declared.role.RoleId.{RoleId}
 use Rattle.cx_edge.specs.declared.mem_link.BindRow.{BindRow}
 use Rattle.cx_edge.specs.Link.{IsUnbound, binds_either}

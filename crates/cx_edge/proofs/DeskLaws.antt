@@ -1,12 +1,8 @@
 -- What a count does to the counts of all roles, and changes at a place that was found.
-use Rattle.std.proofs.Common.{map, ◌≡◌, ◌≤◌, ◌<◌, ℕ, zero, suc, Bool, true, false, if◌then◌else◌, List, [], ◌∷◌, arith, refl, sym, ap, ◌∙◌}
-use Rattle.std.proofs.Common.{inl, inr, length, None, Some, cond, nat_lt, slice_index_or, slice_set}
-use Rattle.std.specs.List.{position, position_or_len, remove}
-use Rattle.std.proofs.lemmas.Bool.{cases_Bool}
-use Rattle.std.proofs.lemmas.Bool.Decides.{nat_tests}
+use Rattle.cx_base.proofs.Common.{map, ◌≡◌, ◌≤◌, ◌<◌, ℕ, zero, suc, Bool, true, false, if◌then◌else◌, List, [], ◌∷◌, arith, refl, sym, ap}
+use Rattle.cx_base.proofs.Common.{◌∙◌, inl, inr, length, None, Some, cond, nat_lt, slice_index_or, slice_set, position, position_or_len}
+use Rattle.cx_base.proofs.Common.{remove, cases_Bool, nat_tests, Rises, same_role}
 use Rattle.cx_base.specs.declared.role.RoleId.{RoleId}
-use Rattle.cx_base.specs.Faults.{Rises}
-use Rattle.cx_base.specs.Role.{same_role}
 use Rattle.cx_edge.specs.declared.rows.CountRow.{CountRow}
 use Rattle.cx_edge.specs.declared.shelf.Shelf.{Shelf}
 use Rattle.cx_edge.specs.Depot.{without, first_faults}

@@ -1,6 +1,5 @@
 -- What was not synced may have stayed as it was.
-use Rattle.std.proofs.Common.{ℕ, List, length, arith, refl}
-use Rattle.std.proofs.lemmas.List.{take_all}
+use Rattle.cx_base.proofs.Common.{ℕ, List, length, arith, refl, take_all}
 use Rattle.cx_disk.specs.Disk.{Torn, TornCut}
 
 pub torn_not : (at n : ℕ) (file : List ℕ) → Torn at n file file

@@ -1,7 +1,6 @@
 -- What other bytes in one store do to what all stores hold.
-use Rattle.std.proofs.Common.{◌≡◌, ◌<◌, ℕ, zero, suc, true, false, ◌||◌, if◌then◌else◌, List, [], ◌∷◌, length, arith, refl, sym, ap, ◌∙◌}
-use Rattle.std.proofs.Common.{inl, inr, slice_index_or, slice_set}
-use Rattle.std.proofs.lemmas.Bool.{cases_Bool}
+use Rattle.cx_base.proofs.Common.{◌≡◌, ◌<◌, ℕ, zero, suc, true, false, ◌||◌, if◌then◌else◌, List, [], ◌∷◌, length, arith, refl, sym, ap}
+use Rattle.cx_base.proofs.Common.{◌∙◌, inl, inr, slice_index_or, slice_set, cases_Bool}
 use Rattle.cx_edge.specs.declared.shelf.Shelf.{Shelf}
 use Rattle.cx_edge.specs.Held.{ShelfContent, is_held_at, has_store, shelf_bytes, with_bytes}
 use Rattle.cx_edge.proofs.ShelfLaws.{same_shelf-true}

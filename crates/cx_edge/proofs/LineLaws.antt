@@ -1,23 +1,17 @@
 -- Lines in bytes, and bytes that are read and buffered.
-use Rattle.std.proofs.Common.{◌≡◌, ◌≤◌, ◌<◌, ◌+◌, ◌-◌, ◌==◌, ◌++◌, ℕ, false, List, [], ◌∷◌, Option, None, Some, unwrap_or, length, take}
-use Rattle.std.proofs.Common.{drop, get_or, sym, ap, ◌∙◌, subst, append_assoc, append-nil, arith, take-append-drop, take_all, length-append}
-use Rattle.std.proofs.Common.{length-take, drop-drop, take-take, get_or-take, eqb-true, nat_lt}
-use Rattle.std.specs.Io.KnownBytes.{Keeps, Consumes}
-use Rattle.std.proofs.KnownBytes.{Consumes-nil, Consumes-trans, Consumes-kept}
-use Rattle.std.specs.List.{position, position_or_len, slice_index}
-use Rattle.std.specs.Str.Lines.{strip_carriage_return}
-use Rattle.std.proofs.lemmas.Bool.{cond_both}
-use Rattle.std.proofs.lemmas.Bool.Decides.{nat_tests}
-use Rattle.std.proofs.lemmas.Grind.{common_steps}
-use Rattle.std.proofs.lemmas.List.{take_more, drop-take}
+use Rattle.std.proofs.Common.{take-take}
+use Rattle.std.specs.Io.KnownBytes.{Keeps}
+use Rattle.std.proofs.KnownBytes.{Consumes-nil, Consumes-kept}
+use Rattle.std.proofs.lemmas.List.{drop-take}
 use Rattle.std.proofs.lemmas.List.Elements.{All-from_get_or}
 use Rattle.std.proofs.lemmas.List.Folds.{list_any_none}
-use Rattle.std.proofs.lemmas.List.Quantifiers.{position-Some}
-use Rattle.std.proofs.lemmas.List.Sums.{fails_before_first}
-use Rattle.std.proofs.Math.Seq.{take-append-add}
-use Rattle.std.proofs.lemmas.List.{take-append-le}
 use Rattle.std.proofs.lemmas.Slice.{take-put_mid_below}
 use borrow.Rule.Slice.PartMut.{put_mid}
+use Rattle.cx_base.proofs.Common.{◌≡◌, ◌≤◌, ◌<◌, ◌+◌, ◌-◌, ◌==◌, ◌++◌, ℕ, false, List, [], ◌∷◌, Option, None, Some, unwrap_or, length, take}
+use Rattle.cx_base.proofs.Common.{drop, get_or, sym, ap, ◌∙◌, subst, append_assoc, append-nil, arith, take-append-drop, take_all}
+use Rattle.cx_base.proofs.Common.{length-append, length-take, drop-drop, get_or-take, eqb-true, nat_lt, Consumes, Consumes-trans, position}
+use Rattle.cx_base.proofs.Common.{position_or_len, slice_index, strip_carriage_return, cond_both, nat_tests, common_steps, take_more}
+use Rattle.cx_base.proofs.Common.{position-Some, fails_before_first, take-append-add, take-append-le}
 use Rattle.cx_edge.specs.Source.{ReadsBytes}
 use Rattle.cx_edge.specs.declared.source.ReadEnd.{ReadEnd}
 use Rattle.cx_edge.specs.declared.source.ReadEnd.TheVariants as end

@@ -1,10 +1,9 @@
 -- What is noted stays as it was where bytes are added after it.
-use Rattle.std.proofs.Common.{◌≡◌, ◌≤◌, ◌+◌, ◌-◌, ℕ, Bool, true, false, List, [], ◌∷◌, ◌++◌, length, take, drop, slice_range, map, Option}
-use Rattle.std.proofs.Common.{None, Some, arith, refl, sym, ap, subst, ◌∙◌, inl, inr, ◌⊎◌}
-use Rattle.std.specs.List.{All}
-use Rattle.std.proofs.lemmas.List.{take_all, take-take, take-append-le, drop-append-le, map-append, length-take, length-drop, length-append}
-use Rattle.std.proofs.Math.Seq.{take-append_seam, drop-append_seam}
-use Rattle.std.proofs.lemmas.List.Elements.{All-head, All-tail}
+use Rattle.std.proofs.lemmas.List.{take-take}
+use Rattle.cx_base.proofs.Common.{◌≡◌, ◌≤◌, ◌+◌, ◌-◌, ℕ, Bool, true, false, List, [], ◌∷◌, ◌++◌, length, take, drop, slice_range, map}
+use Rattle.cx_base.proofs.Common.{Option, None, Some, arith, refl, sym, ap, subst, ◌∙◌, inl, inr, ◌⊎◌, All, take_all, take-append-le}
+use Rattle.cx_base.proofs.Common.{drop-append-le, map-append, length-take, length-drop, length-append, take-append_seam, drop-append_seam}
+use Rattle.cx_base.proofs.Common.{All-head, All-tail}
 use Rattle.cx_base.specs.declared.role.RoleId.{RoleId}
 use Rattle.cx_edge.specs.declared.link.TakeEnd.TheVariants.{Got}
 use Rattle.cx_edge.specs.declared.pieces.Piece.{Piece}

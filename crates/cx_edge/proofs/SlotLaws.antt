@@ -1,11 +1,9 @@
 -- A change of one slot, as what all stores hold shows it.
-use Rattle.std.proofs.Common.{◌≡◌, ◌<◌, ℕ, true, false, List, length, map, arith, refl, sym, ap, subst, ◌∙◌, Option, None, Some, IfSome}
-use Rattle.std.proofs.Common.{slice_index_or, slice_set, ◌≤◌, [], ◌∷◌, inl, inr}
 use Rattle.std.proofs.Math.ListN.{get_or-map}
-use Rattle.std.proofs.lemmas.Bool.{cases_Bool}
-use Rattle.std.specs.List.{position, position_or_len}
-use Rattle.std.proofs.lemmas.List.{map-set, set-get_or, length-map}
-use Rattle.std.proofs.lemmas.List.Quantifiers.{position-Some}
+use Rattle.std.proofs.lemmas.List.{map-set, set-get_or}
+use Rattle.cx_base.proofs.Common.{◌≡◌, ◌<◌, ℕ, true, false, List, length, map, arith, refl, sym, ap, subst, ◌∙◌, Option, None, Some, IfSome}
+use Rattle.cx_base.proofs.Common.{slice_index_or, slice_set, ◌≤◌, [], ◌∷◌, inl, inr, cases_Bool, position, position_or_len, length-map}
+use Rattle.cx_base.proofs.Common.{position-Some}
 use Rattle.cx_disk.specs.declared.memory.MemDisk.{MemDisk}
 use Rattle.cx_disk.specs.MemDiskViews.{mem_disk_bytes}
 use Rattle.cx_edge.specs.declared.shelf.Shelf.{Shelf}

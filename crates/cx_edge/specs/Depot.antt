@@ -1,8 +1,7 @@
 -- The stores that are out.
 use Rattle.std.specs.Prelude.{◌≡◌, ℕ, List, [], ◌∷◌, true, if◌then◌else◌}
-use Rattle.std.specs.List.{list_any}
+use Rattle.cx_base.specs.Prelude.{list_any, same_role}
 use Rattle.cx_base.specs.declared.role.RoleId.{RoleId}
-use Rattle.cx_base.specs.Role.{same_role}
 use Rattle.cx_edge.specs.declared.shelf.Shelf.{Shelf}
 use Rattle.cx_edge.specs.Shelf.{same_shelf}
 

@@ -1,8 +1,6 @@
 -- What the next line of a source is, and what of the source is buffered for the lines after it.
 use Rattle.std.specs.Prelude.{◌≡◌, ◌≤◌, ◌<◌, ◌==◌, ℕ, ◌+◌, false, List, [], ◌∷◌, ◌++◌, length, take, drop, Option}
-use Rattle.std.specs.Io.KnownBytes.{Keeps, Consumes, IsAtEnd}
-use Rattle.std.specs.List.{list_any}
-use Rattle.std.specs.Str.Lines.{strip_carriage_return}
+use Rattle.cx_base.specs.Prelude.{Keeps, Consumes, IsAtEnd, list_any, strip_carriage_return}
 use Rattle.cx_edge.specs.declared.lines.First.{First}
 use Rattle.cx_edge.specs.declared.lines.First.TheVariants as first
 use Rattle.cx_edge.specs.declared.lines.Next.{Next}

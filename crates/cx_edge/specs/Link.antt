@@ -1,9 +1,8 @@
 -- What a link is asked to do, and what it gives.
 use Rattle.std.specs.Prelude.{◌≡◌, ◌==◌, ◌||◌, ◌⊎◌, ◌≤◌, ℕ, Bool, false, List, [], ◌∷◌, ◌++◌, length, take, Option, None, Some, option_map}
 use Rattle.std.specs.Prelude.{Result, Ok, Err}
-use Rattle.std.specs.List.{list_any}
+use Rattle.cx_base.specs.Prelude.{list_any, same_role}
 use Rattle.cx_base.specs.declared.role.RoleId.{RoleId}
-use Rattle.cx_base.specs.Role.{same_role}
 use Rattle.cx_edge.specs.declared.link.TakeEnd.{TakeEnd}
 use Rattle.cx_edge.specs.declared.link.TakeEnd.TheVariants.{Got, Nothing, Failed}
 use Rattle.cx_disk.specs.declared.disk.Failed.{Failed as Failure}

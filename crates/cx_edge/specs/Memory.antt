@@ -1,7 +1,6 @@
 -- Sources and sinks in memory: what contracts see of them, and what a call does.
 use Rattle.std.specs.Prelude.{ℕ, ◌+◌, min, nat_lt, Bool, ◌||◌, if◌then◌else◌, List, ◌++◌, length, drop, Option, Some}
-use Rattle.cx_base.specs.Faults.{one_more}
-use Rattle.cx_base.specs.Grid.{is_in}
+use Rattle.cx_base.specs.Prelude.{one_more, is_in}
 use Rattle.cx_edge.specs.declared.source.ReadEnd.{ReadEnd}
 use Rattle.cx_edge.specs.declared.source.ReadEnd.TheVariants as read
 use Rattle.cx_edge.specs.declared.sink.WriteEnd.{WriteEnd}

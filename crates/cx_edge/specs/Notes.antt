@@ -1,7 +1,6 @@
 -- Datagrams that are noted in one list of bytes.
 use Rattle.std.specs.Prelude.{◌≡◌, ◌≤◌, ◌+◌, ℕ, Bool, if◌then◌else◌, List, [], ◌∷◌, ◌++◌, length, take, slice_range, map, Option, None}
-use Rattle.std.specs.Prelude.{Some, option_map, IfSome}
-use Rattle.std.specs.List.{All}
+use Rattle.std.specs.Prelude.{Some, option_map, IfSome, All}
 use Rattle.cx_edge.specs.declared.link.TakeEnd.{TakeEnd}
 use Rattle.cx_edge.specs.declared.link.TakeEnd.TheVariants.{Got, Nothing, Failed}
 use Rattle.cx_edge.specs.declared.pieces.Piece.{Piece}

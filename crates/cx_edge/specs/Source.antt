@@ -1,7 +1,6 @@
 -- What a read gives, and what a whole reading comes to.
 use Rattle.std.specs.Prelude.{◌≡◌, ◌≤◌, ◌<◌, ℕ, List, length, take, Option, IfSome, ⊤}
-use Rattle.std.specs.Io.KnownBytes.{Keeps, Consumes, IsAtEnd}
-use Rattle.cx_base.specs.Faults.{Rises}
+use Rattle.cx_base.specs.Prelude.{Keeps, Consumes, IsAtEnd, Rises}
 use Rattle.cx_edge.specs.declared.source.ReadEnd.{ReadEnd}
 use Rattle.cx_edge.specs.declared.source.ReadEnd.TheVariants as end
 use Rattle.cx_edge.specs.declared.source.ReadAll.{ReadAll}

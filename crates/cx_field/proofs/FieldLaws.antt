@@ -1,13 +1,9 @@
 -- Each field is read as it is spelled.
-use Rattle.std.proofs.Common.{◌≡◌, ◌⊎◌, ◌+◌, ◌-◌, inl, inr, arith, false, ℕ, zero, suc, ◌<◌, true, ◌&&◌, not, cond, List, [], ◌∷◌, ◌++◌}
-use Rattle.std.proofs.Common.{length, Ok, Err, Bool, Option, Some, None, refl, sym, ap, subst, ◌∙◌, lit<}
-use Rattle.std.specs.Prelude.{nat_le, nat_lt, ◌^◌, ◌*◌, ◌||◌, ◌==◌}
-use Rattle.std.proofs.lemmas.Bool.{cases_Bool, eqb-true, not-true}
-use Rattle.std.proofs.lemmas.Bool.Decides.{nat_tests}
-use Rattle.cx_base.specs.Asked.{floor_fits}
-use Rattle.cx_base.specs.Name.{is_name_byte}
-use Rattle.cx_base.specs.Grid.{Shape as GridShape, make_grid, is_in, are_new}
-use Rattle.cx_base.specs.Round.{is_before}
+use Rattle.cx_base.proofs.Common.{◌≡◌, ◌⊎◌, ◌+◌, ◌-◌, inl, inr, arith, false, ℕ, zero, suc, ◌<◌, true, ◌&&◌, not, cond, List, [], ◌∷◌, ◌++◌}
+use Rattle.cx_base.proofs.Common.{length, Ok, Err, Bool, Option, Some, None, refl, sym, ap, subst, ◌∙◌, lit<, nat_le, nat_lt, ◌^◌, ◌*◌}
+use Rattle.cx_base.proofs.Common.{◌||◌, ◌==◌, cases_Bool, eqb-true, not-true, nat_tests, floor_fits, is_name_byte, make_grid, is_in}
+use Rattle.cx_base.proofs.Common.{are_new, is_before}
+use Rattle.cx_base.specs.Grid.{Shape as GridShape}
 use Rattle.cx_base.specs.declared.round.Round.{Round}
 use Rattle.cx_base.specs.declared.command.Op.{Op}
 use Rattle.cx_base.specs.declared.command.Op.TheVariants.{Put, Del, App}

@@ -1,8 +1,6 @@
 -- Values that fit where no floor may be told: those that tell none, spelled alike.
-use Rattle.std.proofs.Common.{◌≡◌, ℕ, Bool, true, false, not, ◌&&◌, List, Option, None, Some, inl, inr, refl, ap, ◌∙◌}
-use Rattle.std.specs.Prelude.{◌+◌, ◌==◌, nat_le, nat_lt}
-use Rattle.std.specs.List.{list_any}
-use Rattle.std.proofs.lemmas.Bool.{cases_Bool}
+use Rattle.cx_base.proofs.Common.{◌≡◌, ℕ, Bool, true, false, not, ◌&&◌, List, Option, None, Some, inl, inr, refl, ap, ◌∙◌, ◌+◌, ◌==◌}
+use Rattle.cx_base.proofs.Common.{nat_le, nat_lt, list_any, cases_Bool}
 use Rattle.cx_base.specs.declared.command.Command.{Command}
 use Rattle.cx_base.specs.declared.command.Op.{Op}
 use Rattle.cx_base.specs.declared.command.Op.TheVariants.{Put, Del, App}

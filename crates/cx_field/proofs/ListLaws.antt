@@ -1,12 +1,6 @@
 -- The lists of messages: what their values are where they fit, and when they fit.
-use Rattle.std.proofs.Common.{◌≡◌, ℕ, ◌≤◌, Bool, true, false, ◌&&◌, eqb, List, [], ◌∷◌, ◌++◌, length, refl, ◌∙◌, ◌<◌, IsTrue, arith}
-use Rattle.std.specs.Prelude.{nat_le, nat_lt, filter}
-use Rattle.std.specs.List.{list_all}
-use Rattle.std.proofs.lemmas.Bool.{lt-ltb, eq-eqb}
-use Rattle.std.proofs.lemmas.List.{length-append}
-use Rattle.std.proofs.lemmas.List.Folds.{list_all-append}
-use Rattle.std.proofs.lemmas.Bool.Decides.{nat_tests}
-use Rattle.cx_base.specs.Round.{is_before}
+use Rattle.cx_base.proofs.Common.{◌≡◌, ℕ, ◌≤◌, Bool, true, false, ◌&&◌, eqb, List, [], ◌∷◌, ◌++◌, length, refl, ◌∙◌, ◌<◌, IsTrue, arith}
+use Rattle.cx_base.proofs.Common.{nat_le, nat_lt, filter, list_all, lt-ltb, eq-eqb, length-append, list_all-append, nat_tests, is_before}
 use Rattle.cx_base.specs.declared.command.Answered.{Answered}
 use Rattle.cx_base.specs.declared.command.Command.{Command}
 use Rattle.cx_base.specs.declared.command.Value.{Value}

@@ -1,12 +1,6 @@
 -- The next byte of a name.
-use Rattle.std.proofs.Common.{◌≡◌, ℕ, zero, suc, ◌+◌, ◌≤◌, List, [], ◌∷◌, ◌++◌, length, take, drop, refl, sym, ap, ◌∙◌, subst, get_or, ◌<◌}
-use Rattle.std.proofs.Common.{◌%◌, arith}
-use Rattle.std.proofs.Common.{Ok, true, lit<}
-use Rattle.std.proofs.lemmas.Bool.{eq-eqb}
-use Rattle.std.proofs.lemmas.Bool.Decides.{nat_tests}
-use Rattle.std.proofs.lemmas.List.{length-take, take-append-drop}
-use Rattle.std.specs.List.{list_all}
-use Rattle.cx_base.specs.Name.{is_name_byte}
+use Rattle.cx_base.proofs.Common.{◌≡◌, ℕ, zero, suc, ◌+◌, ◌≤◌, List, [], ◌∷◌, ◌++◌, length, take, drop, refl, sym, ap, ◌∙◌, subst, get_or}
+use Rattle.cx_base.proofs.Common.{◌<◌, ◌%◌, arith, Ok, true, lit<, eq-eqb, nat_tests, length-take, take-append-drop, list_all, is_name_byte}
 use Rattle.cx_wire.specs.Format.{Format, each_read, each_spell, u8}
 use Rattle.cx_wire.proofs.Laws.{both, times-exact}
 use Rattle.cx_field.specs.Fields.{name_byte}

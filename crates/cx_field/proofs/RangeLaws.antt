@@ -1,13 +1,7 @@
 -- What the types of grids, keys and texts say of their ranges, and what those of a command's parts say of it.
-use Rattle.std.proofs.Common.{◌≡◌, ℕ, suc, ◌+◌, ◌*◌, ◌<◌, ◌≤◌, true, ◌&&◌, not, None, Some, inl, inr, sym, ◌∙◌, List, [], ◌∷◌, ◌++◌, length}
-use Rattle.std.proofs.Common.{get_or, refl, IsTrue, arith}
-use Rattle.std.proofs.lemmas.Bool.{cases_Bool, lt-ltb, eq-eqb}
-use Rattle.std.specs.Prelude.{nat_le, ◌==◌, ◌^◌}
-use Rattle.std.specs.List.{list_all}
-use Rattle.std.proofs.lemmas.Bool.Decides.{nat_tests}
-use Rattle.cx_base.specs.Asked.{floor_fits}
-use Rattle.cx_base.specs.Grid.{Shape, IsGrid, is_in, are_new}
-use Rattle.cx_base.specs.Name.{IsName, is_name_byte}
+use Rattle.cx_base.proofs.Common.{◌≡◌, ℕ, suc, ◌+◌, ◌*◌, ◌<◌, ◌≤◌, true, ◌&&◌, not, None, Some, inl, inr, sym, ◌∙◌, List, [], ◌∷◌, ◌++◌}
+use Rattle.cx_base.proofs.Common.{length, get_or, refl, IsTrue, arith, cases_Bool, lt-ltb, eq-eqb, nat_le, ◌==◌, ◌^◌, list_all, nat_tests}
+use Rattle.cx_base.proofs.Common.{floor_fits, Shape, IsGrid, is_in, are_new, IsName, is_name_byte}
 use Rattle.cx_base.specs.declared.command.Command.{Command}
 use Rattle.cx_base.specs.declared.command.Op.{Op}
 use Rattle.cx_base.specs.declared.command.Op.TheVariants.{Put, Del, App}

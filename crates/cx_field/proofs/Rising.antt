@@ -1,14 +1,9 @@
 -- Lists whose values rise, and the formats that ask it value by value.
-use Rattle.std.proofs.Common.{◌≡◌, suc, ◌-◌, Bool, true, false, ◌&&◌, if◌then◌else◌, List, [], ◌∷◌, ◌++◌, length, refl, sym, ap, ◌∙◌}
-use Rattle.std.proofs.Common.{append_assoc, arith}
-use Rattle.std.specs.Prelude.{filter}
-use Rattle.std.specs.List.{list_all}
-use Rattle.std.proofs.lemmas.List.{append-nil}
-use Rattle.std.proofs.lemmas.List.Folds.{list_all-append}
+use Rattle.cx_base.proofs.Common.{◌≡◌, suc, ◌-◌, Bool, true, false, ◌&&◌, if◌then◌else◌, List, [], ◌∷◌, ◌++◌, length, refl, sym, ap, ◌∙◌}
+use Rattle.cx_base.proofs.Common.{append_assoc, arith, filter, list_all, append-nil, list_all-append, rises}
 use Rattle.cx_wire.specs.Format.{Format, each_fits}
 use Rattle.cx_wire.proofs.Laws.{both}
 use Rattle.cx_field.specs.Fields.{last_passes}
-use Rattle.cx_base.specs.Lists.{rises}
 
 -- what comes before a value comes before those that the value comes before
 pub record PassesOn {A : Type 0} (before : A → A → Bool) : Type 0 where

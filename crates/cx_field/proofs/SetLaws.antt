@@ -1,13 +1,7 @@
 -- Sets of matchmakers: ids that are read rise, and each set has a spelling.
-use Rattle.std.proofs.Common.{◌≡◌, ℕ, zero, suc, ◌<◌, ◌≤◌, Bool, true, false, ◌&&◌, cond, List, [], ◌∷◌, ◌++◌, length, get_or, Ok, Err}
-use Rattle.std.proofs.Common.{refl, sym, ap, subst, ◌∙◌, append_assoc, IsTrue, arith}
-use Rattle.std.specs.Prelude.{nat_le, nat_lt}
-use Rattle.std.specs.List.{list_all}
-use Rattle.std.proofs.lemmas.Bool.{lt-ltb, eq-eqb}
-use Rattle.std.proofs.lemmas.Bool.Decides.{nat_tests}
-use Rattle.std.proofs.lemmas.List.{append-nil}
-use Rattle.cx_base.specs.Lists.{rises}
-use Rattle.cx_base.specs.Sets.{is_rising}
+use Rattle.cx_base.proofs.Common.{◌≡◌, ℕ, zero, suc, ◌<◌, ◌≤◌, Bool, true, false, ◌&&◌, cond, List, [], ◌∷◌, ◌++◌, length, get_or, Ok, Err}
+use Rattle.cx_base.proofs.Common.{refl, sym, ap, subst, ◌∙◌, append_assoc, IsTrue, arith, nat_le, nat_lt, list_all, lt-ltb, eq-eqb}
+use Rattle.cx_base.proofs.Common.{nat_tests, append-nil, rises, is_rising}
 use Rattle.cx_base.specs.declared.round.Round.{Round}
 use Rattle.cx_wire.specs.Format.{bad, ◌>>=◌, u8, u16, each_fits, each_read}
 use Rattle.cx_wire.proofs.Laws.{bind_ok, guard_ok, ok_is}

@@ -1,10 +1,7 @@
 -- How many bytes each field takes at most.
-use Rattle.std.proofs.Common.{◌≡◌, ℕ, ◌+◌, ◌*◌, ◌≤◌, Bool, true, ◌&&◌, ◌||◌, not, List, length, Option, Some, None, arith, rules}
-use Rattle.std.specs.Prelude.{nat_le, nat_lt, ◌^◌, ◌==◌}
-use Rattle.cx_base.specs.Asked.{floor_fits}
-use Rattle.cx_base.specs.Name.{is_name_byte}
-use Rattle.cx_base.specs.Round.{is_before}
-use Rattle.cx_base.specs.Grid.{Shape as GridShape, is_in, make_grid}
+use Rattle.cx_base.proofs.Common.{◌≡◌, ℕ, ◌+◌, ◌*◌, ◌≤◌, Bool, true, ◌&&◌, ◌||◌, not, List, length, Option, Some, None, arith, rules}
+use Rattle.cx_base.proofs.Common.{nat_le, nat_lt, ◌^◌, ◌==◌, floor_fits, is_name_byte, is_before, is_in, make_grid}
+use Rattle.cx_base.specs.Grid.{Shape as GridShape}
 use Rattle.cx_base.specs.declared.round.Round.{Round}
 use Rattle.cx_base.specs.declared.command.Op.{Op}
 use Rattle.cx_base.specs.declared.command.Op.TheVariants.{Put, Del, App}

@@ -1,13 +1,8 @@
 -- The fields of messages and records: which bytes spell each, and which values each may have.
 use Rattle.std.specs.Prelude.{ℕ, ◌+◌, ◌-◌, ◌*◌, ◌^◌, Bool, true, false, ◌&&◌, ◌||◌, not, ◌==◌, nat_lt, nat_le, List, [], ◌∷◌, length}
 use Rattle.std.specs.Prelude.{Option, Some, None, slice_get, if◌then◌else◌}
-use Rattle.std.specs.List.{list_any}
-use Rattle.std.specs.Option.{option_map_or}
-use Rattle.cx_base.specs.Asked.{floor_fits}
-use Rattle.cx_base.specs.Fold.{commands_of}
-use Rattle.cx_base.specs.Name.{is_name_byte}
-use Rattle.cx_base.specs.Grid.{Shape as GridShape, make_grid, is_in}
-use Rattle.cx_base.specs.Round.{is_before}
+use Rattle.cx_base.specs.Prelude.{list_any, option_map_or, floor_fits, commands_of, is_name_byte, make_grid, is_in, is_before}
+use Rattle.cx_base.specs.Grid.{Shape as GridShape}
 use Rattle.cx_base.specs.declared.round.Round.{Round}
 use Rattle.cx_base.specs.declared.command.Op.{Op}
 use Rattle.cx_base.specs.declared.command.Op.TheVariants.{Put, Del, App}

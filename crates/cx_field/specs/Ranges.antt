@@ -1,7 +1,6 @@
 -- The ranges of parts that types do not give, in plain form.
 use Rattle.std.specs.Prelude.{ℕ, Bool, true, ◌&&◌, nat_lt, nat_le, List}
-use Rattle.cx_base.specs.Lists.{rises}
-use Rattle.cx_base.specs.Round.{is_before}
+use Rattle.cx_base.specs.Prelude.{rises, is_before}
 use Rattle.cx_base.specs.declared.command.Op.{Op}
 use Rattle.cx_base.specs.declared.command.Op.TheVariants.{Put, Del, App}
 use Rattle.cx_base.specs.declared.command.Reply.{Reply}

@@ -1,16 +1,10 @@
 -- What an event tells of a request is what its bytes and its floor tell.
-use Rattle.std.proofs.Common.{◌≡◌, ◌==◌, ◌&&◌, ◌++◌, ◌∷◌, [], ℕ, true, false, List, None, length, if◌then◌else◌, not, ap, refl, sym}
+use Rattle.std.proofs.Common.{ap, sym}
 use Rattle.std.proofs.Math.Dec.{eqb-zero-suc, eqb-suc-zero, eqb-suc-suc}
-use Rattle.std.specs.Str.{bytes_eq}
-use Rattle.cx_base.specs.declared.command.Command.{Command}
-use Rattle.cx_base.specs.declared.command.Op.{Op}
-use Rattle.cx_base.specs.declared.command.Op.TheVariants.{Put, Del, App}
-use Rattle.cx_base.specs.declared.event.Event.{Event}
+use Rattle.cx_model.specs.Prelude.{◌≡◌, ◌==◌, ◌&&◌, ◌++◌, ◌∷◌, [], ℕ, true, false, List, None, length, if◌then◌else◌, not, refl, bytes_eq}
+use Rattle.cx_model.specs.Prelude.{Command, Op, Put, Del, App, Event, Happened, same_op, Token, floor_in, is_past, same_request, same_token}
+use Rattle.cx_model.specs.Prelude.{token_of, was_sent}
 use Rattle.cx_base.specs.declared.event.Event.TheVariants as event
-use Rattle.cx_base.specs.declared.event.Happened.{Happened}
-use Rattle.cx_base.specs.Same.{same_op}
-use Rattle.cx_field.specs.declared.parts.Token.{Token}
-use Rattle.cx_model.specs.Request.{floor_in, is_past, same_request, same_token, token_of, was_sent}
 use Rattle.cx_history.specs.Requests.{asked, asked_op, asks_another, has_token, sent_token, has_floor_past}
 
 -- two lists, one after the other, and the length of the first

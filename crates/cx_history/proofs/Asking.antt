@@ -1,18 +1,9 @@
 -- What is noted of the requests that were sent, once one more is noted.
-use Rattle.std.specs.Prelude.{nat_le}
-use Rattle.std.proofs.Common.{◌≡◌, ◌==◌, ◌&&◌, ◌||◌, ◌<◌, ◌++◌, ◌∷◌, ◌∙◌, ◌⊎◌, [], ℕ, zero, suc, Bool, true, false, List, Option, Some}
-use Rattle.std.proofs.Common.{None, length, slice_get, is_some, if◌then◌else◌, not, ap, refl, sym, subst, inl, inr, arith}
-use Rattle.std.proofs.lemmas.Bool.{and_parts, cases_Bool, eqb-true}
-use Rattle.std.proofs.lemmas.Bool.Decides.{nat_tests}
 use Rattle.std.proofs.lemmas.List.Folds.{list_any-append}
-use Rattle.std.proofs.lemmas.List.{length-append}
-use Rattle.std.specs.List.{list_any}
-use Rattle.std.specs.Str.{bytes_eq}
-use Rattle.cx_base.specs.Noted.{is_done}
-use Rattle.cx_base.specs.declared.event.Event.{Event}
-use Rattle.cx_base.specs.declared.event.Happened.{Happened}
-use Rattle.cx_field.specs.declared.parts.Token.{Token}
-use Rattle.cx_model.specs.Request.{floor_in, is_past, is_stale, same_read, same_token}
+use Rattle.cx_base.proofs.Common.{◌∙◌, ap, sym, subst, inl, inr, arith, and_parts, cases_Bool, eqb-true, nat_tests, length-append}
+use Rattle.cx_model.specs.Prelude.{nat_le, ◌≡◌, ◌==◌, ◌&&◌, ◌||◌, ◌<◌, ◌++◌, ◌∷◌, ◌⊎◌, [], ℕ, zero, suc, Bool, true, false, List, Option}
+use Rattle.cx_model.specs.Prelude.{Some, None, length, slice_get, is_some, if◌then◌else◌, not, refl, list_any, bytes_eq, is_done, Event}
+use Rattle.cx_model.specs.Prelude.{Happened, Token, floor_in, is_past, is_stale, same_read, same_token}
 use Rattle.cx_history.proofs.Among.{floor_alone, other_alone, token_alone}
 use Rattle.cx_history.specs.Held.{ArePlaces, RequestsState, IsRequestNoted, IsPiecePlace, NotesRequest, IsRequestsStateOf, asked_with}
 use Rattle.cx_history.specs.Held.{asks_other, floor_told, is_stale_by, is_unlike, max_floor}

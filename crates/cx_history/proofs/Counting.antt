@@ -1,8 +1,7 @@
 -- What passes a test is counted one by one.
-use Rattle.std.proofs.Common.{◌≡◌, ◌≤◌, ◌+◌, ◌∙◌, ℕ, Bool, true, false, if◌then◌else◌, List, [], ◌∷◌, ◌++◌, length, filter, ap, sym, refl}
-use Rattle.std.proofs.Common.{arith, add-zero}
-use Rattle.std.proofs.lemmas.List.{length-append}
 use Rattle.std.proofs.lemmas.List.Elements.{filter-append}
+use Rattle.cx_base.proofs.Common.{◌≡◌, ◌≤◌, ◌+◌, ◌∙◌, ℕ, Bool, true, false, if◌then◌else◌, List, [], ◌∷◌, ◌++◌, length, filter, ap, sym}
+use Rattle.cx_base.proofs.Common.{refl, arith, add-zero, length-append}
 
 pub counted_more : {A : Type 0} (q : A → Bool) (xs : List A) (x : A) (n : ℕ) → n ≡ length (filter q xs)
     → (if q x then n + 1 else n) ≡ length (filter q (xs ++ x ∷ []))

@@ -1,17 +1,13 @@
 -- Changes of stores beside the roles whose they are.
-use Rattle.std.proofs.Common.{◌≡◌, ◌<◌, ◌^◌, ◌∙◌, ℕ, zero, suc, true, false, List, [], ◌∷◌, ◌++◌, Some, Ok, All, length, slice_get, get_or}
-use Rattle.std.proofs.Common.{refl, ap, sym, append-nil, arith}
-use Rattle.std.proofs.lemmas.List.{length-map, map-append}
 use Rattle.byteorder.specs.Endian.{big_bytes, big_number}
 use Rattle.byteorder.specs.Numbers.{big_number-reads_back, length-bytes_high_first}
-use Rattle.cx_base.specs.declared.role.RoleId.{RoleId}
+use Rattle.cx_base.proofs.Common.{◌∙◌, ap, sym, append-nil, arith, length-map, map-append}
+use Rattle.cx_model.specs.Prelude.{◌≡◌, ◌<◌, ◌^◌, ℕ, zero, suc, true, false, List, [], ◌∷◌, ◌++◌, Some, Ok, All, length, slice_get, get_or}
+use Rattle.cx_model.specs.Prelude.{refl, RoleId, Record, KeptRecord, Written}
 use Rattle.cx_wire.specs.Format.{u8}
 use Rattle.cx_letter.specs.Records.{kept_record}
 use Rattle.cx_msg.specs.RecordBytes.{spelling}
-use Rattle.cx_letter.specs.declared.kept.Record.{Record}
 use Rattle.cx_letter.specs.declared.kept.Record.TheVariants as kept
-use Rattle.cx_letter.specs.declared.input.KeptRecord.{KeptRecord}
-use Rattle.cx_letter.specs.declared.input.Written.{Written}
 use Rattle.cx_letter.specs.declared.input.Written.TheVariants as written
 use Rattle.cx_msg.proofs.RecordLaws.{recorded-again}
 use Rattle.cx_keeper.specs.Pieces.{record_or}

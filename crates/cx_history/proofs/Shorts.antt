@@ -1,6 +1,5 @@
 -- One more datagram among the pieces that hold those that were sent.
-use Rattle.std.proofs.Common.{◌≡◌, ◌∙◌, ℕ, true, List, [], ◌∷◌, ◌++◌, All, ap}
-use Rattle.std.proofs.lemmas.List.{map-append}
+use Rattle.cx_base.proofs.Common.{◌≡◌, ◌∙◌, ℕ, true, List, [], ◌∷◌, ◌++◌, All, ap, map-append}
 use Rattle.cx_letter.specs.Letter.{Letter, fits}
 use Rattle.cx_msg.specs.Spelled.{IsShort, letter_of, short}
 use Rattle.cx_msg.proofs.SpelledLaws.{letter_again, short_again}

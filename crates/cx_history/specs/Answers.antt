@@ -1,7 +1,6 @@
 -- Datagrams that answer a client.
 use Rattle.std.specs.Prelude.{ℕ, Bool, true, false, List, filter, length}
-use Rattle.cx_letter.specs.Letter.{Letter}
-use Rattle.cx_letter.specs.declared.message.Msg.{Msg}
+use Rattle.cx_model.specs.Prelude.{Letter, Msg}
 use Rattle.cx_letter.specs.declared.message.Msg.TheVariants.{Answer, ReadAnswer}
 
 abbrev pub is_answer : Msg → Bool

@@ -1,14 +1,8 @@
 -- What is noted of the requests that were sent.
 use Rattle.std.specs.Prelude.{◌≡◌, ◌<◌, ◌==◌, ◌&&◌, ◌||◌, ◌++◌, not, max, nat_eq, ℕ, Bool, false, true, if◌then◌else◌, List, Option, None}
-use Rattle.std.specs.Prelude.{Some, is_some, length, slice_get}
-use Rattle.std.specs.List.{list_any}
+use Rattle.std.specs.Prelude.{Some, is_some, length, slice_get, bytes_eq}
 use Rattle.std.specs.Map.{lookup}
-use Rattle.std.specs.Str.{bytes_eq}
-use Rattle.cx_base.specs.Noted.{is_done}
-use Rattle.cx_base.specs.declared.event.Event.{Event}
-use Rattle.cx_base.specs.declared.event.Happened.{Happened}
-use Rattle.cx_field.specs.declared.parts.Token.{Token}
-use Rattle.cx_model.specs.Request.{floor_in, same_read}
+use Rattle.cx_model.specs.Prelude.{list_any, is_done, Event, Happened, Token, floor_in, same_read}
 use Rattle.cx_history.specs.Requests.{asked, asks_another, has_token, has_floor_past}
 use Rattle.cx_history.specs.declared.requests.Asked.{Asked}
 use Rattle.cx_history.specs.declared.requests.Asked.TheVariants.{One, Several}

@@ -1,13 +1,9 @@
 -- Changes of stores with the roles that keep them, as they are held.
 use Rattle.std.specs.Prelude.{◌≡◌, ◌≤◌, ◌<◌, ◌^◌, ◌==◌, List, ℕ, [], ◌∷◌, Bool, true, false, if◌then◌else◌, Ok, All, drop, length, map}
-use Rattle.std.specs.List.{list_all}
 use Rattle.byteorder.specs.Endian.{big_bytes, big_number}
-use Rattle.cx_base.specs.declared.role.RoleId.{RoleId}
+use Rattle.cx_model.specs.Prelude.{list_all, RoleId, Record, KeptRecord, Written}
 use Rattle.cx_letter.specs.Records.{fits}
 use Rattle.cx_msg.specs.RecordBytes.{record_of_bytes, spelling}
-use Rattle.cx_letter.specs.declared.kept.Record.{Record}
-use Rattle.cx_letter.specs.declared.input.KeptRecord.{KeptRecord}
-use Rattle.cx_letter.specs.declared.input.Written.{Written}
 use Rattle.cx_letter.specs.declared.input.Written.TheVariants as written
 use Rattle.cx_keeper.specs.Pieces.{record_or}
 

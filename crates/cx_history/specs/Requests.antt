@@ -1,12 +1,8 @@
 -- What requests ask, as bytes, and what is asked of the requests that were sent.
 use Rattle.std.specs.Prelude.{◌&&◌, not, ℕ, Bool, List, [], ◌∷◌, ◌++◌, None, Option, length, if◌then◌else◌}
-use Rattle.cx_base.specs.declared.command.Op.{Op}
-use Rattle.cx_base.specs.declared.command.Op.TheVariants.{Put, Del, App}
-use Rattle.cx_base.specs.declared.event.Event.{Event}
+use Rattle.cx_model.specs.Prelude.{Op, Put, Del, App, Event, Happened, Token, floor_in, is_past, same_request, same_token, token_of}
+use Rattle.cx_model.specs.Prelude.{was_sent}
 use Rattle.cx_base.specs.declared.event.Event.TheVariants as event
-use Rattle.cx_base.specs.declared.event.Happened.{Happened}
-use Rattle.cx_field.specs.declared.parts.Token.{Token}
-use Rattle.cx_model.specs.Request.{floor_in, is_past, same_request, same_token, token_of, was_sent}
 
 -- what an operation asks, as bytes: which one it is, and its parts
 abbrev pub asked_op : Op → List ℕ

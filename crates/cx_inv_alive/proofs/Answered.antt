@@ -1,38 +1,18 @@
 -- A command is batched, proposed, executed by all replicas, and the answer sent to its client.
-use Rattle.std.proofs.Common.{◌≡◌, ℕ, true, false, [], ◌∷◌, ◌++◌, None, ap, sym, ◌∙◌, subst, refl, inl, inr, arith, ◌⊎◌, List, Option, Some}
-use Rattle.std.proofs.lemmas.Bool.{and_parts}
-use Rattle.std.proofs.lemmas.Bool.Decides.{nat_tests}
-use Rattle.std.proofs.lemmas.Nat.{mod_below}
-use Rattle.std.proofs.lemmas.Option.{same_Some}
-use Rattle.std.specs.Prelude.{◌+◌, ◌%◌, ◌==◌, nat_le, nat_lt}
-use Rattle.cx_base.specs.declared.cluster.Cluster.{Cluster}
-use Rattle.cx_base.specs.declared.command.Answered.{Answered}
-use Rattle.cx_base.specs.declared.command.Command.{Command}
-use Rattle.cx_base.specs.declared.command.Value.{Value}
+use Rattle.cx_inv_run.proofs.Common.{◌≡◌, ℕ, true, false, [], ◌∷◌, ◌++◌, None, ap, sym, ◌∙◌, subst, refl, inl, inr, arith, ◌⊎◌, List}
+use Rattle.cx_inv_run.proofs.Common.{Option, Some, and_parts, nat_tests, mod_below, same_Some, ◌+◌, ◌%◌, ◌==◌, nat_le, nat_lt, Cluster}
+use Rattle.cx_inv_run.proofs.Common.{Answered, Command, Value, RoleId, below, floor_of, is_done, noted_for, is_answer_of, role, same_role}
+use Rattle.cx_inv_run.proofs.Common.{Letter, letter, acceptor_rules, BatcherVolatile, batcher_row, LeaderVolatile, leader_row, leader_rules}
+use Rattle.cx_inv_run.proofs.Common.{bool_cases, differ_role, not_both, number_itself, same_role-itself, same_number, Member, names_value}
+use Rattle.cx_inv_run.proofs.Common.{only_word, replied, Machine, execute, held, replica_rules, results_from, answer_to, unbatcher_row}
+use Rattle.cx_inv_run.proofs.Common.{World, state_other, state_own, Member-second, Member-below, BatcherIn, LeaderIn, Plain, durable_of}
 use Rattle.cx_base.specs.declared.command.Value.TheVariants.{Batch}
 use Rattle.cx_base.specs.declared.role.Kind.TheVariants as kind
-use Rattle.cx_base.specs.declared.role.RoleId.{RoleId}
 use Rattle.cx_base.specs.declared.why.Why.TheVariants as why
 use Rattle.cx_base.specs.Fold.{reply_of}
-use Rattle.cx_base.specs.Lists.{below}
-use Rattle.cx_base.specs.Noted.{floor_of, is_done, noted_for, is_answer_of}
-use Rattle.cx_base.specs.Role.{role, same_role}
 use Rattle.cx_letter.specs.declared.input.Input.TheVariants as input
 use Rattle.cx_letter.specs.declared.message.Msg.TheVariants as msg
-use Rattle.cx_letter.specs.Letter.{Letter, letter}
-use Rattle.cx_model.specs.Acceptor.{acceptor_rules}
-use Rattle.cx_model.specs.Batcher.{BatcherVolatile, batch_to, batcher_row}
-use Rattle.cx_model.specs.Leader.{LeaderVolatile, leader_row, leader_rules}
-use Rattle.cx_model.specs.Lists.{bool_cases, differ_role, not_both, number_itself, same_role-itself, same_number}
-use Rattle.cx_model.specs.Member.{Member}
-use Rattle.cx_model.specs.Names.{names_value}
-use Rattle.cx_model.specs.Outcome.{only_word, replied}
-use Rattle.cx_model.specs.Replica.{Machine, execute, held, replica_rules, results_from}
-use Rattle.cx_model.specs.Unbatcher.{answer_to, unbatcher_row}
-use Rattle.cx_model.specs.World.{World}
-use Rattle.cx_inv_run.proofs.Histories.{state_other, state_own}
-use Rattle.cx_inv_run.proofs.Members.{Member-second, Member-below}
-use Rattle.cx_inv_run.specs.States.{BatcherIn, LeaderIn, Plain, durable_of}
+use Rattle.cx_model.specs.Batcher.{batch_to}
 use Rattle.cx_inv_alive.proofs.Moments.{Moment, Goes, moved, to_batcher, to_leader, to_unbatcher, tick_batcher}
 use Rattle.cx_inv_alive.proofs.Phase.{less, less_test}
 use Rattle.cx_inv_alive.proofs.Serve.{ReadyAt, slot_served, not_less}

@@ -1,29 +1,17 @@
 -- From the fullest replica on each one fetches from the next, round the ring.
-use Rattle.std.proofs.Common.{◌≡◌, ◌≤◌, ◌<◌, ℕ, zero, suc, true, false, List, [], ◌∷◌, ◌++◌, map, Some, None, ap, sym, ◌∙◌, subst, refl}
-use Rattle.std.proofs.Common.{inl, inr, arith}
-use Rattle.std.proofs.lemmas.Bool.Decides.{nat_tests}
 use Rattle.std.proofs.lemmas.Nat.{mod-mul-add}
-use Rattle.std.specs.List.{list_all}
-use Rattle.std.specs.Prelude.{◌+◌, ◌-◌, ◌*◌, ◌%◌, ◌==◌, Bool, if◌then◌else◌, max, nat_le, nat_lt, length, slice_get, min}
-use Rattle.cx_base.specs.declared.cluster.Cluster.{Cluster}
-use Rattle.cx_base.specs.declared.command.Value.{Value}
+use Rattle.cx_inv_run.proofs.Common.{◌≡◌, ◌≤◌, ◌<◌, ℕ, zero, suc, true, false, List, [], ◌∷◌, ◌++◌, map, Some, None, ap, sym, ◌∙◌, subst}
+use Rattle.cx_inv_run.proofs.Common.{refl, inl, inr, arith, nat_tests, list_all, ◌+◌, ◌-◌, ◌*◌, ◌%◌, ◌==◌, Bool, if◌then◌else◌, max, nat_le}
+use Rattle.cx_inv_run.proofs.Common.{nat_lt, length, slice_get, min, Cluster, Value, RoleId, below, role, letter, bool_cases, same_number}
+use Rattle.cx_inv_run.proofs.Common.{same_role-itself, names_value, Outcome, replied, ReplicaDurable, ReplicaVolatile, fetched_by, held}
+use Rattle.cx_inv_run.proofs.Common.{held_to, replica_after, replica_rules, replica_row, World, durable_other, durable_own, state_other}
+use Rattle.cx_inv_run.proofs.Common.{state_own, Member-at, Member-all, Member-both, Member-one, Member-second, all-Member, ReplicaIn}
+use Rattle.cx_inv_run.proofs.Common.{durable_of}
 use Rattle.cx_base.specs.declared.role.Kind.TheVariants as kind
-use Rattle.cx_base.specs.declared.role.RoleId.{RoleId}
 use Rattle.cx_base.specs.declared.why.Why.TheVariants as why
-use Rattle.cx_base.specs.Lists.{below}
-use Rattle.cx_base.specs.Role.{role}
 use Rattle.cx_letter.specs.declared.input.Input.TheVariants as input
 use Rattle.cx_letter.specs.declared.kept.Record.TheVariants as kept
 use Rattle.cx_letter.specs.declared.message.Msg.TheVariants as msg
-use Rattle.cx_letter.specs.Letter.{letter}
-use Rattle.cx_model.specs.Lists.{bool_cases, same_number, same_role-itself}
-use Rattle.cx_model.specs.Names.{names_value}
-use Rattle.cx_model.specs.Outcome.{Outcome, replied}
-use Rattle.cx_model.specs.Replica.{ReplicaDurable, ReplicaVolatile, fetched_by, held, held_to, replica_after, replica_rules, replica_row}
-use Rattle.cx_model.specs.World.{World}
-use Rattle.cx_inv_run.proofs.Histories.{durable_other, durable_own, state_other, state_own}
-use Rattle.cx_inv_run.proofs.Members.{Member-at, Member-all, Member-both, Member-one, Member-second, all-Member}
-use Rattle.cx_inv_run.specs.States.{ReplicaIn, durable_of}
 use Rattle.cx_inv_alive.proofs.Moments.{Moment, Goes, moved, Left, left_same, left_then, left_moved, left_both, to_replica, tick_replica}
 use Rattle.cx_inv_alive.proofs.Phase.{less, less_test}
 use Rattle.cx_inv_alive.proofs.Serve.{not_less, not_far, none_follows, held_after, applies}

@@ -1,36 +1,16 @@
 -- The stages one after the other: from replicas that hold the same, through a new round of leader 0, to the answer.
-use Rattle.std.proofs.Common.{◌≡◌, ◌⊎◌, ℕ, zero, suc, true, false, List, [], ◌∷◌, map, ap, ◌∙◌, refl, inl, inr, arith, Some}
-use Rattle.std.proofs.lemmas.Bool.Decides.{nat_tests}
-use Rattle.std.specs.List.{list_all}
-use Rattle.std.specs.Prelude.{◌+◌, ◌-◌, ◌==◌, Bool, max, nat_le, nat_lt, is_none, length, take}
-use Rattle.cx_base.specs.declared.cluster.Cluster.{Cluster}
-use Rattle.cx_base.specs.declared.event.Order.TheVariants.{Lead}
+use Rattle.cx_base.proofs.Common.{is_none, grid_fault}
+use Rattle.cx_inv_run.proofs.Common.{◌≡◌, ◌⊎◌, ℕ, zero, suc, true, false, List, [], ◌∷◌, map, ap, ◌∙◌, refl, inl, inr, arith, Some}
+use Rattle.cx_inv_run.proofs.Common.{nat_tests, list_all, ◌+◌, ◌-◌, ◌==◌, Bool, max, nat_le, nat_lt, length, take, Cluster, Lead, RoleId}
+use Rattle.cx_inv_run.proofs.Common.{Round, Shape, is_in, role, Entry, Vote, not_collecting, Matching, Promised, LeaderDurable}
+use Rattle.cx_inv_run.proofs.Common.{LeaderVolatile, leader_rules, match_a_to, round_of, leader_row, bool_cases, same_role-itself}
+use Rattle.cx_inv_run.proofs.Common.{entries_told, live_entries, MatchmakerDurable, entries_before, Member, names_grid, Outcome}
+use Rattle.cx_inv_run.proofs.Common.{greatest_cw, votes_told, World, durable_own, state_own, Member-cases, Member-second, Member-all}
+use Rattle.cx_inv_run.proofs.Common.{all-Member, filter-older, is_in-Member, map-Member, Member-is_in, LeaderIn, durable_of}
 use Rattle.cx_base.specs.declared.role.Kind.TheVariants as kind
-use Rattle.cx_base.specs.declared.role.RoleId.{RoleId}
-use Rattle.cx_base.specs.declared.round.Round.{Round}
 use Rattle.cx_base.specs.declared.why.Why.TheVariants as why
-use Rattle.cx_base.specs.Grid.{Shape, grid_fault, is_in}
-use Rattle.cx_base.specs.Role.{role}
-use Rattle.cx_field.specs.declared.parts.Entry.{Entry}
-use Rattle.cx_field.specs.declared.parts.Vote.{Vote}
 use Rattle.cx_letter.specs.declared.input.Input.TheVariants as input
 use Rattle.cx_letter.specs.declared.kept.Record.TheVariants as kept
-use Rattle.cx_model.specs.Collection.{not_collecting}
-use Rattle.cx_model.specs.declared.states.Mode.TheVariants.{Matching}
-use Rattle.cx_model.specs.declared.states.Promised.{Promised}
-use Rattle.cx_model.specs.Leader.{LeaderDurable, LeaderVolatile, leader_rules, match_a_to, round_of, leader_row}
-use Rattle.cx_model.specs.Lists.{bool_cases, same_role-itself}
-use Rattle.cx_model.specs.Matched.{entries_told, live_entries}
-use Rattle.cx_model.specs.Matchmaker.{MatchmakerDurable, entries_before}
-use Rattle.cx_model.specs.Member.{Member}
-use Rattle.cx_model.specs.Names.{names_grid}
-use Rattle.cx_model.specs.Outcome.{Outcome}
-use Rattle.cx_model.specs.Plan.{greatest_cw, votes_told}
-use Rattle.cx_model.specs.World.{World}
-use Rattle.cx_inv_run.proofs.Histories.{durable_own, state_own}
-use Rattle.cx_inv_run.proofs.Members.{Member-cases, Member-second, Member-all, all-Member, filter-older, is_in-Member, map-Member}
-use Rattle.cx_inv_run.proofs.Members.{Member-is_in}
-use Rattle.cx_inv_run.specs.States.{LeaderIn, durable_of}
 use Rattle.cx_inv_alive.proofs.Moments.{Moment, Goes, moved, Left, left_then, left_both, to_order}
 use Rattle.cx_inv_alive.proofs.Stages.{is_role, Apart, lead_round, begun_over, match_answer_of}
 

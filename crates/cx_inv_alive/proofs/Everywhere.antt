@@ -1,28 +1,11 @@
 -- All roles are opened anew, replicas catch up, and so on to the answer.
-use Rattle.cx_inv_run.specs.States.{fresh_state, State}
-use Rattle.cx_base.specs.Cluster.{count_of}
-use Rattle.std.proofs.Common.{◌≡◌, ℕ, true, false, [], ◌∷◌, ap, sym, ◌∙◌, subst, refl, inl, inr, reverse}
-use Rattle.std.proofs.lemmas.Bool.{and_from, and_parts}
-use Rattle.std.specs.List.{list_all}
-use Rattle.std.specs.Prelude.{◌&&◌, Bool, nat_le, nat_lt, not}
-use Rattle.cx_base.specs.declared.cluster.Cluster.{Cluster}
-use Rattle.cx_base.specs.declared.command.Command.{Command}
-use Rattle.cx_base.specs.declared.command.Value.{Value}
-use Rattle.cx_base.specs.declared.role.Kind.{Kind}
+use Rattle.cx_inv_run.proofs.Common.{fresh_state, State, count_of, ◌≡◌, ℕ, true, false, [], ◌∷◌, ap, sym, ◌∙◌, subst, refl, inl, inr}
+use Rattle.cx_inv_run.proofs.Common.{reverse, and_from, and_parts, list_all, ◌&&◌, Bool, nat_le, nat_lt, not, Cluster, Command, Value, Kind}
+use Rattle.cx_inv_run.proofs.Common.{below, floor_of, is_done, role, acceptor_rules, leader_rules, matchmaker_rules, Member, names_value}
+use Rattle.cx_inv_run.proofs.Common.{proxy_rules, ReplicaDurable, held, replica_rules, replica_after, World, Member-all, Member-below}
+use Rattle.cx_inv_run.proofs.Common.{all-Member, below-Member, durable_by_time, RoleId}
 use Rattle.cx_base.specs.declared.role.Kind.TheVariants as kind
-use Rattle.cx_base.specs.Lists.{below}
-use Rattle.cx_base.specs.Noted.{floor_of, is_done}
-use Rattle.cx_base.specs.Role.{role}
 use Rattle.cx_letter.specs.declared.kept.Record.TheVariants as kept
-use Rattle.cx_model.specs.Acceptor.{acceptor_rules}
-use Rattle.cx_model.specs.Leader.{leader_rules}
-use Rattle.cx_model.specs.Matchmaker.{matchmaker_rules}
-use Rattle.cx_model.specs.Member.{Member}
-use Rattle.cx_model.specs.Names.{names_value}
-use Rattle.cx_model.specs.Proxy.{proxy_rules}
-use Rattle.cx_model.specs.Replica.{ReplicaDurable, held, replica_rules, replica_after}
-use Rattle.cx_model.specs.World.{World}
-use Rattle.cx_inv_run.proofs.Members.{Member-all, Member-below, all-Member, below-Member}
 use Rattle.cx_inv_alive.proofs.Catch.{IsRing, caught_up, stored_at}
 use Rattle.cx_inv_alive.proofs.Floors.{free_from}
 use Rattle.cx_inv_alive.proofs.Level.{answered_from_level, not_true, le_then, positive, AreNamed}
@@ -32,8 +15,6 @@ use Rattle.cx_inv_alive.proofs.Stages.{HasCounts}
 use Rattle.cx_inv_alive.proofs.Views.{view_at}
 use Rattle.cx_inv_alive.specs.Alive.{submitted, IsAnswered, CanBeAnswered, acceptor_store, replica_store, tell_less, IsRoomy}
 use Rattle.cx_inv_alive.proofs.Moments.{Goes, moment_of}
-use Rattle.cx_inv_run.proofs.Histories.{durable_by_time}
-use Rattle.cx_base.specs.declared.role.RoleId.{RoleId}
 
 -- What stores are in every run: names lie in the cluster; an acceptor knows of no more slots than some replica holds; each replica has all
 -- values from where the next one forgot; and no value that one has tells that the client is done with the number.

@@ -1,17 +1,8 @@
 -- A client that told no floor from a number on isn't done with it, whatever is executed of such commands.
-use Rattle.std.proofs.Common.{◌≡◌, ◌⊎◌, ℕ, true, false, List, [], ◌∷◌, Option, None, Some, sym, subst, refl, inl, inr, arith}
-use Rattle.std.proofs.lemmas.Bool.{and_parts}
-use Rattle.std.proofs.lemmas.Bool.Decides.{nat_tests}
-use Rattle.std.specs.List.{list_all}
-use Rattle.std.specs.Prelude.{◌+◌, ◌==◌, ◌||◌, not, max, nat_lt, nat_le, if◌then◌else◌}
-use Rattle.cx_base.specs.declared.command.Answered.{Answered}
-use Rattle.cx_base.specs.declared.command.Command.{Command}
-use Rattle.cx_base.specs.declared.command.Floor.{Floor}
-use Rattle.cx_base.specs.declared.command.Value.{Value}
-use Rattle.cx_base.specs.Fold.{commands_of}
-use Rattle.cx_base.specs.Noted.{floor_of, is_done, noted_for, with_floor}
-use Rattle.cx_model.specs.Lists.{bool_cases}
-use Rattle.cx_model.specs.Replica.{Machine, execute, execute_all, execute_value, machine_from}
+use Rattle.cx_inv_run.proofs.Common.{◌≡◌, ◌⊎◌, ℕ, true, false, List, [], ◌∷◌, Option, None, Some, sym, subst, refl, inl, inr, arith}
+use Rattle.cx_inv_run.proofs.Common.{and_parts, nat_tests, list_all, ◌+◌, ◌==◌, ◌||◌, not, max, nat_lt, nat_le, if◌then◌else◌, Answered}
+use Rattle.cx_inv_run.proofs.Common.{Command, Floor, Value, commands_of, floor_of, is_done, noted_for, with_floor, bool_cases, Machine}
+use Rattle.cx_inv_run.proofs.Common.{execute, execute_all, execute_value, machine_from}
 use Rattle.cx_inv_alive.specs.Alive.{tells_less, tell_less}
 
 free_with : (k seq client floor : ℕ) (floors : List Floor) → is_done seq (floor_of k floors) ≡ false

@@ -1,26 +1,15 @@
 -- All replicas tick, and the leader is told.
-use Rattle.std.proofs.Common.{◌≡◌, ◌<◌, ◌⊎◌, ℕ, zero, suc, true, false, List, [], ◌∷◌, ◌++◌, map, None, ap, sym, ◌∙◌, subst, refl, inl, inr}
-use Rattle.std.proofs.Common.{arith}
 use Rattle.std.proofs.lemmas.Bool.{cond-true}
-use Rattle.std.proofs.lemmas.Bool.Decides.{nat_tests}
-use Rattle.std.specs.Prelude.{◌+◌, ◌==◌, Bool, filter, max, nat_le, nat_lt, length, slice_index_or, slice_set}
-use Rattle.cx_base.specs.declared.cluster.Cluster.{Cluster}
+use Rattle.cx_inv_run.proofs.Common.{◌≡◌, ◌<◌, ◌⊎◌, ℕ, zero, suc, true, false, List, [], ◌∷◌, ◌++◌, map, None, ap, sym, ◌∙◌, subst, refl}
+use Rattle.cx_inv_run.proofs.Common.{inl, inr, arith, nat_tests, ◌+◌, ◌==◌, Bool, filter, max, nat_le, nat_lt, length, slice_index_or}
+use Rattle.cx_inv_run.proofs.Common.{slice_set, Cluster, RoleId, below, role, LeaderDurable, LeaderVolatile, count_reaching, greatest_of}
+use Rattle.cx_inv_run.proofs.Common.{held_by, leader_row, leader_rules, raised_to, bool_cases, same_number, same_role-itself, enough}
+use Rattle.cx_inv_run.proofs.Common.{Member, Outcome, only_word, replied, ReplicaVolatile, fetch_to, held, held_to, replica_rules, World}
+use Rattle.cx_inv_run.proofs.Common.{state_other, state_own, Member-first, Member-second, Member-below, filter-Member, filter-older}
+use Rattle.cx_inv_run.proofs.Common.{map-Member, LeaderIn, ReplicaIn, durable_of}
 use Rattle.cx_base.specs.declared.role.Kind.TheVariants as kind
-use Rattle.cx_base.specs.declared.role.RoleId.{RoleId}
 use Rattle.cx_base.specs.declared.why.Why.TheVariants as why
-use Rattle.cx_base.specs.Lists.{below}
-use Rattle.cx_base.specs.Role.{role}
 use Rattle.cx_letter.specs.declared.input.Input.TheVariants as input
-use Rattle.cx_model.specs.Leader.{LeaderDurable, LeaderVolatile, count_reaching, greatest_of, held_by, leader_row, leader_rules, raised_to}
-use Rattle.cx_model.specs.Lists.{bool_cases, same_number, same_role-itself}
-use Rattle.cx_model.specs.Matched.{enough}
-use Rattle.cx_model.specs.Member.{Member}
-use Rattle.cx_model.specs.Outcome.{Outcome, only_word, replied}
-use Rattle.cx_model.specs.Replica.{ReplicaVolatile, fetch_to, held, held_to, replica_rules}
-use Rattle.cx_model.specs.World.{World}
-use Rattle.cx_inv_run.proofs.Histories.{state_other, state_own}
-use Rattle.cx_inv_run.proofs.Members.{Member-first, Member-second, Member-below, filter-Member, filter-older, map-Member}
-use Rattle.cx_inv_run.specs.States.{LeaderIn, ReplicaIn, durable_of}
 use Rattle.cx_inv_alive.proofs.Moments.{Moment, Goes, moved, Left, left_same, left_then, left_moved, left_still, to_leader, tick_replica}
 use Rattle.cx_inv_alive.proofs.Phase.{less}
 use Rattle.cx_inv_alive.proofs.Stages.{is_role, IsHearing, Grown}

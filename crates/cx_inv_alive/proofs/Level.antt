@@ -1,44 +1,19 @@
 -- The stages together.
-use Rattle.std.proofs.Common.{◌≡◌, ◌<◌, ℕ, suc, true, false, List, [], ◌∷◌, map, Option, Some, None, ap, sym, ◌∙◌, subst, refl, inl, inr}
-use Rattle.std.proofs.Common.{arith}
-use Rattle.std.proofs.lemmas.Bool.{and_parts}
-use Rattle.std.proofs.lemmas.Bool.Decides.{nat_tests}
-use Rattle.std.specs.List.{list_all}
-use Rattle.std.specs.Prelude.{◌+◌, ◌*◌, ◌==◌, Bool, filter, max, nat_le, nat_lt, not, length, take}
-use Rattle.cx_base.specs.declared.cluster.Cluster.{Cluster}
-use Rattle.cx_base.specs.declared.command.Command.{Command}
-use Rattle.cx_base.specs.declared.command.Value.{Value}
+use Rattle.cx_inv_run.proofs.Common.{◌≡◌, ◌<◌, ℕ, suc, true, false, List, [], ◌∷◌, map, Option, Some, None, ap, sym, ◌∙◌, subst, refl, inl}
+use Rattle.cx_inv_run.proofs.Common.{inr, arith, and_parts, nat_tests, list_all, ◌+◌, ◌*◌, ◌==◌, Bool, filter, max, nat_le, nat_lt, not}
+use Rattle.cx_inv_run.proofs.Common.{length, take, Cluster, Command, Value, RoleId, Round, IsGrid, Shape, is_in, below, floor_of, is_done}
+use Rattle.cx_inv_run.proofs.Common.{role, Entry, Vote, Letter, AcceptorDurable, acceptor_rules, batcher_rules, MatchAnswer, Leading}
+use Rattle.cx_inv_run.proofs.Common.{Promised, LeaderDurable, LeaderVolatile, held_by, lead_with, leader_rules, leads_to, match_a_to}
+use Rattle.cx_inv_run.proofs.Common.{matched_by, phase1a_to, propose_to, round_of, enough, first_set, is_member_of, live_entries}
+use Rattle.cx_inv_run.proofs.Common.{members_of, MatchmakerDurable, entry, is_stopped, matchmaker_rules, set_of, Member, names_entry}
+use Rattle.cx_inv_run.proofs.Common.{names_grid, names_round, names_value, names_vote, Outcome, placed_from, plan, votes_told}
+use Rattle.cx_inv_run.proofs.Common.{ProxyVolatile, ReplicaDurable, ReplicaVolatile, execute_value, held, machine_from, replica_after}
+use Rattle.cx_inv_run.proofs.Common.{replica_rules, World, Member-first, Member-filter, Member-is_in, Member-all, all-Member, below-Member}
+use Rattle.cx_inv_run.proofs.Common.{Member-below, map-Member, length-below, BatcherIn, LeaderIn, Plain, ProxyIn, ReplicaIn, durable_of}
 use Rattle.cx_base.specs.declared.role.Kind.TheVariants as kind
-use Rattle.cx_base.specs.declared.role.RoleId.{RoleId}
-use Rattle.cx_base.specs.declared.round.Round.{Round}
-use Rattle.cx_base.specs.Grid.{IsGrid, Shape, is_in}
-use Rattle.cx_base.specs.Lists.{below}
-use Rattle.cx_base.specs.Noted.{floor_of, is_done}
-use Rattle.cx_base.specs.Role.{role}
-use Rattle.cx_field.specs.declared.parts.Entry.{Entry}
-use Rattle.cx_field.specs.declared.parts.Vote.{Vote}
 use Rattle.cx_letter.specs.declared.kept.Record.TheVariants as kept
-use Rattle.cx_letter.specs.Letter.{Letter}
-use Rattle.cx_model.specs.Acceptor.{AcceptorDurable, acceptor_rules}
-use Rattle.cx_model.specs.Batcher.{batcher_rules}
-use Rattle.cx_model.specs.declared.states.MatchAnswer.{MatchAnswer}
-use Rattle.cx_model.specs.declared.states.Mode.TheVariants.{Leading}
-use Rattle.cx_model.specs.declared.states.Promised.{Promised}
-use Rattle.cx_model.specs.Leader.{LeaderDurable, LeaderVolatile, held_by, idle_leader, lead_with, leader_rules, leads_to, match_a_to}
-use Rattle.cx_model.specs.Leader.{matched_by, phase1a_to, propose_to, round_of}
-use Rattle.cx_model.specs.Matched.{enough, first_set, is_member_of, live_entries, members_of}
-use Rattle.cx_model.specs.Matchmaker.{MatchmakerDurable, entry, has_set, is_stopped, matchmaker_rules, set_of}
-use Rattle.cx_model.specs.Member.{Member}
-use Rattle.cx_model.specs.Names.{names_entry, names_grid, names_round, names_value, names_vote}
-use Rattle.cx_model.specs.Outcome.{Outcome}
-use Rattle.cx_model.specs.Plan.{placed_from, plan, votes_told}
-use Rattle.cx_model.specs.Proxy.{ProxyVolatile}
-use Rattle.cx_model.specs.Replica.{ReplicaDurable, ReplicaVolatile, execute_value, held, machine_from, replica_after, replica_rules}
-use Rattle.cx_model.specs.World.{World}
-use Rattle.cx_inv_run.proofs.Members.{Member-first, Member-filter, Member-is_in, Member-all, all-Member, below-Member, Member-below}
-use Rattle.cx_inv_run.proofs.Members.{map-Member}
-use Rattle.cx_inv_run.proofs.Quorums.{length-below}
-use Rattle.cx_inv_run.specs.States.{BatcherIn, LeaderIn, Plain, ProxyIn, ReplicaIn, durable_of}
+use Rattle.cx_model.specs.Leader.{idle_leader}
+use Rattle.cx_model.specs.Matchmaker.{has_set}
 use Rattle.cx_inv_alive.proofs.Answered.{answered}
 use Rattle.cx_inv_alive.proofs.Chain.{asking, round_asked, take_Member, take_length, apart_take, live_entry, greatest_is, votes_all}
 use Rattle.cx_inv_alive.proofs.Floors.{free_from}

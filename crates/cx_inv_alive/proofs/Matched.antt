@@ -1,33 +1,16 @@
 -- Enough matchmakers are asked, and answer.
-use Rattle.std.proofs.Common.{◌≡◌, ℕ, suc, true, false, List, [], ◌∷◌, ◌++◌, map, Some, None, ap, sym, ◌∙◌, subst, refl, inl, inr, arith}
-use Rattle.std.proofs.lemmas.Bool.{and_parts}
-use Rattle.std.proofs.lemmas.Bool.Decides.{nat_tests}
-use Rattle.std.specs.List.{list_all, list_any}
-use Rattle.std.specs.Prelude.{◌+◌, ◌==◌, Bool, ◌||◌, nat_lt, length}
-use Rattle.cx_base.specs.declared.cluster.Cluster.{Cluster}
+use Rattle.cx_inv_run.proofs.Common.{◌≡◌, ℕ, suc, true, false, List, [], ◌∷◌, ◌++◌, map, Some, None, ap, sym, ◌∙◌, subst, refl, inl, inr}
+use Rattle.cx_inv_run.proofs.Common.{arith, and_parts, nat_tests, list_all, list_any, ◌+◌, ◌==◌, Bool, ◌||◌, nat_lt, length, Cluster}
+use Rattle.cx_inv_run.proofs.Common.{RoleId, Round, Shape, is_in, role, is_before, same_round, Entry, Letter, MatchAnswer, LeaderVolatile}
+use Rattle.cx_inv_run.proofs.Common.{leader_row, leader_rules, match_a_to, matched_by, number_itself, same_role-itself, enough, is_counted}
+use Rattle.cx_inv_run.proofs.Common.{live_entries, MatchmakerDurable, matchmaker_row, matchmaker_rules, entries_before, entry, has_round}
+use Rattle.cx_inv_run.proofs.Common.{Member, names_entry, names_grid, only_word, World, durable_other, state_other, state_own, Member-first}
+use Rattle.cx_inv_run.proofs.Common.{Member-second, Member-all, all-Member, filter-older, none-Member, LeaderIn, Plain, durable_of}
 use Rattle.cx_base.specs.declared.role.Kind.TheVariants as kind
-use Rattle.cx_base.specs.declared.role.RoleId.{RoleId}
-use Rattle.cx_base.specs.declared.round.Round.{Round}
 use Rattle.cx_base.specs.declared.why.Why.TheVariants as why
-use Rattle.cx_base.specs.Grid.{Shape, is_in}
-use Rattle.cx_base.specs.Role.{role}
-use Rattle.cx_base.specs.Round.{is_before, same_round}
-use Rattle.cx_field.specs.declared.parts.Entry.{Entry}
 use Rattle.cx_letter.specs.declared.input.Input.TheVariants as input
 use Rattle.cx_letter.specs.declared.kept.Record.TheVariants as kept
-use Rattle.cx_letter.specs.Letter.{Letter}
-use Rattle.cx_model.specs.declared.states.MatchAnswer.{MatchAnswer}
-use Rattle.cx_model.specs.Leader.{LeaderVolatile, leader_row, leader_rules, match_a_to, matched_by}
-use Rattle.cx_model.specs.Lists.{number_itself, same_role-itself}
-use Rattle.cx_model.specs.Matched.{enough, is_counted, live_entries}
-use Rattle.cx_model.specs.Matchmaker.{MatchmakerDurable, matchmaker_row, matchmaker_rules, entries_before, entry, has_round, match_b_to}
-use Rattle.cx_model.specs.Member.{Member}
-use Rattle.cx_model.specs.Names.{names_entry, names_grid}
-use Rattle.cx_model.specs.Outcome.{only_word}
-use Rattle.cx_model.specs.World.{World}
-use Rattle.cx_inv_run.proofs.Histories.{durable_other, state_other, state_own}
-use Rattle.cx_inv_run.proofs.Members.{Member-first, Member-second, Member-all, all-Member, filter-older, none-Member}
-use Rattle.cx_inv_run.specs.States.{LeaderIn, Plain, durable_of}
+use Rattle.cx_model.specs.Matchmaker.{match_b_to}
 use Rattle.cx_inv_alive.proofs.Moments.{Moment, Goes, moved, Left, left_moved, left_kept, to_leader, to_matchmaker, left_then}
 use Rattle.cx_inv_alive.proofs.Stages.{is_of, is_role, Apart, lead_round, begun_over, matching, goes_on_with, CanMatch, match_answer_of}
 

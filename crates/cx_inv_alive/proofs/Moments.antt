@@ -1,31 +1,15 @@
 -- A moment of any cluster that a plan has come to, what a step makes of it, and what it leaves.
-use Rattle.std.proofs.Common.{◌≡◌, ℕ, Bool, true, false, List, [], ◌++◌, reverse, Option, None, Some, sym, ◌∙◌, subst, refl, append-nil}
-use Rattle.std.specs.Prelude.{nat_lt}
-use Rattle.cx_base.specs.declared.cluster.Cluster.{Cluster}
-use Rattle.cx_base.specs.declared.event.Cut.TheVariants.{Whole}
+use Rattle.cx_inv_run.proofs.Common.{◌≡◌, ℕ, Bool, true, false, List, [], ◌++◌, reverse, Option, None, Some, sym, ◌∙◌, subst, refl}
+use Rattle.cx_inv_run.proofs.Common.{append-nil, nat_lt, Cluster, Whole, RoleId, role, same_role, KeptRecord, Record, Letter}
+use Rattle.cx_inv_run.proofs.Common.{acceptor_rules, BatcherVolatile, batcher_rules, LeaderVolatile, leader_rules, differ_role, not_both}
+use Rattle.cx_inv_run.proofs.Common.{matchmaker_rules, Member, Outcome, ProxyVolatile, proxy_rules, ReplicaVolatile, replica_rules}
+use Rattle.cx_inv_run.proofs.Common.{unbatcher_rules, World, durable_other, state_other, Member-first, State, BatcherIn, LeaderIn, ProxyIn}
+use Rattle.cx_inv_run.proofs.Common.{ReplicaIn, plain, durable_of, set_state, with_record}
 use Rattle.cx_base.specs.declared.event.Event.TheVariants as event
 use Rattle.cx_base.specs.declared.event.Order.{Order}
 use Rattle.cx_base.specs.declared.role.Kind.TheVariants as kind
-use Rattle.cx_base.specs.declared.role.RoleId.{RoleId}
-use Rattle.cx_base.specs.Role.{role, same_role}
 use Rattle.cx_letter.specs.declared.input.Input.TheVariants as input
-use Rattle.cx_letter.specs.declared.input.KeptRecord.{KeptRecord}
-use Rattle.cx_letter.specs.declared.kept.Record.{Record}
-use Rattle.cx_letter.specs.Letter.{Letter}
-use Rattle.cx_model.specs.Acceptor.{acceptor_rules}
-use Rattle.cx_model.specs.Batcher.{BatcherVolatile, batcher_rules}
-use Rattle.cx_model.specs.Leader.{LeaderVolatile, leader_rules}
-use Rattle.cx_model.specs.Lists.{differ_role, not_both}
-use Rattle.cx_model.specs.Matchmaker.{matchmaker_rules}
-use Rattle.cx_model.specs.Member.{Member}
-use Rattle.cx_model.specs.Outcome.{Outcome}
-use Rattle.cx_model.specs.Proxy.{ProxyVolatile, proxy_rules}
-use Rattle.cx_model.specs.Replica.{ReplicaVolatile, replica_rules}
-use Rattle.cx_model.specs.Unbatcher.{unbatcher_rules}
-use Rattle.cx_model.specs.World.{World}
-use Rattle.cx_inv_run.proofs.Histories.{durable_other, set_same, state_other}
-use Rattle.cx_inv_run.proofs.Members.{Member-first}
-use Rattle.cx_inv_run.specs.States.{State, BatcherIn, LeaderIn, ProxyIn, ReplicaIn, plain, durable_of, set_state, with_record}
+use Rattle.cx_inv_run.proofs.Histories.{set_same}
 use Rattle.cx_inv_alive.proofs.Views.{CanReach, acceptors, batchers, delivered, given, leaders, matchmakers, proxies, reopened, replicas}
 use Rattle.cx_inv_alive.proofs.Views.{unbatchers}
 use Rattle.cx_inv_alive.specs.Alive.{may_help}

@@ -1,24 +1,11 @@
 -- The first stage: roles are stopped and opened again. The stores and the datagrams stay as they are.
-use Rattle.std.proofs.Common.{◌≡◌, ℕ, Bool, true, List, [], ◌∷◌, ◌++◌, map, sym, ◌∙◌, subst, refl, inl, inr}
-use Rattle.std.specs.Prelude.{◌&&◌, nat_lt}
-use Rattle.std.specs.List.{list_all}
-use Rattle.std.proofs.lemmas.Bool.{and_parts}
-use Rattle.cx_base.specs.declared.cluster.Cluster.{Cluster}
-use Rattle.cx_base.specs.declared.role.Kind.{Kind}
+use Rattle.cx_inv_run.proofs.Common.{◌≡◌, ℕ, Bool, true, List, [], ◌∷◌, ◌++◌, map, sym, ◌∙◌, subst, refl, inl, inr, ◌&&◌, nat_lt, list_all}
+use Rattle.cx_inv_run.proofs.Common.{and_parts, Cluster, Kind, RoleId, count_of, below, code_of, role, same_role, Letter, KeptRecord}
+use Rattle.cx_inv_run.proofs.Common.{bool_cases, other_role, same_role-true, Member, names_role, World, State, fresh_state, set_state}
+use Rattle.cx_inv_run.proofs.Common.{state_other, state_own, Member-below, Member-cases, Member-first, Member-map, Member-second}
+use Rattle.cx_inv_run.proofs.Common.{below-Member, map-Member}
 use Rattle.cx_base.specs.declared.role.Kind.TheVariants as kind
-use Rattle.cx_base.specs.declared.role.RoleId.{RoleId}
-use Rattle.cx_base.specs.Cluster.{count_of}
-use Rattle.cx_base.specs.Lists.{below}
-use Rattle.cx_base.specs.Role.{code_of, role, same_role}
-use Rattle.cx_letter.specs.Letter.{Letter}
-use Rattle.cx_letter.specs.declared.input.KeptRecord.{KeptRecord}
-use Rattle.cx_model.specs.Lists.{bool_cases, other_role, same_role-true}
-use Rattle.cx_model.specs.Member.{Member}
-use Rattle.cx_model.specs.Names.{names_role}
-use Rattle.cx_model.specs.World.{World}
-use Rattle.cx_inv_run.specs.States.{State, fresh_state, set_state}
-use Rattle.cx_inv_run.proofs.Histories.{older, state_other, state_own}
-use Rattle.cx_inv_run.proofs.Members.{Member-below, Member-cases, Member-first, Member-map, Member-second, below-Member, map-Member}
+use Rattle.cx_inv_run.proofs.Histories.{older}
 use Rattle.cx_inv_alive.proofs.Moments.{Goes, Moment}
 use Rattle.cx_inv_alive.proofs.Phase.{less, less_test}
 use Rattle.cx_inv_alive.proofs.Views.{CanReach, acceptors, batchers, leaders, matchmakers, proxies, reopened, replicas, unbatchers}

@@ -1,41 +1,21 @@
 -- The members of all live grids are asked, one after the other, until each of these grids has a whole row.
-use Rattle.std.proofs.Common.{◌≡◌, ◌≤◌, ◌<◌, ℕ, zero, suc, true, false, List, [], ◌∷◌, ◌++◌, Some, None, ap, sym, ◌∙◌, subst, refl, inl}
-use Rattle.std.proofs.Common.{inr, arith}
-use Rattle.std.proofs.lemmas.Bool.{and_from}
-use Rattle.std.proofs.lemmas.Bool.Decides.{nat_tests}
-use Rattle.std.specs.List.{list_all, list_any}
-use Rattle.std.specs.Prelude.{◌+◌, ◌*◌, ◌==◌, Bool, ◌||◌, filter, nat_lt, length, slice_index_or}
-use Rattle.cx_base.specs.declared.cluster.Cluster.{Cluster}
+use Rattle.cx_inv_run.proofs.Common.{◌≡◌, ◌≤◌, ◌<◌, ℕ, zero, suc, true, false, List, [], ◌∷◌, ◌++◌, Some, None, ap, sym, ◌∙◌, subst, refl}
+use Rattle.cx_inv_run.proofs.Common.{inl, inr, arith, and_from, nat_tests, list_all, list_any, ◌+◌, ◌*◌, ◌==◌, Bool, ◌||◌, filter, nat_lt}
+use Rattle.cx_inv_run.proofs.Common.{length, slice_index_or, Cluster, RoleId, Round, IsGrid, Shape, is_in, below, numbers, role, Entry}
+use Rattle.cx_inv_run.proofs.Common.{Vote, member_at, Letter, AcceptorDurable, acceptor_row, acceptor_rules, MatchAnswer, Promised}
+use Rattle.cx_inv_run.proofs.Common.{LeaderVolatile, leader_row, leader_rules, phase1a_to, bool_cases, number_itself, same_number}
+use Rattle.cx_inv_run.proofs.Common.{same_role-itself, is_member_of, live_entries, members_of, rows_whole, Member, names_grid, names_vote}
+use Rattle.cx_inv_run.proofs.Common.{only_word, has_promised, promised_by, World, durable_other, durable_own, state_other, state_own}
+use Rattle.cx_inv_run.proofs.Common.{Member-first, Member-second, Member-both, Member-one, Member-all, Member-any, Member-below}
+use Rattle.cx_inv_run.proofs.Common.{Member-is_in, Member-map, all-Member, below-Member, filter-Member, filter-older, is_in-Member}
+use Rattle.cx_inv_run.proofs.Common.{none-Member, LeaderIn, Plain, durable_of}
 use Rattle.cx_base.specs.declared.role.Kind.TheVariants as kind
-use Rattle.cx_base.specs.declared.role.RoleId.{RoleId}
-use Rattle.cx_base.specs.declared.round.Round.{Round}
 use Rattle.cx_base.specs.declared.why.Why.TheVariants as why
-use Rattle.cx_base.specs.Grid.{IsGrid, Shape, is_in}
-use Rattle.cx_base.specs.Lists.{below, numbers}
-use Rattle.cx_base.specs.Role.{role}
-use Rattle.cx_field.specs.declared.parts.Entry.{Entry}
-use Rattle.cx_field.specs.declared.parts.Vote.{Vote}
-use Rattle.cx_grid.specs.Quorum.{is_whole, member_at, row_of, row_whole}
+use Rattle.cx_grid.specs.Quorum.{is_whole, row_of, row_whole}
 use Rattle.cx_letter.specs.declared.input.Input.TheVariants as input
 use Rattle.cx_letter.specs.declared.kept.Record.TheVariants as kept
-use Rattle.cx_letter.specs.Letter.{Letter}
-use Rattle.cx_model.specs.Acceptor.{AcceptorDurable, acceptor_row, acceptor_rules, phase1b_to}
-use Rattle.cx_model.specs.declared.states.MatchAnswer.{MatchAnswer}
-use Rattle.cx_model.specs.declared.states.Promised.{Promised}
-use Rattle.cx_model.specs.Leader.{LeaderVolatile, leader_row, leader_rules, phase1a_to}
-use Rattle.cx_model.specs.Lists.{bool_cases, number_itself, same_number, same_role-itself}
-use Rattle.cx_model.specs.Matched.{is_member_of, live_entries, members_of, rows_whole}
-use Rattle.cx_model.specs.Member.{Member}
-use Rattle.cx_model.specs.Names.{names_grid, names_vote}
-use Rattle.cx_model.specs.Outcome.{only_word}
-use Rattle.cx_model.specs.Plan.{has_promised, promised_by}
-use Rattle.cx_model.specs.World.{World}
-use Rattle.cx_inv_run.proofs.Histories.{durable_other, durable_own, state_other, state_own}
-use Rattle.cx_inv_run.proofs.Members.{Member-first, Member-second, Member-both, Member-one, Member-all, Member-any, Member-below}
-use Rattle.cx_inv_run.proofs.Members.{Member-is_in, Member-map, all-Member, below-Member, filter-Member, filter-older, is_in-Member}
-use Rattle.cx_inv_run.proofs.Members.{none-Member}
+use Rattle.cx_model.specs.Acceptor.{phase1b_to}
 use Rattle.cx_inv_run.proofs.Quorums.{row-Member}
-use Rattle.cx_inv_run.specs.States.{LeaderIn, Plain, durable_of}
 use Rattle.cx_inv_alive.proofs.Matched.{not_above, not_same, append_one, other_way}
 use Rattle.cx_inv_alive.proofs.Moments.{Moment, Goes, moved, Left, left_then, left_moved, left_kept, to_leader, to_acceptor}
 use Rattle.cx_inv_alive.proofs.Stages.{is_of, is_role, Apart, lead_round, begun_over, phasing, finishes, reported_by, MayHavePromised}

@@ -1,19 +1,9 @@
 -- What a leader proposes when its first phase is done, where it knows the chosen watermark already.
-use Rattle.std.proofs.Common.{◌≡◌, ◌⊎◌, ◌≤◌, ℕ, zero, suc, Bool, true, false, List, [], ◌∷◌, Option, None, Some, ap, sym, ◌∙◌, refl, inl}
-use Rattle.std.proofs.Common.{inr, arith}
-use Rattle.std.proofs.lemmas.Bool.{and_parts, and_from}
-use Rattle.std.proofs.lemmas.Bool.Decides.{nat_tests}
-use Rattle.std.specs.List.{list_all}
-use Rattle.std.specs.Prelude.{◌+◌, ◌-◌, ◌==◌, max, map, nat_lt, length, if◌then◌else◌}
-use Rattle.cx_base.specs.declared.command.Value.{Value}
-use Rattle.cx_base.specs.declared.command.Value.TheVariants.{Noop}
-use Rattle.cx_base.specs.Lists.{numbers}
-use Rattle.cx_base.specs.Round.{is_before}
-use Rattle.cx_field.specs.declared.parts.Vote.{Vote}
-use Rattle.cx_model.specs.declared.states.Plan.{Plan}
-use Rattle.cx_model.specs.declared.states.Promised.{Promised}
-use Rattle.cx_model.specs.Lists.{bool_cases}
-use Rattle.cx_model.specs.Plan.{plan, plan_between, greatest_cw, end_told, votes_told, best_vote, greater_vote, voted_value}
+use Rattle.cx_inv_run.proofs.Common.{◌≡◌, ◌⊎◌, ◌≤◌, ℕ, zero, suc, Bool, true, false, List, [], ◌∷◌, Option, None, Some, ap, sym, ◌∙◌, refl}
+use Rattle.cx_inv_run.proofs.Common.{inl, inr, arith, and_parts, and_from, nat_tests, list_all, ◌+◌, ◌-◌, ◌==◌, max, map, nat_lt, length}
+use Rattle.cx_inv_run.proofs.Common.{if◌then◌else◌, Value, Noop, numbers, is_before, Vote, Plan, Promised, bool_cases, plan, greatest_cw}
+use Rattle.cx_inv_run.proofs.Common.{end_told, votes_told, best_vote, greater_vote, voted_value}
+use Rattle.cx_model.specs.Plan.{plan_between}
 
 abbrev pub values_for : ℕ → List Vote → List Value
 values_for h votes = map (λ s. voted_value (best_vote s votes)) (numbers h (end_told h votes - h))

@@ -1,36 +1,15 @@
 -- In every run an acceptor knows of no more slots than some replica holds, and each replica has all from where the next one forgot. So the
 -- theorem.
-use Rattle.cx_model.specs.Promises.{OfEveryRun}
-use Rattle.std.proofs.Common.{◌≡◌, ◌⊎◌, ◌≤◌, ◌<◌, ℕ, zero, suc, true, false, List, [], ◌∷◌, reverse, ap, sym, ◌∙◌, subst, refl, inl, inr}
-use Rattle.std.proofs.Common.{arith}
-use Rattle.std.proofs.lemmas.Bool.Decides.{nat_tests}
-use Rattle.std.proofs.lemmas.List.{length-drop}
-use Rattle.std.proofs.lemmas.Nat.{mod_below, mod-mul-add}
-use Rattle.std.specs.List.{list_all}
-use Rattle.std.specs.Prelude.{◌+◌, ◌-◌, ◌*◌, ◌%◌, ◌==◌, drop, filter, nat_lt, nat_le, length, not}
-use Rattle.cx_base.specs.declared.cluster.Cluster.{Cluster}
-use Rattle.cx_base.specs.declared.command.Command.{Command}
-use Rattle.cx_base.specs.declared.command.Value.{Value}
-use Rattle.cx_base.specs.declared.event.Event.{Event}
+use Rattle.std.proofs.lemmas.Nat.{mod-mul-add}
+use Rattle.cx_inv_run.proofs.Common.{OfEveryRun, ◌≡◌, ◌⊎◌, ◌≤◌, ◌<◌, ℕ, zero, suc, true, false, List, [], ◌∷◌, reverse, ap, sym, ◌∙◌, subst}
+use Rattle.cx_inv_run.proofs.Common.{refl, inl, inr, arith, nat_tests, length-drop, mod_below, list_all, ◌+◌, ◌-◌, ◌*◌, ◌%◌, ◌==◌, drop}
+use Rattle.cx_inv_run.proofs.Common.{filter, nat_lt, nat_le, length, not, Cluster, Command, Value, Event, below, floor_of, is_done, role}
+use Rattle.cx_inv_run.proofs.Common.{Entry, Vote, AcceptorDurable, acceptor_rules, bool_cases, same_number, MatchmakerDurable}
+use Rattle.cx_inv_run.proofs.Common.{matchmaker_rules, Member, names_entry, names_round, names_value, names_vote, ReplicaDurable, IsTied}
+use Rattle.cx_inv_run.proofs.Common.{before, held, replica_rules, Machine, machine_from, new_machine, World, log_of, run, log_by_time}
+use Rattle.cx_inv_run.proofs.Common.{durable_by_time, below-Member, all-Member, Member-all, Member-below, some_passes, run_cluster}
+use Rattle.cx_inv_run.proofs.Common.{ties_hold, durable_of, log_in}
 use Rattle.cx_base.specs.declared.role.Kind.TheVariants as kind
-use Rattle.cx_base.specs.Lists.{below}
-use Rattle.cx_base.specs.Noted.{floor_of, is_done}
-use Rattle.cx_base.specs.Role.{role}
-use Rattle.cx_field.specs.declared.parts.Entry.{Entry}
-use Rattle.cx_field.specs.declared.parts.Vote.{Vote}
-use Rattle.cx_model.specs.Acceptor.{AcceptorDurable, acceptor_rules}
-use Rattle.cx_model.specs.Lists.{bool_cases, same_number}
-use Rattle.cx_model.specs.Matchmaker.{MatchmakerDurable, matchmaker_rules}
-use Rattle.cx_model.specs.Member.{Member}
-use Rattle.cx_model.specs.Names.{names_entry, names_round, names_value, names_vote}
-use Rattle.cx_model.specs.Replica.{ReplicaDurable, IsTied, before, held, replica_rules, Machine, machine_from, new_machine}
-use Rattle.cx_model.specs.World.{World, log_of, run}
-use Rattle.cx_inv_run.proofs.Histories.{log_by_time, durable_by_time}
-use Rattle.cx_inv_run.proofs.Members.{below-Member, all-Member, Member-all, Member-below}
-use Rattle.cx_inv_run.proofs.Quorums.{some_passes}
-use Rattle.cx_inv_run.proofs.Steps.{run_cluster}
-use Rattle.cx_inv_run.proofs.TieLaws.{ties_hold}
-use Rattle.cx_inv_run.specs.States.{durable_of, log_in}
 use Rattle.cx_inv_held.proofs.Acceptors.{acceptor_stored}
 use Rattle.cx_inv_held.proofs.Steps.{safe_snapshots, low_facts}
 use Rattle.cx_inv_held.specs.Held.{slots_held}

@@ -1,44 +1,22 @@
 -- One slot after the other, at any cluster: a proxy that was just opened asks the acceptor, counts its vote, and all replicas execute.
-use Rattle.std.proofs.Common.{◌≡◌, ℕ, zero, suc, true, false, List, [], ◌∷◌, ◌++◌, map, Option, Some, None, ap, sym, ◌∙◌, subst, refl, inl}
-use Rattle.std.proofs.Common.{inr, arith}
-use Rattle.std.proofs.lemmas.Bool.{and_parts}
-use Rattle.std.proofs.lemmas.Bool.Decides.{nat_tests}
-use Rattle.std.proofs.lemmas.List.{length-append}
-use Rattle.std.proofs.lemmas.Nat.{mod_below}
-use Rattle.std.specs.List.{list_all}
-use Rattle.std.specs.Prelude.{◌+◌, ◌-◌, ◌%◌, ◌==◌, Bool, ◌||◌, ◌&&◌, max, min, nat_le, nat_lt, length}
-use Rattle.cx_base.specs.declared.cluster.Cluster.{Cluster}
-use Rattle.cx_base.specs.declared.command.Placed.{Placed}
-use Rattle.cx_base.specs.declared.command.Value.{Value}
+use Rattle.cx_inv_run.proofs.Common.{◌≡◌, ℕ, zero, suc, true, false, List, [], ◌∷◌, ◌++◌, map, Option, Some, None, ap, sym, ◌∙◌, subst}
+use Rattle.cx_inv_run.proofs.Common.{refl, inl, inr, arith, and_parts, nat_tests, length-append, mod_below, list_all, ◌+◌, ◌-◌, ◌%◌, ◌==◌}
+use Rattle.cx_inv_run.proofs.Common.{Bool, ◌||◌, ◌&&◌, max, min, nat_le, nat_lt, length, Cluster, Placed, Value, RoleId, Round, is_in}
+use Rattle.cx_inv_run.proofs.Common.{below, following, role, is_before, column_of, Record, Letter, letter, AcceptorDurable, acceptor_row}
+use Rattle.cx_inv_run.proofs.Common.{acceptor_rules, is_of_round, vote_at, bool_cases, number_itself, same_number, same_role-itself, Member}
+use Rattle.cx_inv_run.proofs.Common.{names_value, Outcome, replied, placed_from, ProxyVolatile, announcement, chosen_to, column_for}
+use Rattle.cx_inv_run.proofs.Common.{pending_of, phase2a_to, proxy_row, proxy_rules, ReplicaDurable, ReplicaVolatile, execute_value, held}
+use Rattle.cx_inv_run.proofs.Common.{machine_from, read_answers, replica_after, replica_row, replica_rules, results_at, results_from, World}
+use Rattle.cx_inv_run.proofs.Common.{durable_other, durable_own, state_other, state_own, Member-first, Member-second, Member-cases}
+use Rattle.cx_inv_run.proofs.Common.{Member-below, below-Member, filter-Member, map-Member, none-Member, Plain, ProxyIn, ReplicaIn}
+use Rattle.cx_inv_run.proofs.Common.{durable_of}
 use Rattle.cx_base.specs.declared.role.Kind.TheVariants as kind
-use Rattle.cx_base.specs.declared.role.RoleId.{RoleId}
-use Rattle.cx_base.specs.declared.round.Round.{Round}
 use Rattle.cx_base.specs.declared.why.Why.TheVariants as why
-use Rattle.cx_base.specs.Grid.{is_in}
-use Rattle.cx_base.specs.Lists.{below}
-use Rattle.cx_base.specs.Log.{following}
-use Rattle.cx_base.specs.Role.{role}
-use Rattle.cx_base.specs.Round.{is_before}
-use Rattle.cx_grid.specs.Quorum.{column_of}
 use Rattle.cx_letter.specs.declared.input.Input.TheVariants as input
-use Rattle.cx_letter.specs.declared.kept.Record.{Record}
 use Rattle.cx_letter.specs.declared.kept.Record.TheVariants as kept
 use Rattle.cx_letter.specs.declared.message.Msg.TheVariants as msg
-use Rattle.cx_letter.specs.Letter.{Letter, letter}
-use Rattle.cx_model.specs.Acceptor.{AcceptorDurable, acceptor_row, acceptor_rules, is_of_round, vote_at}
-use Rattle.cx_model.specs.Lists.{bool_cases, number_itself, same_number, same_role-itself}
-use Rattle.cx_model.specs.Member.{Member}
-use Rattle.cx_model.specs.Names.{names_value}
-use Rattle.cx_model.specs.Outcome.{Outcome, replied}
-use Rattle.cx_model.specs.Plan.{placed_from}
-use Rattle.cx_model.specs.Proxy.{ProxyVolatile, announcement, ask, chosen_to, column_for, pending_of, phase2a_to, proxy_row, proxy_rules}
-use Rattle.cx_model.specs.Replica.{ReplicaDurable, ReplicaVolatile, execute_value, held, machine_from, read_answers, replica_after}
-use Rattle.cx_model.specs.Replica.{replica_row, replica_rules, results_at, results_from, still_deferred}
-use Rattle.cx_model.specs.World.{World}
-use Rattle.cx_inv_run.proofs.Histories.{durable_other, durable_own, state_other, state_own}
-use Rattle.cx_inv_run.proofs.Members.{Member-first, Member-second, Member-cases, Member-below, below-Member, filter-Member, map-Member}
-use Rattle.cx_inv_run.proofs.Members.{none-Member}
-use Rattle.cx_inv_run.specs.States.{Plain, ProxyIn, ReplicaIn, durable_of}
+use Rattle.cx_model.specs.Proxy.{ask}
+use Rattle.cx_model.specs.Replica.{still_deferred}
 use Rattle.cx_inv_alive.proofs.Moments.{Moment, Goes, moved, Left, left_same, left_then, left_moved, left_kept, left_still, left_weaker}
 use Rattle.cx_inv_alive.proofs.Moments.{to_acceptor, to_proxy, to_replica, fresh_proxy, left_both}
 use Rattle.cx_inv_alive.proofs.Phase.{apart_numbers, less, less_test}

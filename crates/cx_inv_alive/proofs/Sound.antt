@@ -1,30 +1,17 @@
 -- In every run names in the stores lie in the cluster.
-use Rattle.std.proofs.Common.{◌≡◌, ◌⊎◌, ℕ, Bool, true, false, List, [], ◌∷◌, ◌++◌, sym, subst, refl, inl, inr}
-use Rattle.std.proofs.lemmas.Bool.{and_parts, and_from}
-use Rattle.std.specs.List.{list_all}
-use Rattle.std.specs.Prelude.{◌==◌, filter, nat_lt, if◌then◌else◌}
-use Rattle.cx_base.specs.declared.cluster.Cluster.{Cluster}
-use Rattle.cx_base.specs.declared.command.Value.{Value}
+use Rattle.cx_inv_run.proofs.Common.{◌≡◌, ◌⊎◌, ℕ, Bool, true, false, List, [], ◌∷◌, ◌++◌, sym, subst, refl, inl, inr, and_parts, and_from}
+use Rattle.cx_inv_run.proofs.Common.{list_all, ◌==◌, filter, nat_lt, if◌then◌else◌, Cluster, Value, RoleId, role, same_role, Entry, Vote}
+use Rattle.cx_inv_run.proofs.Common.{KeptRecord, Written, Record, AcceptorDurable, acceptor_after, acceptor_rules, votes_from_slot}
+use Rattle.cx_inv_run.proofs.Common.{with_vote, bool_cases, same_role-true, MatchmakerDurable, matchmaker_after, matchmaker_rules}
+use Rattle.cx_inv_run.proofs.Common.{entries_since, entry, has_round, names_entry, names_grid, names_round, names_value, names_vote}
+use Rattle.cx_inv_run.proofs.Common.{either_way, ReplicaDurable, replica_rules, written_after, values_in, Member-cases, all-Member}
+use Rattle.cx_inv_run.proofs.Common.{Member-all, filter-older}
 use Rattle.cx_base.specs.declared.role.Kind.TheVariants as kind
-use Rattle.cx_base.specs.declared.role.RoleId.{RoleId}
-use Rattle.cx_base.specs.Role.{role, same_role}
-use Rattle.cx_field.specs.declared.parts.Entry.{Entry}
-use Rattle.cx_field.specs.declared.parts.Vote.{Vote}
-use Rattle.cx_letter.specs.declared.input.KeptRecord.{KeptRecord}
-use Rattle.cx_letter.specs.declared.input.Written.{Written}
 use Rattle.cx_letter.specs.declared.input.Written.TheVariants as written
-use Rattle.cx_letter.specs.declared.kept.Record.{Record}
 use Rattle.cx_letter.specs.declared.kept.Record.TheVariants as kept
-use Rattle.cx_model.specs.Acceptor.{AcceptorDurable, acceptor_after, acceptor_fits, acceptor_rules, votes_from_slot, with_vote}
-use Rattle.cx_model.specs.Lists.{bool_cases, same_role-true}
-use Rattle.cx_model.specs.Matchmaker.{MatchmakerDurable, matchmaker_after, matchmaker_fits, matchmaker_rules, entries_since, entry}
-use Rattle.cx_model.specs.Matchmaker.{has_round}
-use Rattle.cx_model.specs.Names.{names_entry, names_grid, names_round, names_value, names_vote}
-use Rattle.cx_model.specs.Outcome.{either_way}
-use Rattle.cx_model.specs.Replica.{ReplicaDurable, replica_fits, replica_rules}
-use Rattle.cx_model.specs.Rules.{written_after}
-use Rattle.cx_model.specs.World.{values_in}
-use Rattle.cx_inv_run.proofs.Members.{Member-cases, all-Member, Member-all, filter-older}
+use Rattle.cx_model.specs.Acceptor.{acceptor_fits}
+use Rattle.cx_model.specs.Matchmaker.{matchmaker_fits}
+use Rattle.cx_model.specs.Replica.{replica_fits}
 use Rattle.cx_inv_run.specs.States.{durable_of, log_in}
 use Rattle.cx_inv_open.specs.Fits.{AllFit, FitsAs}
 

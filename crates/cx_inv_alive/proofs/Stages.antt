@@ -1,30 +1,13 @@
 -- What the stages of a plan speak of: a leader of a round over a grid of one acceptor, what it is told, and what stays.
-use Rattle.std.specs.List.{list_all}
-use Rattle.std.specs.Prelude.{◌≡◌, ◌⊎◌, ℕ, ◌+◌, ◌*◌, ◌==◌, ◌||◌, Bool, true, false, max, nat_lt, nat_le, List, [], ◌∷◌, length, Some}
-use Rattle.cx_base.specs.declared.cluster.Cluster.{Cluster}
-use Rattle.cx_base.specs.declared.command.Placed.{Placed}
-use Rattle.cx_base.specs.declared.command.Value.{Value}
-use Rattle.cx_base.specs.declared.role.Kind.{Kind}
+use Rattle.cx_inv_run.proofs.Common.{list_all, ◌≡◌, ◌⊎◌, ℕ, ◌+◌, ◌*◌, ◌==◌, ◌||◌, Bool, true, false, max, nat_lt, nat_le, List, [], ◌∷◌}
+use Rattle.cx_inv_run.proofs.Common.{length, Some, Cluster, Placed, Value, Kind, RoleId, Round, Shape, is_in, code_of, role, same_role}
+use Rattle.cx_inv_run.proofs.Common.{is_before, Entry, Letter, AcceptorDurable, MatchAnswer, Leading, Matching, Phase1, Promised}
+use Rattle.cx_inv_run.proofs.Common.{LeaderDurable, LeaderVolatile, finish, held_by, matched_by, propose_to, enough, live_entries}
+use Rattle.cx_inv_run.proofs.Common.{MatchmakerDurable, entries_before, entry, is_booted, is_stopped, Member, names_entry, names_round}
+use Rattle.cx_inv_run.proofs.Common.{Outcome, ReplicaDurable, replica_after}
 use Rattle.cx_base.specs.declared.role.Kind.TheVariants as kind
-use Rattle.cx_base.specs.declared.role.RoleId.{RoleId}
-use Rattle.cx_base.specs.declared.round.Round.{Round}
-use Rattle.cx_base.specs.Grid.{Shape, is_in, make_grid}
-use Rattle.cx_base.specs.Role.{code_of, role, same_role}
-use Rattle.cx_base.specs.Round.{is_before}
-use Rattle.cx_field.specs.declared.parts.Entry.{Entry}
+use Rattle.cx_base.specs.Grid.{make_grid}
 use Rattle.cx_letter.specs.declared.kept.Record.TheVariants as kept
-use Rattle.cx_letter.specs.Letter.{Letter}
-use Rattle.cx_model.specs.Acceptor.{AcceptorDurable}
-use Rattle.cx_model.specs.declared.states.MatchAnswer.{MatchAnswer}
-use Rattle.cx_model.specs.declared.states.Mode.TheVariants.{Leading, Matching, Phase1}
-use Rattle.cx_model.specs.declared.states.Promised.{Promised}
-use Rattle.cx_model.specs.Leader.{LeaderDurable, LeaderVolatile, finish, held_by, matched_by, propose_to}
-use Rattle.cx_model.specs.Matched.{enough, live_entries}
-use Rattle.cx_model.specs.Matchmaker.{MatchmakerDurable, entries_before, entry, is_booted, is_stopped}
-use Rattle.cx_model.specs.Member.{Member}
-use Rattle.cx_model.specs.Names.{names_entry, names_round}
-use Rattle.cx_model.specs.Outcome.{Outcome}
-use Rattle.cx_model.specs.Replica.{ReplicaDurable, replica_after}
 
 -- a cluster has roles of each kind, f + 1 replicas and 2f + 1 matchmakers
 pub record HasCounts (c : Cluster) : Type 0 where

@@ -1,11 +1,8 @@
 -- The theorem at two runs, so that its conditions can be met.
-use Rattle.std.proofs.Common.{[], ◌∷◌, subst, sym, refl, inl, inr, lit≤}
+use Rattle.cx_inv_run.proofs.Common.{[], ◌∷◌, subst, sym, refl, inl, inr, lit≤, IsGrid, Entry, Member, run}
 use Rattle.cx_base.specs.declared.event.Event.TheVariants as event
-use Rattle.cx_base.specs.Grid.{IsGrid}
-use Rattle.cx_field.specs.declared.parts.Entry.{Entry}
 use Rattle.cx_model.specs.Examples.{one_of_each, put_a, single}
-use Rattle.cx_model.specs.Member.{Member}
-use Rattle.cx_model.specs.World.{run, step}
+use Rattle.cx_model.specs.World.{step}
 use Rattle.cx_inv_alive.proofs.Runs.{no_dead_ends}
 use Rattle.cx_inv_run.specs.States.{set_state}
 use Rattle.cx_inv_alive.specs.Alive.{matchmaker_store, HasGrids}

@@ -1,45 +1,24 @@
 -- A world as a plan sees it: changes of stores with the newest first, the datagrams, and the state of each role. What an event makes of it.
-use Rattle.std.proofs.Common.{◌≡◌, ℕ, List, ◌∷◌, ◌++◌, reverse, Option, None, Some, ap, sym, ◌∙◌, subst, refl, append-nil, []}
-use Rattle.std.proofs.lemmas.Bool.{and_from}
-use Rattle.std.proofs.lemmas.List.{reverse-append}
-use Rattle.std.specs.List.{list_all}
-use Rattle.std.specs.Option.{option_map}
-use Rattle.std.specs.Prelude.{slice_get, true, if◌then◌else◌}
-use Rattle.cx_base.specs.declared.cluster.Cluster.{Cluster}
-use Rattle.cx_base.specs.declared.event.Cut.TheVariants.{Whole}
-use Rattle.cx_base.specs.declared.event.Event.{Event}
+use Rattle.cx_inv_run.proofs.Common.{◌≡◌, ℕ, List, ◌∷◌, ◌++◌, reverse, Option, None, Some, ap, sym, ◌∙◌, subst, refl, append-nil, []}
+use Rattle.cx_inv_run.proofs.Common.{and_from, reverse-append, list_all, option_map, slice_get, true, if◌then◌else◌, Cluster, Whole, Event}
+use Rattle.cx_inv_run.proofs.Common.{Kind, RoleId, role, same_role, Act, Give, Stop, Wake, Input, KeptRecord, Record, Letter}
+use Rattle.cx_inv_run.proofs.Common.{AcceptorDurable, acceptor_rules, BatcherVolatile, batcher_rules, LeaderDurable, LeaderVolatile}
+use Rattle.cx_inv_run.proofs.Common.{leader_rules, MatchmakerDurable, matchmaker_rules, Member, names_role, Outcome, ProxyVolatile}
+use Rattle.cx_inv_run.proofs.Common.{proxy_rules, ReplicaDurable, ReplicaVolatile, replica_rules, Rules, still, turn, turn_with, whole_turn}
+use Rattle.cx_inv_run.proofs.Common.{unbatcher_rules, World, act_at, change, changed, come, durable_part, kept_by, run_from, turned}
+use Rattle.cx_inv_run.proofs.Common.{world_after, durable_by_time, state_own, State, Down, BatcherIn, LeaderIn, ProxyIn, ReplicaIn, plain}
+use Rattle.cx_inv_run.proofs.Common.{batcher_volatile, durable_of, leader_volatile, plain_volatile, proxy_volatile, replica_volatile}
+use Rattle.cx_inv_run.proofs.Common.{with_record}
 use Rattle.cx_base.specs.declared.event.Event.TheVariants as event
-use Rattle.cx_base.specs.declared.role.Kind.{Kind}
 use Rattle.cx_base.specs.declared.role.Kind.TheVariants as kind
-use Rattle.cx_base.specs.declared.role.RoleId.{RoleId}
 use Rattle.cx_base.specs.declared.why.Why.TheVariants as why
-use Rattle.cx_base.specs.Role.{role, same_role}
-use Rattle.cx_letter.specs.declared.input.Act.{Act}
-use Rattle.cx_letter.specs.declared.input.Act.TheVariants.{Give, Stop, Wake}
-use Rattle.cx_letter.specs.declared.input.Input.{Input}
 use Rattle.cx_letter.specs.declared.input.Input.TheVariants as input
-use Rattle.cx_letter.specs.declared.input.KeptRecord.{KeptRecord}
 use Rattle.cx_letter.specs.declared.input.Written.TheVariants as written
-use Rattle.cx_letter.specs.declared.kept.Record.{Record}
-use Rattle.cx_letter.specs.Letter.{Letter}
-use Rattle.cx_model.specs.Acceptor.{AcceptorDurable, acceptor_rules}
-use Rattle.cx_model.specs.Batcher.{BatcherVolatile, batcher_rules}
-use Rattle.cx_model.specs.Leader.{LeaderDurable, LeaderVolatile, leader_rules}
-use Rattle.cx_model.specs.Matchmaker.{MatchmakerDurable, matchmaker_rules}
-use Rattle.cx_model.specs.Member.{Member}
-use Rattle.cx_model.specs.Names.{names_role}
-use Rattle.cx_model.specs.Outcome.{Outcome}
-use Rattle.cx_model.specs.Proxy.{ProxyVolatile, proxy_rules}
-use Rattle.cx_model.specs.Replica.{ReplicaDurable, ReplicaVolatile, replica_rules}
-use Rattle.cx_model.specs.Rules.{Rules}
-use Rattle.cx_model.specs.Turn.{still, turn, turn_with, whole_turn}
-use Rattle.cx_model.specs.Unbatcher.{unbatcher_rules}
-use Rattle.cx_model.specs.World.{World, Change, act_at, change, changed, come, durable_part, kept_by, run_from, step, turned, world_after}
+use Rattle.cx_model.specs.World.{Change, step}
 use Rattle.cx_inv_alive.specs.Alive.{may_help}
-use Rattle.cx_inv_run.proofs.Histories.{durable_by_time, set_twice, state_own}
+use Rattle.cx_inv_run.proofs.Histories.{set_twice}
 use Rattle.cx_inv_run.proofs.Members.{at-Member}
-use Rattle.cx_inv_run.specs.States.{State, Down, BatcherIn, LeaderIn, ProxyIn, ReplicaIn, plain, batcher_volatile, durable_of}
-use Rattle.cx_inv_run.specs.States.{leader_volatile, plain_volatile, proxy_volatile, replica_volatile, set_state, with_record}
+use Rattle.cx_inv_run.specs.States.{set_state}
 
 pub record View (c : Cluster) (kept : List KeptRecord) (sent : List Letter) (states : RoleId → State) (w : World) : Type 0 where
   pub cluster : w.cluster ≡ c

@@ -1,16 +1,9 @@
 -- Where a client isn't done with a number, no command that was executed made it so: floors only grow.
-use Rattle.std.proofs.Common.{◌≡◌, ◌⊎◌, ℕ, Bool, true, false, List, [], ◌∷◌, ap, sym, ◌∙◌, subst, refl, inl, inr, arith}
-use Rattle.std.proofs.lemmas.Bool.{and_from, and_parts, both_ways, cases_Bool, eqb-true}
-use Rattle.std.proofs.lemmas.Bool.Decides.{nat_tests}
-use Rattle.std.specs.List.{list_all}
-use Rattle.std.specs.Prelude.{◌+◌, ◌==◌, ◌&&◌, ◌||◌, not, max, nat_le, nat_lt, None}
-use Rattle.cx_base.proofs.Used.{none_placed, or_false, same_client, still_rising, turned_test}
-use Rattle.cx_base.specs.declared.command.Command.{Command}
-use Rattle.cx_base.specs.declared.command.Floor.{Floor}
-use Rattle.cx_base.specs.declared.command.Value.{Value}
-use Rattle.cx_base.specs.Fold.{commands_of}
-use Rattle.cx_base.specs.Noted.{are_rising, floor_of, is_done, with_floor}
-use Rattle.cx_model.specs.Replica.{Machine, execute, execute_all, execute_value, machine_from}
+use Rattle.cx_inv_run.proofs.Common.{◌≡◌, ◌⊎◌, ℕ, Bool, true, false, List, [], ◌∷◌, ap, sym, ◌∙◌, subst, refl, inl, inr, arith, and_from}
+use Rattle.cx_inv_run.proofs.Common.{and_parts, both_ways, cases_Bool, eqb-true, nat_tests, list_all, ◌+◌, ◌==◌, ◌&&◌, ◌||◌, not, max}
+use Rattle.cx_inv_run.proofs.Common.{nat_le, nat_lt, None, none_placed, same_client, turned_test, Command, Floor, Value, commands_of}
+use Rattle.cx_inv_run.proofs.Common.{are_rising, floor_of, is_done, with_floor, Machine, execute, execute_all, execute_value, machine_from}
+use Rattle.cx_base.proofs.Used.{or_false, still_rising}
 use Rattle.cx_inv_alive.proofs.Floors.{floors_told}
 use Rattle.cx_inv_alive.specs.Alive.{tells_less, tell_less}
 

@@ -1,32 +1,14 @@
 -- NO DEAD ENDS. From each world that any list of events reaches, while room is left, further events bring an answer to each command that
 -- was submitted. Nothing of it is proved here.
 use Rattle.std.specs.Prelude.{◌≡◌, ℕ, ◌+◌, ◌==◌, ◌&&◌, ◌||◌, not, Bool, true, false, nat_lt, nat_le, filter, is_none, List, length}
-use Rattle.std.specs.List.{list_all}
-use Rattle.cx_base.specs.declared.cluster.Cluster.{Cluster}
-use Rattle.cx_base.specs.declared.command.Command.{Command}
-use Rattle.cx_base.specs.declared.command.Reply.{Reply}
-use Rattle.cx_base.specs.declared.command.Value.{Value}
-use Rattle.cx_base.specs.declared.event.Event.{Event}
+use Rattle.cx_model.specs.Prelude.{list_all, Cluster, Command, Reply, Value, Event, Lead, RoleId, commands_of, IsGrid, below, floor_of}
+use Rattle.cx_model.specs.Prelude.{is_done, role, Entry, Vote, Letter, letter, AcceptorDurable, acceptor_rules, LeaderDurable, leader_rules}
+use Rattle.cx_model.specs.Prelude.{round_of, enough, first_set, MatchmakerDurable, matchmaker_rules, is_stopped, Member, ReplicaDurable}
+use Rattle.cx_model.specs.Prelude.{held, replica_rules, World, run, run_from, durable_part}
 use Rattle.cx_base.specs.declared.event.Event.TheVariants as event
-use Rattle.cx_base.specs.declared.event.Order.TheVariants.{Lead}
 use Rattle.cx_base.specs.declared.role.Kind.TheVariants as kind
-use Rattle.cx_base.specs.declared.role.RoleId.{RoleId}
-use Rattle.cx_base.specs.Fold.{commands_of}
-use Rattle.cx_base.specs.Grid.{IsGrid, grid_fault}
-use Rattle.cx_base.specs.Lists.{below}
-use Rattle.cx_base.specs.Noted.{floor_of, is_done}
-use Rattle.cx_base.specs.Role.{role}
-use Rattle.cx_field.specs.declared.parts.Entry.{Entry}
-use Rattle.cx_field.specs.declared.parts.Vote.{Vote}
-use Rattle.cx_letter.specs.Letter.{Letter, letter}
+use Rattle.cx_base.specs.Grid.{grid_fault}
 use Rattle.cx_letter.specs.declared.message.Msg.TheVariants as msg
-use Rattle.cx_model.specs.Acceptor.{AcceptorDurable, acceptor_rules}
-use Rattle.cx_model.specs.Leader.{LeaderDurable, leader_rules, round_of}
-use Rattle.cx_model.specs.Matched.{enough, first_set}
-use Rattle.cx_model.specs.Matchmaker.{MatchmakerDurable, matchmaker_rules, is_stopped}
-use Rattle.cx_model.specs.Member.{Member}
-use Rattle.cx_model.specs.Replica.{ReplicaDurable, held, replica_rules}
-use Rattle.cx_model.specs.World.{World, run, run_from, durable_part}
 
 -- the client's command was submitted to this batcher
 abbrev pub submitted : Command → ℕ → Letter

@@ -1,15 +1,10 @@
 -- The theorem says something: its conditions are met at these runs. Nothing of it is proved here.
 use Rattle.std.specs.Prelude.{List, [], ◌∷◌}
 use Rattle.std.proofs.Common.{lit≤}
-use Rattle.cx_base.specs.declared.cluster.Cluster.{Cluster}
-use Rattle.cx_base.specs.declared.event.Cut.TheVariants.{Whole, Kept}
-use Rattle.cx_base.specs.declared.event.Event.{Event}
+use Rattle.cx_model.specs.Prelude.{Cluster, Whole, Kept, Event, Lead, role, one_of_each, run}
 use Rattle.cx_base.specs.declared.event.Event.TheVariants as event
-use Rattle.cx_base.specs.declared.event.Order.TheVariants.{Lead}
 use Rattle.cx_base.specs.declared.role.Kind.TheVariants as kind
-use Rattle.cx_base.specs.Role.{role}
-use Rattle.cx_model.specs.Examples.{one_of_each, put_a, single}
-use Rattle.cx_model.specs.World.{run}
+use Rattle.cx_model.specs.Examples.{put_a, single}
 use Rattle.cx_inv_alive.specs.Alive.{CanBeAnswered}
 
 -- f = 1: three matchmakers, acceptors and replicas

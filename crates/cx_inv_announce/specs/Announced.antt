@@ -1,21 +1,11 @@
 -- The announcement that is promised of one run, that of the events `es` over the cluster `c`: in which step a proxy leader announces that a
 -- value is chosen, and whom. Nothing of it is proved here.
 use Rattle.std.specs.Prelude.{◌≡◌, ℕ, ◌<◌, true, map, List, [], ◌∷◌, ◌++◌}
-use Rattle.cx_base.specs.declared.cluster.Cluster.{Cluster}
-use Rattle.cx_base.specs.declared.command.Value.{Value}
-use Rattle.cx_base.specs.declared.event.Event.{Event}
+use Rattle.cx_model.specs.Prelude.{Cluster, Value, Event, RoleId, Round, Shape, is_in, below, role, column_of, Letter, letter, Member}
+use Rattle.cx_model.specs.Prelude.{DeliversOneOf, World, change, step, run}
 use Rattle.cx_base.specs.declared.role.Kind.TheVariants as kind
-use Rattle.cx_base.specs.declared.role.RoleId.{RoleId}
-use Rattle.cx_base.specs.declared.round.Round.{Round}
-use Rattle.cx_base.specs.Grid.{Shape, is_in}
-use Rattle.cx_base.specs.Lists.{below}
-use Rattle.cx_base.specs.Role.{role}
-use Rattle.cx_grid.specs.Quorum.{column_of}
-use Rattle.cx_letter.specs.Letter.{Letter, letter}
 use Rattle.cx_letter.specs.declared.message.Msg.TheVariants as msg
-use Rattle.cx_model.specs.Member.{Member}
-use Rattle.cx_model.specs.Promises.{Asks, KeepsAsking, DeliversOneOf}
-use Rattle.cx_model.specs.World.{World, change, step, run}
+use Rattle.cx_model.specs.Promises.{Asks, KeepsAsking}
 
 -- From a world on these events brought the proxy leader the votes of a whole column of the grid's members. (In a grid without empty places
 -- each column is made of members.)

@@ -1,23 +1,11 @@
 -- Each step keeps the windows of all leaders full.
-use Rattle.std.proofs.Common.{◌≡◌, ℕ, false, ◌⊎◌, List, [], ◌∷◌, ◌++◌, Option, None, Some, sym, subst, inl, inr, append-nil}
-use Rattle.cx_base.specs.declared.cluster.Cluster.{Cluster}
-use Rattle.cx_base.specs.declared.event.Event.{Event}
-use Rattle.cx_base.specs.declared.role.Kind.{Kind}
+use Rattle.cx_inv_run.proofs.Common.{◌≡◌, ℕ, false, ◌⊎◌, List, [], ◌∷◌, ◌++◌, Option, None, Some, sym, subst, inl, inr, append-nil, Cluster}
+use Rattle.cx_inv_run.proofs.Common.{Event, Kind, RoleId, role, same_role, Letter, KeptRecord, Record, LeaderDurable, LeaderVolatile}
+use Rattle.cx_inv_run.proofs.Common.{leader_rules, leader_row, round_of, Outcome, request, run, Lands, Laws, anything, State, Down, Plain}
+use Rattle.cx_inv_run.proofs.Common.{BatcherIn, LeaderIn, ProxyIn, ReplicaIn, ReaderIn, ReplacerIn, plain, fresh_state, set_state, snap_by}
+use Rattle.cx_inv_run.proofs.Common.{with_record, durable_of, HoldsIn, by_role, durable_own, durable_other, durable_else, set_running}
+use Rattle.cx_inv_run.proofs.Common.{always}
 use Rattle.cx_base.specs.declared.role.Kind.TheVariants as kind
-use Rattle.cx_base.specs.declared.role.RoleId.{RoleId}
-use Rattle.cx_base.specs.Role.{role, same_role}
-use Rattle.cx_letter.specs.Letter.{Letter}
-use Rattle.cx_letter.specs.declared.input.KeptRecord.{KeptRecord}
-use Rattle.cx_letter.specs.declared.kept.Record.{Record}
-use Rattle.cx_model.specs.Leader.{LeaderDurable, LeaderVolatile, leader_rules, leader_row, round_of}
-use Rattle.cx_model.specs.Outcome.{Outcome}
-use Rattle.cx_model.specs.Request.{request}
-use Rattle.cx_model.specs.World.{run}
-use Rattle.cx_inv_run.specs.Laws.{Lands, Laws, anything}
-use Rattle.cx_inv_run.specs.States.{State, Down, Plain, BatcherIn, LeaderIn, ProxyIn, ReplicaIn, ReaderIn, ReplacerIn, plain, fresh_state}
-use Rattle.cx_inv_run.specs.States.{set_state, snap_by, with_record, durable_of, HoldsIn}
-use Rattle.cx_inv_run.proofs.Histories.{by_role, durable_own, durable_other, durable_else, set_running}
-use Rattle.cx_inv_run.proofs.Steps.{always}
 use Rattle.cx_inv_bypass.specs.Full.{FullIn, FullState, Full}
 use Rattle.cx_inv_bypass.proofs.Rows.{still_full, round_after, leader_full}
 

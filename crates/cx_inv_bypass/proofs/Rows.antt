@@ -1,48 +1,23 @@
 -- Each row of a leader leaves its window full while it leads, and while it goes on with another grid; and the word `bypassed` is that of
 -- one row.
-use Rattle.std.proofs.Common.{◌≡◌, ◌≤◌, ◌+◌, ◌-◌, ℕ, Bool, true, false, not, ◌&&◌, ◌||◌, max, ◌==◌, List, [], ◌∷◌, ◌++◌, map, filter}
-use Rattle.std.proofs.Common.{Option, None, Some, ap, sym, subst, ◌∙◌, refl, inl, inr, arith}
-use Rattle.std.specs.Prelude.{nat_le, nat_lt, length, if◌then◌else◌, slice_index_or, slice_set}
-use Rattle.std.proofs.lemmas.Bool.{true≢false, and_parts, not-false}
-use Rattle.std.proofs.lemmas.Bool.Decides.{nat_tests}
-use Rattle.std.proofs.lemmas.Option.{same_Some}
-use Rattle.cx_base.specs.declared.cluster.Cluster.{Cluster}
-use Rattle.cx_base.specs.declared.command.Command.{Command}
-use Rattle.cx_base.specs.declared.command.Placed.{Placed}
-use Rattle.cx_base.specs.declared.command.Value.{Value}
+use Rattle.cx_inv_run.proofs.Common.{◌≡◌, ◌≤◌, ◌+◌, ◌-◌, ℕ, Bool, true, false, not, ◌&&◌, ◌||◌, max, ◌==◌, List, [], ◌∷◌, ◌++◌, map, filter}
+use Rattle.cx_inv_run.proofs.Common.{Option, None, Some, ap, sym, subst, ◌∙◌, refl, inl, inr, arith, nat_le, nat_lt, length, if◌then◌else◌}
+use Rattle.cx_inv_run.proofs.Common.{slice_index_or, slice_set, true≢false, and_parts, not-false, nat_tests, same_Some, Cluster, Command}
+use Rattle.cx_inv_run.proofs.Common.{Placed, Value, Lead, Collect, Replace, RoleId, Round, Why, Shape, is_in, below, numbers, same_role}
+use Rattle.cx_inv_run.proofs.Common.{lead_after, change_after, is_above, Entry, Letter, Input, Take, Tick, Order, Record, Msg, Mode, Idle}
+use Rattle.cx_inv_run.proofs.Common.{Matching, Phase1, Leading, Collection, with_informed, with_forgotten, is_off, is_informing}
+use Rattle.cx_inv_run.proofs.Common.{is_collecting, is_retired, IsProposed, LeaderDurable, LeaderVolatile, leader_after, round_of, is_own}
+use Rattle.cx_inv_run.proofs.Common.{is_changed, is_idle, is_matching, is_promising, is_leading, leads_to, propose_to, begin_in, finish}
+use Rattle.cx_inv_run.proofs.Common.{bypass, matched_by, match_counted, promise_counted, propose_in, held_by, collect_in, informed_in}
+use Rattle.cx_inv_run.proofs.Common.{forgotten_counted, set_learnt, is_past_window, is_settled, leader_takes, tick_in, order_row}
+use Rattle.cx_inv_run.proofs.Common.{leader_row, has_no_room, enough, is_counted, live_entries, is_member_of, rows_whole, Member, names}
+use Rattle.cx_inv_run.proofs.Common.{names_grid, Outcome, replied, by_test, either_way, plan, placed_from, promised_by, has_promised}
+use Rattle.cx_inv_run.proofs.Common.{Member-cases, Member-first, Member-second, map-Member, filter-older}
 use Rattle.cx_base.specs.declared.command.Value.TheVariants.{Batch}
 use Rattle.cx_base.specs.declared.event.Order.{Order as OrderOf}
-use Rattle.cx_base.specs.declared.event.Order.TheVariants.{Lead, Change, Collect, Replace}
-use Rattle.cx_base.specs.declared.role.RoleId.{RoleId}
-use Rattle.cx_base.specs.declared.round.Round.{Round}
-use Rattle.cx_base.specs.declared.why.Why.{Why}
+use Rattle.cx_base.specs.declared.event.Order.TheVariants.{Change}
 use Rattle.cx_base.specs.declared.why.Why.TheVariants as why
-use Rattle.cx_base.specs.Grid.{Shape, is_in}
-use Rattle.cx_base.specs.Lists.{below, numbers}
-use Rattle.cx_base.specs.Role.{same_role}
-use Rattle.cx_base.specs.Round.{lead_after, change_after}
-use Rattle.cx_base.specs.Sets.{is_above}
-use Rattle.cx_field.specs.declared.parts.Entry.{Entry}
-use Rattle.cx_letter.specs.Letter.{Letter}
-use Rattle.cx_letter.specs.declared.input.Input.{Input}
-use Rattle.cx_letter.specs.declared.input.Input.TheVariants.{Take, Tick, Order}
-use Rattle.cx_letter.specs.declared.kept.Record.{Record}
-use Rattle.cx_letter.specs.declared.message.Msg.{Msg}
 use Rattle.cx_letter.specs.declared.message.Msg.TheVariants as msg
-use Rattle.cx_model.specs.declared.states.Mode.{Mode}
-use Rattle.cx_model.specs.declared.states.Mode.TheVariants.{Idle, Matching, Phase1, Leading}
-use Rattle.cx_model.specs.Collection.{Collection, with_informed, with_forgotten, is_off, is_informing, is_collecting, is_retired}
-use Rattle.cx_model.specs.Facts.{IsProposed}
-use Rattle.cx_model.specs.Leader.{LeaderDurable, LeaderVolatile, leader_after, round_of, is_own, is_changed, is_idle, is_matching}
-use Rattle.cx_model.specs.Leader.{is_promising, is_leading, leads_to, propose_to, begin_in, finish, bypass, matched_by, match_counted}
-use Rattle.cx_model.specs.Leader.{promise_counted, propose_in, held_by, collect_in, informed_in, forgotten_counted, set_learnt}
-use Rattle.cx_model.specs.Leader.{is_past_window, is_settled, leader_takes, tick_in, order_row, leader_row, has_no_room}
-use Rattle.cx_model.specs.Matched.{enough, is_counted, live_entries, is_member_of, rows_whole}
-use Rattle.cx_model.specs.Member.{Member}
-use Rattle.cx_model.specs.Names.{names, names_grid}
-use Rattle.cx_model.specs.Outcome.{Outcome, replied, by_test, either_way}
-use Rattle.cx_model.specs.Plan.{plan, placed_from, promised_by, has_promised}
-use Rattle.cx_inv_run.proofs.Members.{Member-cases, Member-first, Member-second, map-Member, filter-older}
 use Rattle.cx_inv_bypass.specs.Full.{IsFull, FullIn}
 use Rattle.cx_inv_bypass.proofs.Windows.{slots_of, slots-more, slots-from, plan-window, plan-slots}
 

@@ -1,52 +1,20 @@
 -- The word `bypassed` of an event is that of a leader's row, so the event does what the row does.
-use Rattle.std.proofs.Common.{◌≡◌, ◌≤◌, ◌<◌, ℕ, ◌+◌, ◌-◌, Bool, true, false, List, [], ◌∷◌, ◌++◌, map, reverse, Option, Some, None, ap, sym}
-use Rattle.std.proofs.Common.{◌∙◌, subst, refl, inl, inr, arith}
-use Rattle.std.specs.Prelude.{slice_get, length}
-use Rattle.std.proofs.lemmas.Bool.{true≢false}
-use Rattle.std.proofs.lemmas.Option.{same_Some}
-use Rattle.cx_base.specs.declared.cluster.Cluster.{Cluster}
-use Rattle.cx_base.specs.declared.command.Placed.{Placed}
-use Rattle.cx_base.specs.declared.command.Value.{Value}
-use Rattle.cx_base.specs.declared.event.Cut.{Cut}
-use Rattle.cx_base.specs.declared.event.Cut.TheVariants.{Whole, Torn, Kept}
-use Rattle.cx_base.specs.declared.event.Event.{Event}
+use Rattle.cx_inv_run.proofs.Common.{◌≡◌, ◌≤◌, ◌<◌, ℕ, ◌+◌, ◌-◌, Bool, true, false, List, [], ◌∷◌, ◌++◌, map, reverse, Option, Some, None}
+use Rattle.cx_inv_run.proofs.Common.{ap, sym, ◌∙◌, subst, refl, inl, inr, arith, slice_get, length, true≢false, same_Some, Cluster, Placed}
+use Rattle.cx_inv_run.proofs.Common.{Value, Cut, Whole, Torn, Kept, Event, Replace, Kind, RoleId, Round, Shape, below, role, change_after}
+use Rattle.cx_inv_run.proofs.Common.{Entry, Token, Letter, letter, Act, Give, Snap, Stop, Wake, Input, Record, Msg, IsProposed, heard_by}
+use Rattle.cx_inv_run.proofs.Common.{finish_with, finish_by, LeaderDurable, LeaderVolatile, leader_rules, leader_row, round_of, bypass}
+use Rattle.cx_inv_run.proofs.Common.{leads_to, propose_to, Member, names_role, Outcome, either_way, OfEveryRun, is_stale, request, Turn}
+use Rattle.cx_inv_run.proofs.Common.{turn, turn_with, whole_turn, still, World, change, changed, come, ask, nothing, act_at, act_of}
+use Rattle.cx_inv_run.proofs.Common.{durable_part, run, State, LeaderIn, leader_volatile, HoldsIn, durable_by_time, state_own, Member-cases}
+use Rattle.cx_inv_run.proofs.Common.{Member-first, Member-map, map-Member, Member-numbers, named, only_leader, run_cluster}
 use Rattle.cx_base.specs.declared.event.Event.TheVariants as event
-use Rattle.cx_base.specs.declared.event.Order.TheVariants.{Replace}
-use Rattle.cx_base.specs.declared.role.Kind.{Kind}
 use Rattle.cx_base.specs.declared.role.Kind.TheVariants as kind
-use Rattle.cx_base.specs.declared.role.RoleId.{RoleId}
-use Rattle.cx_base.specs.declared.round.Round.{Round}
 use Rattle.cx_base.specs.declared.why.Why.TheVariants as why
-use Rattle.cx_base.specs.Grid.{Shape}
-use Rattle.cx_base.specs.Lists.{below}
-use Rattle.cx_base.specs.Role.{role}
-use Rattle.cx_base.specs.Round.{change_after}
-use Rattle.cx_field.specs.declared.parts.Entry.{Entry}
-use Rattle.cx_field.specs.declared.parts.Token.{Token}
-use Rattle.cx_letter.specs.Letter.{Letter, letter}
-use Rattle.cx_letter.specs.declared.input.Act.{Act}
-use Rattle.cx_letter.specs.declared.input.Act.TheVariants.{Give, Snap, Stop, Wake}
-use Rattle.cx_letter.specs.declared.input.Input.{Input}
 use Rattle.cx_letter.specs.declared.input.Input.TheVariants as input
-use Rattle.cx_letter.specs.declared.kept.Record.{Record}
-use Rattle.cx_letter.specs.declared.message.Msg.{Msg}
 use Rattle.cx_letter.specs.declared.message.Msg.TheVariants as msg
-use Rattle.cx_model.specs.Facts.{IsProposed}
-use Rattle.cx_model.specs.Heard.{heard_by}
-use Rattle.cx_model.specs.History.{finish_with, finish_by}
-use Rattle.cx_model.specs.Leader.{LeaderDurable, LeaderVolatile, leader_rules, leader_row, round_of, bypass, leads_to, propose_to}
-use Rattle.cx_model.specs.Member.{Member}
-use Rattle.cx_model.specs.Names.{names_role}
-use Rattle.cx_model.specs.Outcome.{Outcome, either_way}
-use Rattle.cx_model.specs.Promises.{OfEveryRun}
-use Rattle.cx_model.specs.Request.{is_stale, request}
-use Rattle.cx_model.specs.Turn.{Turn, turn, turn_with, whole_turn, still}
-use Rattle.cx_model.specs.World.{World, Change, change, changed, come, ask, nothing, act_at, act_of, durable_part, run}
-use Rattle.cx_inv_run.specs.States.{State, LeaderIn, leader_volatile, HoldsIn}
-use Rattle.cx_inv_run.proofs.Histories.{durable_by_time, state_own}
-use Rattle.cx_inv_run.proofs.Members.{Member-cases, Member-first, Member-map, map-Member, Member-numbers, numbers-Member}
-use Rattle.cx_inv_run.proofs.Sends.{named}
-use Rattle.cx_inv_run.proofs.Steps.{only_leader, run_cluster}
+use Rattle.cx_model.specs.World.{Change}
+use Rattle.cx_inv_run.proofs.Members.{numbers-Member}
 use Rattle.cx_inv_bypass.specs.Bypassed.{Bypasses, GoesOn, BypassedRounds}
 use Rattle.cx_inv_bypass.specs.Full.{IsFull, FullIn, FullState, Full}
 use Rattle.cx_inv_bypass.proofs.Keep.{full_runs}

@@ -1,15 +1,7 @@
 -- The slots of a window as numbers: one more at its end, the ones below a bound dropped, and those of the values that a plan places.
-use Rattle.std.proofs.Common.{◌≡◌, ◌≤◌, ◌<◌, ◌+◌, ◌-◌, ℕ, zero, suc, Bool, true, false, cond, List, [], ◌∷◌, ◌++◌, map, filter, max, ap}
-use Rattle.std.proofs.Common.{◌∙◌, refl, inl, inr, arith}
-use Rattle.std.specs.Prelude.{nat_le}
-use Rattle.std.proofs.lemmas.Bool.{cases_Bool}
-use Rattle.std.proofs.lemmas.Bool.Decides.{nat_tests}
-use Rattle.cx_base.specs.declared.command.Placed.{Placed}
-use Rattle.cx_base.specs.declared.command.Value.{Value}
-use Rattle.cx_base.specs.Lists.{numbers}
-use Rattle.cx_field.specs.declared.parts.Vote.{Vote}
-use Rattle.cx_model.specs.declared.states.Promised.{Promised}
-use Rattle.cx_model.specs.Plan.{plan, placed_from, greatest_cw, end_told, votes_told}
+use Rattle.cx_inv_run.proofs.Common.{◌≡◌, ◌≤◌, ◌<◌, ◌+◌, ◌-◌, ℕ, zero, suc, Bool, true, false, cond, List, [], ◌∷◌, ◌++◌, map, filter, max}
+use Rattle.cx_inv_run.proofs.Common.{ap, ◌∙◌, refl, inl, inr, arith, nat_le, cases_Bool, nat_tests, Placed, Value, numbers, Vote, Promised}
+use Rattle.cx_inv_run.proofs.Common.{plan, placed_from, greatest_cw, end_told, votes_told}
 
 abbrev pub slots_of : List Placed → List ℕ
 slots_of ps = map (λ (p : Placed). p.slot) ps

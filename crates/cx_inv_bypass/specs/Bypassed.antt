@@ -1,21 +1,11 @@
 -- What is promised of a leader that goes on with another grid without a first phase, in one run, that of the events `es` over the cluster
 -- `c`. Nothing of it is proved here.
 use Rattle.std.specs.Prelude.{◌≡◌, ℕ, ◌+◌, ◌<◌, ◌≤◌, List, [], ◌∷◌, ◌++◌, length, Some}
-use Rattle.cx_base.specs.declared.cluster.Cluster.{Cluster}
-use Rattle.cx_base.specs.declared.command.Value.{Value}
-use Rattle.cx_base.specs.declared.event.Event.{Event}
+use Rattle.cx_model.specs.Prelude.{Cluster, Value, Event, RoleId, Round, change_after, letter, IsProposed, finish_at, leader_rules}
+use Rattle.cx_model.specs.Prelude.{round_of, Member, World, change, run, durable_part}
 use Rattle.cx_base.specs.declared.role.Kind.TheVariants as kind
-use Rattle.cx_base.specs.declared.role.RoleId.{RoleId}
-use Rattle.cx_base.specs.declared.round.Round.{Round}
 use Rattle.cx_base.specs.declared.why.Why.TheVariants as why
-use Rattle.cx_base.specs.Round.{change_after}
-use Rattle.cx_letter.specs.Letter.{letter}
 use Rattle.cx_letter.specs.declared.message.Msg.TheVariants as msg
-use Rattle.cx_model.specs.Facts.{IsProposed}
-use Rattle.cx_model.specs.History.{finish_at}
-use Rattle.cx_model.specs.Leader.{leader_rules, round_of}
-use Rattle.cx_model.specs.Member.{Member}
-use Rattle.cx_model.specs.World.{World, change, run, durable_part}
 
 -- the step of an event answers `bypassed`, which only a leader's row does, in this round
 pub record Bypasses (w : World) (e : Event) (i : Round) : Type 0 where

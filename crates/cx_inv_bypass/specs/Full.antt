@@ -1,18 +1,10 @@
 -- What is so of the values that a leader remembers, at a moment, while it leads and while it goes on with another grid.
 use Rattle.std.specs.Prelude.{◌≡◌, ℕ, ◌-◌, ◌≤◌, true, map, List, Some}
-use Rattle.cx_base.specs.declared.command.Placed.{Placed}
-use Rattle.cx_base.specs.declared.role.RoleId.{RoleId}
-use Rattle.cx_base.specs.declared.round.Round.{Round}
-use Rattle.cx_base.specs.Lists.{numbers}
-use Rattle.cx_base.specs.Round.{change_after}
-use Rattle.cx_letter.specs.Letter.{Letter}
-use Rattle.cx_letter.specs.declared.input.KeptRecord.{KeptRecord}
+use Rattle.cx_model.specs.Prelude.{Placed, RoleId, Round, numbers, change_after, Letter, KeptRecord, IsProposed, leader_rules, is_changed}
+use Rattle.cx_model.specs.Prelude.{round_of, Member, State, LeaderIn}
 use Rattle.cx_model.specs.declared.states.Mode.{Mode}
 use Rattle.cx_model.specs.declared.states.Mode.TheVariants.{Matching, Leading}
-use Rattle.cx_model.specs.Facts.{IsProposed}
-use Rattle.cx_model.specs.Leader.{leader_rules, is_changed, round_of}
-use Rattle.cx_model.specs.Member.{Member}
-use Rattle.cx_inv_run.specs.States.{State, LeaderIn, durable_of}
+use Rattle.cx_inv_run.specs.States.{durable_of}
 
 -- the values fill the slots from the chosen watermark up to the next one, in order, and each was proposed in this round
 pub record IsFull (sent : List Letter) (i : Round) (cw next : ℕ) (proposed : List Placed) : Type 0 where

@@ -1,29 +1,11 @@
 -- What a role sends in its turn is of its role's kind.
-use Rattle.std.proofs.Common.{◌≡◌, List, Option, subst}
-use Rattle.cx_base.specs.declared.role.Kind.{Kind}
+use Rattle.cx_inv_run.proofs.Common.{◌≡◌, List, Option, subst, Kind, RoleId, Letter, Act, acceptor_rules, batcher_rules, leader_rules}
+use Rattle.cx_inv_run.proofs.Common.{matchmaker_rules, Member, Outcome, proxy_rules, reader_rules, replacer_rules, replica_rules}
+use Rattle.cx_inv_run.proofs.Common.{unbatcher_rules, World, act_of, durable_part, Turn, plain_volatile, batcher_volatile, leader_volatile}
+use Rattle.cx_inv_run.proofs.Common.{proxy_volatile, replica_volatile, reader_volatile, replacer_volatile, IsSender, OfKind, batcher_kinds}
+use Rattle.cx_inv_run.proofs.Common.{proxy_kinds, acceptor_kinds, matchmaker_kinds, replica_kinds, unbatcher_kinds, reader_kinds}
+use Rattle.cx_inv_run.proofs.Common.{leader_kinds, replacer_kinds}
 use Rattle.cx_base.specs.declared.role.Kind.TheVariants as kind
-use Rattle.cx_base.specs.declared.role.RoleId.{RoleId}
-use Rattle.cx_letter.specs.Letter.{Letter}
-use Rattle.cx_letter.specs.declared.input.Act.{Act}
-use Rattle.cx_model.specs.Acceptor.{acceptor_rules}
-use Rattle.cx_model.specs.Batcher.{batcher_rules}
-use Rattle.cx_model.specs.Leader.{leader_rules}
-use Rattle.cx_model.specs.Matchmaker.{matchmaker_rules}
-use Rattle.cx_model.specs.Member.{Member}
-use Rattle.cx_model.specs.Outcome.{Outcome}
-use Rattle.cx_model.specs.Proxy.{proxy_rules}
-use Rattle.cx_model.specs.Reader.{reader_rules}
-use Rattle.cx_model.specs.Replacer.{replacer_rules}
-use Rattle.cx_model.specs.Replica.{replica_rules}
-use Rattle.cx_model.specs.Unbatcher.{unbatcher_rules}
-use Rattle.cx_model.specs.World.{World, act_of, durable_part}
-use Rattle.cx_model.specs.Turn.{Turn}
-use Rattle.cx_model.specs.State.{plain_volatile, batcher_volatile, leader_volatile, proxy_volatile, replica_volatile, reader_volatile}
-use Rattle.cx_model.specs.State.{replacer_volatile}
-use Rattle.cx_inv_run.specs.Kinds.{IsSender, OfKind}
-use Rattle.cx_inv_run.proofs.Senders.{batcher_kinds, proxy_kinds, acceptor_kinds, matchmaker_kinds, replica_kinds, unbatcher_kinds}
-use Rattle.cx_inv_run.proofs.Senders.{reader_kinds}
-use Rattle.cx_inv_run.proofs.LeaderSenders.{leader_kinds, replacer_kinds}
 use Rattle.cx_inv_facts.proofs.Turns.{IsStill, by_turn}
 
 module _ (w : World) (act : Act) (me : RoleId) where

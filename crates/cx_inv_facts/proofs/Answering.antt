@@ -1,53 +1,23 @@
 -- Each step keeps what matchmakers' and acceptors' answers say, so they say it in every run.
-use Rattle.std.proofs.Common.{◌≡◌, ℕ, true, false, ◌&&◌, ◌⊎◌, List, [], ◌∷◌, Option, None, Some, sym, subst, refl, inl, inr, arith}
-use Rattle.std.specs.Prelude.{bytes_eq, if◌then◌else◌, nat_le, nat_lt, length}
-use Rattle.std.specs.List.{list_any}
-use Rattle.std.proofs.lemmas.Bool.{and_parts}
-use Rattle.cx_base.specs.declared.cluster.Cluster.{Cluster}
-use Rattle.cx_base.specs.declared.event.Event.{Event}
+use Rattle.cx_inv_run.proofs.Common.{◌≡◌, ℕ, true, false, ◌&&◌, ◌⊎◌, List, [], ◌∷◌, Option, None, Some, sym, subst, refl, inl, inr, arith}
+use Rattle.cx_inv_run.proofs.Common.{bytes_eq, if◌then◌else◌, nat_le, nat_lt, length, list_any, and_parts, Cluster, Event, Kind, RoleId}
+use Rattle.cx_inv_run.proofs.Common.{Round, is_in, role, same_role, is_before, same_round, no_round, Entry, Letter, Input, KeptRecord}
+use Rattle.cx_inv_run.proofs.Common.{Record, Msg, AcceptorDurable, acceptor_rules, acceptor_takes, acceptor_row, vote_at, is_of_round}
+use Rattle.cx_inv_run.proofs.Common.{leader_rules, MatchmakerDurable, matchmaker_rules, matchmaker_takes, matchmaker_row, entry}
+use Rattle.cx_inv_run.proofs.Common.{entries_before, has_round, is_stopped, is_booted, set_of, in_set, at_work, match_a_row, garbage_a_row}
+use Rattle.cx_inv_run.proofs.Common.{match_read_row, stop_a_row, next_a_row, boot_in, Member, names, Outcome, only_word, by_test}
+use Rattle.cx_inv_run.proofs.Common.{either_way, reader_rules, replacer_rules, replica_rules, request, run, IsSender, OfKind, Lands, Laws}
+use Rattle.cx_inv_run.proofs.Common.{State, BatcherIn, LeaderIn, ProxyIn, ReplicaIn, ReaderIn, ReplacerIn, plain, entry_by, snap_by}
+use Rattle.cx_inv_run.proofs.Common.{with_record, durable_of, HoldsIn, kept_longer, Member-both, Member-one, filter-Member, before_cases}
+use Rattle.cx_inv_run.proofs.Common.{before-both, same_round-true, batcher_kinds, proxy_kinds, replica_kinds, unbatcher_kinds, reader_kinds}
+use Rattle.cx_inv_run.proofs.Common.{leader_kinds, replacer_kinds, always}
+use Rattle.cx_inv_match.specs.Prelude.{Facts, HasMark, HasPromise}
 use Rattle.cx_base.specs.declared.event.Event.TheVariants as event
-use Rattle.cx_base.specs.declared.role.Kind.{Kind}
 use Rattle.cx_base.specs.declared.role.Kind.TheVariants as kind
-use Rattle.cx_base.specs.declared.role.RoleId.{RoleId}
-use Rattle.cx_base.specs.declared.round.Round.{Round}
 use Rattle.cx_base.specs.declared.why.Why.TheVariants as why
-use Rattle.cx_base.specs.Grid.{is_in}
-use Rattle.cx_base.specs.Role.{role, same_role}
-use Rattle.cx_base.specs.Round.{is_before, same_round, no_round}
-use Rattle.cx_field.specs.declared.parts.Entry.{Entry}
-use Rattle.cx_letter.specs.Letter.{Letter}
-use Rattle.cx_letter.specs.declared.input.Input.{Input}
 use Rattle.cx_letter.specs.declared.input.Input.TheVariants as input
-use Rattle.cx_letter.specs.declared.input.KeptRecord.{KeptRecord}
-use Rattle.cx_letter.specs.declared.kept.Record.{Record}
 use Rattle.cx_letter.specs.declared.kept.Record.TheVariants as kept
-use Rattle.cx_letter.specs.declared.message.Msg.{Msg}
 use Rattle.cx_letter.specs.declared.message.Msg.TheVariants as msg
-use Rattle.cx_model.specs.Acceptor.{AcceptorDurable, acceptor_rules, acceptor_takes, acceptor_row, vote_at, is_of_round}
-use Rattle.cx_model.specs.Leader.{leader_rules}
-use Rattle.cx_model.specs.Matchmaker.{MatchmakerDurable, matchmaker_rules, matchmaker_takes, matchmaker_row, entry, entries_before}
-use Rattle.cx_model.specs.Matchmaker.{has_round, is_stopped, is_booted, set_of, in_set, at_work, match_a_row, garbage_a_row, match_read_row}
-use Rattle.cx_model.specs.Matchmaker.{stop_a_row, next_a_row, boot_in}
-use Rattle.cx_model.specs.Member.{Member}
-use Rattle.cx_model.specs.Names.{names}
-use Rattle.cx_model.specs.Outcome.{Outcome, only_word, by_test, either_way}
-use Rattle.cx_model.specs.Reader.{reader_rules}
-use Rattle.cx_model.specs.Replacer.{replacer_rules}
-use Rattle.cx_model.specs.Replica.{replica_rules}
-use Rattle.cx_model.specs.Request.{request}
-use Rattle.cx_model.specs.World.{run}
-use Rattle.cx_inv_run.specs.Kinds.{IsSender, OfKind}
-use Rattle.cx_inv_run.specs.Laws.{Lands, Laws}
-use Rattle.cx_inv_run.specs.States.{State, BatcherIn, LeaderIn, ProxyIn, ReplicaIn, ReaderIn, ReplacerIn, plain, entry_by, snap_by}
-use Rattle.cx_inv_run.specs.States.{with_record, durable_of, HoldsIn}
-use Rattle.cx_inv_run.proofs.Histories.{kept_longer}
-use Rattle.cx_inv_run.proofs.Members.{Member-both, Member-one, filter-Member}
-use Rattle.cx_inv_run.proofs.Rounds.{before_cases, before-both, same_round-true}
-use Rattle.cx_inv_run.proofs.Senders.{batcher_kinds, proxy_kinds, replica_kinds, unbatcher_kinds, reader_kinds}
-use Rattle.cx_inv_run.proofs.LeaderSenders.{leader_kinds, replacer_kinds}
-use Rattle.cx_inv_run.proofs.Steps.{always}
-use Rattle.cx_inv_match.specs.Facts.{Facts}
-use Rattle.cx_inv_match.specs.Words.{HasMark, HasPromise}
 use Rattle.cx_inv_vote.proofs.Steps.{facts_hold}
 use Rattle.cx_inv_facts.specs.Answers.{HasEntry, HasReached, AnswerSays, AnswersSay}
 

@@ -1,50 +1,19 @@
 -- Each step keeps what is so of a round that was finished.
-use Rattle.std.proofs.Common.{◌≡◌, ℕ, ◌≤◌, true, false, ◌⊎◌, List, ◌∷◌, ◌++◌, Option, None, Some, ap, sym, subst, ◌∙◌, refl, inl, inr}
-use Rattle.cx_base.specs.declared.cluster.Cluster.{Cluster}
-use Rattle.cx_base.specs.declared.command.Value.{Value}
-use Rattle.cx_base.specs.declared.event.Event.{Event}
+use Rattle.cx_inv_run.proofs.Common.{◌≡◌, ℕ, ◌≤◌, true, false, ◌⊎◌, List, ◌∷◌, ◌++◌, Option, None, Some, ap, sym, subst, ◌∙◌, refl, inl}
+use Rattle.cx_inv_run.proofs.Common.{inr, Cluster, Value, Event, Kind, RoleId, Round, Shape, role, same_role, is_before, Letter, Input}
+use Rattle.cx_inv_run.proofs.Common.{KeptRecord, Record, Msg, Stage, Off, Informing, Collecting, Retired, acceptor_rules, Collection}
+use Rattle.cx_inv_run.proofs.Common.{IsProposed, IsRetiring, LeaderDurable, LeaderVolatile, leader_rules, leader_row, leader_after}
+use Rattle.cx_inv_run.proofs.Common.{round_of, matchmaker_rules, Member, Outcome, HasKept, IsConfig, reader_rules, replacer_rules}
+use Rattle.cx_inv_run.proofs.Common.{replica_rules, request, IsSender, IsKept, OfKind, Lands, Laws, State, Down, BatcherIn, LeaderIn}
+use Rattle.cx_inv_run.proofs.Common.{ProxyIn, ReplicaIn, ReaderIn, ReplacerIn, plain, fresh_state, set_state, entry_by, snap_by}
+use Rattle.cx_inv_run.proofs.Common.{with_record, durable_of, Given, durable_own, durable_other, set_running, kept_longer, Member-first}
+use Rattle.cx_inv_run.proofs.Common.{Member-one, before-itself, snap_same, batcher_kinds, proxy_kinds, acceptor_kinds, matchmaker_kinds}
+use Rattle.cx_inv_run.proofs.Common.{replica_kinds, unbatcher_kinds, reader_kinds, leader_kinds, replacer_kinds}
+use Rattle.cx_inv_match.specs.Prelude.{InState, IsChosenIn}
 use Rattle.cx_base.specs.declared.event.Event.TheVariants as event
-use Rattle.cx_base.specs.declared.role.Kind.{Kind}
 use Rattle.cx_base.specs.declared.role.Kind.TheVariants as kind
-use Rattle.cx_base.specs.declared.role.RoleId.{RoleId}
-use Rattle.cx_base.specs.declared.round.Round.{Round}
-use Rattle.cx_base.specs.Grid.{Shape}
-use Rattle.cx_base.specs.Role.{role, same_role}
-use Rattle.cx_base.specs.Round.{is_before}
-use Rattle.cx_letter.specs.Letter.{Letter}
-use Rattle.cx_letter.specs.declared.input.Input.{Input}
-use Rattle.cx_letter.specs.declared.input.KeptRecord.{KeptRecord}
-use Rattle.cx_letter.specs.declared.kept.Record.{Record}
 use Rattle.cx_letter.specs.declared.kept.Record.TheVariants as kept
-use Rattle.cx_letter.specs.declared.message.Msg.{Msg}
 use Rattle.cx_letter.specs.declared.message.Msg.TheVariants as msg
-use Rattle.cx_model.specs.declared.states.Stage.{Stage}
-use Rattle.cx_model.specs.declared.states.Stage.TheVariants.{Off, Informing, Collecting, Retired}
-use Rattle.cx_model.specs.Acceptor.{acceptor_rules}
-use Rattle.cx_model.specs.Collection.{Collection}
-use Rattle.cx_model.specs.Facts.{IsProposed, IsRetiring}
-use Rattle.cx_model.specs.Leader.{LeaderDurable, LeaderVolatile, leader_rules, leader_row, leader_after, round_of}
-use Rattle.cx_model.specs.Matchmaker.{matchmaker_rules}
-use Rattle.cx_model.specs.Member.{Member}
-use Rattle.cx_model.specs.Outcome.{Outcome}
-use Rattle.cx_model.specs.Promises.{HasKept, IsConfig}
-use Rattle.cx_model.specs.Reader.{reader_rules}
-use Rattle.cx_model.specs.Replacer.{replacer_rules}
-use Rattle.cx_model.specs.Replica.{replica_rules}
-use Rattle.cx_model.specs.Request.{request}
-use Rattle.cx_inv_run.specs.Kinds.{IsSender, IsKept, OfKind}
-use Rattle.cx_inv_run.specs.Laws.{Lands, Laws}
-use Rattle.cx_inv_run.specs.States.{State, Down, BatcherIn, LeaderIn, ProxyIn, ReplicaIn, ReaderIn, ReplacerIn, plain, fresh_state}
-use Rattle.cx_inv_run.specs.States.{set_state, entry_by, snap_by, with_record, durable_of, Given}
-use Rattle.cx_inv_run.proofs.Histories.{durable_own, durable_other, set_running, kept_longer}
-use Rattle.cx_inv_run.proofs.Members.{Member-first, Member-one}
-use Rattle.cx_inv_run.proofs.Rounds.{before-itself}
-use Rattle.cx_inv_run.proofs.Snaps.{snap_same}
-use Rattle.cx_inv_run.proofs.Senders.{batcher_kinds, proxy_kinds, acceptor_kinds, matchmaker_kinds, replica_kinds, unbatcher_kinds}
-use Rattle.cx_inv_run.proofs.Senders.{reader_kinds}
-use Rattle.cx_inv_run.proofs.LeaderSenders.{leader_kinds, replacer_kinds}
-use Rattle.cx_inv_match.specs.Facts.{InState}
-use Rattle.cx_inv_match.specs.Words.{IsChosenIn}
 use Rattle.cx_inv_vote.proofs.Leaders.{leader_lands}
 use Rattle.cx_inv_vote.proofs.Send.{proposed_cases, retiring_cases}
 use Rattle.cx_inv_facts.specs.Ended.{IsColumnInformed, StageFacts, EndedIn, EndedState, IsEnded, Known, EndedSince}

@@ -1,44 +1,17 @@
 -- In a round that its leader has left nothing more is proposed, so what was known of a run stays known of the longer ones.
-use Rattle.std.proofs.Common.{◌≡◌, ℕ, List, [], ◌∷◌, ◌++◌, reverse, Some, ap, sym, subst, ◌∙◌, refl, inl, inr}
-use Rattle.std.proofs.lemmas.List.{reverse-append}
-use Rattle.cx_base.specs.declared.cluster.Cluster.{Cluster}
-use Rattle.cx_base.specs.declared.command.Value.{Value}
-use Rattle.cx_base.specs.declared.event.Event.{Event}
+use Rattle.cx_inv_run.proofs.Common.{◌≡◌, ℕ, List, [], ◌∷◌, ◌++◌, reverse, Some, ap, sym, subst, ◌∙◌, refl, inl, inr, reverse-append}
+use Rattle.cx_inv_run.proofs.Common.{Cluster, Value, Event, RoleId, Round, role, Entry, Letter, Input, KeptRecord, acceptor_rules}
+use Rattle.cx_inv_run.proofs.Common.{IsProposed, LeaderDurable, LeaderVolatile, leader_rules, leader_row, matchmaker_rules, Member, Outcome}
+use Rattle.cx_inv_run.proofs.Common.{HasKept, reader_rules, replacer_rules, replica_rules, request, World, run, OfKind, Lands, Laws}
+use Rattle.cx_inv_run.proofs.Common.{HoldsAlong, State, BatcherIn, LeaderIn, ProxyIn, ReplicaIn, ReaderIn, ReplacerIn, plain, durable_of}
+use Rattle.cx_inv_run.proofs.Common.{HoldsIn, kinds_hold, Member-second, before-both, batcher_kinds, proxy_kinds, acceptor_kinds}
+use Rattle.cx_inv_run.proofs.Common.{matchmaker_kinds, replica_kinds, unbatcher_kinds, reader_kinds, replacer_kinds, run_append}
+use Rattle.cx_inv_run.proofs.Common.{run_cluster, run_from_keeps, all_allowed}
+use Rattle.cx_inv_match.specs.Prelude.{IsLastRound, IsLeft}
 use Rattle.cx_base.specs.declared.event.Event.TheVariants as event
 use Rattle.cx_base.specs.declared.role.Kind.TheVariants as kind
-use Rattle.cx_base.specs.declared.role.RoleId.{RoleId}
-use Rattle.cx_base.specs.declared.round.Round.{Round}
-use Rattle.cx_base.specs.Role.{role}
-use Rattle.cx_field.specs.declared.parts.Entry.{Entry}
-use Rattle.cx_letter.specs.Letter.{Letter}
-use Rattle.cx_letter.specs.declared.input.Input.{Input}
-use Rattle.cx_letter.specs.declared.input.KeptRecord.{KeptRecord}
 use Rattle.cx_letter.specs.declared.kept.Record.TheVariants as kept
 use Rattle.cx_letter.specs.declared.message.Msg.TheVariants as msg
-use Rattle.cx_model.specs.Acceptor.{acceptor_rules}
-use Rattle.cx_model.specs.Facts.{IsProposed}
-use Rattle.cx_model.specs.Leader.{LeaderDurable, LeaderVolatile, leader_rules, leader_row}
-use Rattle.cx_model.specs.Matchmaker.{matchmaker_rules}
-use Rattle.cx_model.specs.Member.{Member}
-use Rattle.cx_model.specs.Outcome.{Outcome}
-use Rattle.cx_model.specs.Promises.{HasKept}
-use Rattle.cx_model.specs.Reader.{reader_rules}
-use Rattle.cx_model.specs.Replacer.{replacer_rules}
-use Rattle.cx_model.specs.Replica.{replica_rules}
-use Rattle.cx_model.specs.Request.{request}
-use Rattle.cx_model.specs.World.{World, run}
-use Rattle.cx_inv_run.specs.Kinds.{OfKind}
-use Rattle.cx_inv_run.specs.Laws.{Lands, Laws, HoldsAlong}
-use Rattle.cx_inv_run.specs.States.{State, BatcherIn, LeaderIn, ProxyIn, ReplicaIn, ReaderIn, ReplacerIn, plain, durable_of, HoldsIn}
-use Rattle.cx_inv_run.proofs.KindLaws.{kinds_hold}
-use Rattle.cx_inv_run.proofs.Members.{Member-second}
-use Rattle.cx_inv_run.proofs.Rounds.{before-both}
-use Rattle.cx_inv_run.proofs.Senders.{batcher_kinds, proxy_kinds, acceptor_kinds, matchmaker_kinds, replica_kinds, unbatcher_kinds}
-use Rattle.cx_inv_run.proofs.Senders.{reader_kinds}
-use Rattle.cx_inv_run.proofs.LeaderSenders.{replacer_kinds}
-use Rattle.cx_inv_run.proofs.Steps.{run_append, run_cluster, run_from_keeps, all_allowed}
-use Rattle.cx_inv_match.specs.Facts.{IsLastRound}
-use Rattle.cx_inv_match.specs.Words.{IsLeft}
 use Rattle.cx_inv_match.proofs.Grow.{Grows}
 use Rattle.cx_inv_vote.proofs.Send.{proposed_cases}
 use Rattle.cx_inv_vote.proofs.Steps.{facts_hold}

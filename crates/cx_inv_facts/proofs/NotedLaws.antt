@@ -1,38 +1,14 @@
 -- Each step leaves what a role notes with the datagram that it came in; so it is in every run, and datagrams and records are in this order.
-use Rattle.std.proofs.Common.{◌≡◌, ℕ, true, false, List, [], ◌∷◌, ◌++◌, reverse, Option, None, Some, ap, sym, subst, refl, inl, inr}
-use Rattle.cx_base.specs.declared.cluster.Cluster.{Cluster}
-use Rattle.cx_base.specs.declared.event.Event.{Event}
-use Rattle.cx_base.specs.declared.role.Kind.{Kind}
+use Rattle.cx_inv_run.proofs.Common.{◌≡◌, ℕ, true, false, List, [], ◌∷◌, ◌++◌, reverse, Option, None, Some, ap, sym, subst, refl, inl, inr}
+use Rattle.cx_inv_run.proofs.Common.{Cluster, Event, Kind, RoleId, Round, Shape, role, same_role, same_round, Entry, Letter, Input}
+use Rattle.cx_inv_run.proofs.Common.{KeptRecord, Record, HasRound, LeaderDurable, LeaderVolatile, leader_rules, leader_row, round_of, entry}
+use Rattle.cx_inv_run.proofs.Common.{Member, Outcome, HasKept, IsConfig, ProxyVolatile, proxy_row, request, World, run, records_of, Lands}
+use Rattle.cx_inv_run.proofs.Common.{Laws, State, Down, BatcherIn, LeaderIn, ProxyIn, ReplicaIn, ReaderIn, ReplacerIn, plain, fresh_state}
+use Rattle.cx_inv_run.proofs.Common.{set_state, snap_by, with_record, durable_of, Given, HoldsIn, durable_by_time, durable_other}
+use Rattle.cx_inv_run.proofs.Common.{set_running, kinds_hold, Member-first, any-Member, same_round-true, snap_same, always}
 use Rattle.cx_base.specs.declared.role.Kind.TheVariants as kind
-use Rattle.cx_base.specs.declared.role.RoleId.{RoleId}
-use Rattle.cx_base.specs.declared.round.Round.{Round}
-use Rattle.cx_base.specs.Grid.{Shape}
-use Rattle.cx_base.specs.Role.{role, same_role}
-use Rattle.cx_base.specs.Round.{same_round}
-use Rattle.cx_field.specs.declared.parts.Entry.{Entry}
-use Rattle.cx_letter.specs.Letter.{Letter}
-use Rattle.cx_letter.specs.declared.input.Input.{Input}
-use Rattle.cx_letter.specs.declared.input.KeptRecord.{KeptRecord}
-use Rattle.cx_letter.specs.declared.kept.Record.{Record}
 use Rattle.cx_letter.specs.declared.kept.Record.TheVariants as kept
-use Rattle.cx_model.specs.Facts.{HasRound, has_recorded, is_round_in}
-use Rattle.cx_model.specs.Leader.{LeaderDurable, LeaderVolatile, leader_rules, leader_row, round_of}
-use Rattle.cx_model.specs.Matchmaker.{entry}
-use Rattle.cx_model.specs.Member.{Member}
-use Rattle.cx_model.specs.Outcome.{Outcome}
-use Rattle.cx_model.specs.Promises.{HasKept, IsConfig}
-use Rattle.cx_model.specs.Proxy.{ProxyVolatile, proxy_row}
-use Rattle.cx_model.specs.Request.{request}
-use Rattle.cx_model.specs.World.{World, run, records_of}
-use Rattle.cx_inv_run.specs.Laws.{Lands, Laws}
-use Rattle.cx_inv_run.specs.States.{State, Down, BatcherIn, LeaderIn, ProxyIn, ReplicaIn, ReaderIn, ReplacerIn, plain, fresh_state}
-use Rattle.cx_inv_run.specs.States.{set_state, snap_by, with_record, durable_of, Given, HoldsIn}
-use Rattle.cx_inv_run.proofs.Histories.{durable_by_time, durable_other, set_running}
-use Rattle.cx_inv_run.proofs.KindLaws.{kinds_hold}
-use Rattle.cx_inv_run.proofs.Members.{Member-first, any-Member}
-use Rattle.cx_inv_run.proofs.Rounds.{same_round-true}
-use Rattle.cx_inv_run.proofs.Snaps.{snap_same}
-use Rattle.cx_inv_run.proofs.Steps.{always}
+use Rattle.cx_model.specs.Facts.{has_recorded, is_round_in}
 use Rattle.cx_inv_match.specs.Facts.{Facts, InState}
 use Rattle.cx_inv_vote.proofs.Steps.{facts_hold}
 use Rattle.cx_inv_facts.specs.Ended.{Known}

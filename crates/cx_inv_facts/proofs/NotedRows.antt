@@ -1,58 +1,28 @@
 -- Each row of a leader and of a proxy leader leaves what it notes with a datagram that it came in.
-use Rattle.std.proofs.Common.{◌≡◌, ℕ, zero, suc, ◌+◌, ◌≤◌, true, false, not, ◌&&◌, ◌||◌, ◌==◌, ◌⊎◌, List, [], ◌∷◌, ◌++◌, filter, max}
-use Rattle.std.proofs.Common.{Option, None, Some, ap, sym, subst, ◌∙◌, refl, inl, inr, arith}
-use Rattle.std.specs.Prelude.{nat_le, nat_lt, length, slice_index_or, slice_set}
-use Rattle.std.proofs.lemmas.Bool.{true≢false, and_parts, not-false, leb-true, ltb-false, cases_Bool}
-use Rattle.std.proofs.lemmas.Bool.Decides.{nat_tests}
-use Rattle.cx_base.specs.declared.cluster.Cluster.{Cluster}
-use Rattle.cx_base.specs.declared.command.Command.{Command}
-use Rattle.cx_base.specs.declared.command.Placed.{Placed}
-use Rattle.cx_base.specs.declared.command.Value.{Value}
-use Rattle.cx_base.specs.declared.command.Value.TheVariants.{Noop, Batch}
+use Rattle.cx_inv_run.proofs.Common.{◌≡◌, ℕ, zero, suc, ◌+◌, ◌≤◌, true, false, not, ◌&&◌, ◌||◌, ◌==◌, ◌⊎◌, List, [], ◌∷◌, ◌++◌, filter, max}
+use Rattle.cx_inv_run.proofs.Common.{Option, None, Some, ap, sym, subst, ◌∙◌, refl, inl, inr, arith, nat_le, nat_lt, length, slice_index_or}
+use Rattle.cx_inv_run.proofs.Common.{slice_set, true≢false, and_parts, not-false, leb-true, ltb-false, cases_Bool, nat_tests, Cluster}
+use Rattle.cx_inv_run.proofs.Common.{Command, Placed, Value, Noop, Lead, Collect, Replace, RoleId, Round, Why, Shape, is_in, role}
+use Rattle.cx_inv_run.proofs.Common.{same_role, is_before, same_round, no_round, lead_after, change_after, is_above, Entry, Vote}
+use Rattle.cx_inv_run.proofs.Common.{column_whole, with_mark, Letter, letter, Input, Take, Tick, Order, KeptRecord, Msg, MatchAnswer, Mode}
+use Rattle.cx_inv_run.proofs.Common.{Idle, Matching, Phase1, Leading, Pending, Promised, Collecting, Retired, Collection, collection_from}
+use Rattle.cx_inv_run.proofs.Common.{with_informed, with_forgotten, is_off, is_informing, is_collecting, is_retired, LeaderWasTold}
+use Rattle.cx_inv_run.proofs.Common.{LeaderDurable, LeaderVolatile, round_of, is_own, is_idle, is_matching, is_promising, is_leading}
+use Rattle.cx_inv_run.proofs.Common.{begin_in, finish, is_changed, matched_by, match_counted, promise_counted, with_seen, propose_in}
+use Rattle.cx_inv_run.proofs.Common.{collect_in, informed_counted, informed_in, forgotten_counted, is_past_window, is_settled}
+use Rattle.cx_inv_run.proofs.Common.{count_reaching, greatest_of, held_by, raised_to, set_learnt, leader_takes, tick_in, order_row}
+use Rattle.cx_inv_run.proofs.Common.{leader_row, has_no_room, enough, is_counted, live_entries, is_member_of, rows_whole, Member, names}
+use Rattle.cx_inv_run.proofs.Common.{names_grid, Outcome, only_word, replied, by_test, either_way, promised_by, has_promised, votes_told}
+use Rattle.cx_inv_run.proofs.Common.{greatest_cw, best_vote, voted_value, plan, placed_from, ProxyVolatile, pending_at, propose_over}
+use Rattle.cx_inv_run.proofs.Common.{vote_for, proxy_takes, proxy_tick, proxy_row, Kinds, State, Given, Member-cases, Member-one}
+use Rattle.cx_inv_run.proofs.Common.{Member-filter, Member-is_in, same_round-true}
+use Rattle.cx_base.specs.declared.command.Value.TheVariants.{Batch}
 use Rattle.cx_base.specs.declared.event.Order.{Order as OrderOf}
-use Rattle.cx_base.specs.declared.event.Order.TheVariants.{Lead, Change, Collect, Replace}
+use Rattle.cx_base.specs.declared.event.Order.TheVariants.{Change}
 use Rattle.cx_base.specs.declared.role.Kind.TheVariants as kind
-use Rattle.cx_base.specs.declared.role.RoleId.{RoleId}
-use Rattle.cx_base.specs.declared.round.Round.{Round}
-use Rattle.cx_base.specs.declared.why.Why.{Why}
 use Rattle.cx_base.specs.declared.why.Why.TheVariants as why
-use Rattle.cx_base.specs.Grid.{Shape, is_in}
-use Rattle.cx_base.specs.Role.{role, same_role}
-use Rattle.cx_base.specs.Round.{is_before, same_round, no_round, lead_after, change_after}
-use Rattle.cx_base.specs.Sets.{is_above}
-use Rattle.cx_field.specs.declared.parts.Entry.{Entry}
-use Rattle.cx_field.specs.declared.parts.Vote.{Vote}
-use Rattle.cx_grid.specs.Quorum.{column_whole, with_mark}
-use Rattle.cx_letter.specs.Letter.{Letter, letter}
-use Rattle.cx_letter.specs.declared.input.Input.{Input}
-use Rattle.cx_letter.specs.declared.input.Input.TheVariants.{Take, Tick, Order}
-use Rattle.cx_letter.specs.declared.input.KeptRecord.{KeptRecord}
-use Rattle.cx_letter.specs.declared.message.Msg.{Msg}
 use Rattle.cx_letter.specs.declared.message.Msg.TheVariants as msg
-use Rattle.cx_model.specs.declared.states.MatchAnswer.{MatchAnswer}
-use Rattle.cx_model.specs.declared.states.Mode.{Mode}
-use Rattle.cx_model.specs.declared.states.Mode.TheVariants.{Idle, Matching, Phase1, Leading}
-use Rattle.cx_model.specs.declared.states.Pending.{Pending}
-use Rattle.cx_model.specs.declared.states.Promised.{Promised}
-use Rattle.cx_model.specs.declared.states.Stage.TheVariants.{Collecting, Retired}
-use Rattle.cx_model.specs.Collection.{Collection, collection_from, with_informed, with_forgotten, is_off, is_informing, is_collecting}
-use Rattle.cx_model.specs.Collection.{is_retired}
-use Rattle.cx_model.specs.Facts.{LeaderWasTold}
-use Rattle.cx_model.specs.Leader.{LeaderDurable, LeaderVolatile, round_of, is_own, is_idle, is_matching, is_promising, is_leading, begin_in}
-use Rattle.cx_model.specs.Leader.{finish, is_changed, matched_by, match_counted, promise_counted, with_seen, propose_in, collect_in}
-use Rattle.cx_model.specs.Leader.{informed_counted, informed_in, forgotten_counted, is_past_window, is_settled, count_reaching, greatest_of}
-use Rattle.cx_model.specs.Leader.{held_by, raised_to, set_learnt, leader_takes, tick_in, order_row, leader_row, has_no_room}
-use Rattle.cx_model.specs.Matched.{enough, is_counted, live_entries, is_member_of, rows_whole}
-use Rattle.cx_model.specs.Member.{Member}
-use Rattle.cx_model.specs.Names.{names, names_grid}
-use Rattle.cx_model.specs.Outcome.{Outcome, only_word, replied, by_test, either_way}
-use Rattle.cx_model.specs.Plan.{promised_by, has_promised, votes_told, greatest_cw, best_vote, voted_value, plan, placed_from}
-use Rattle.cx_model.specs.Proxy.{ProxyVolatile, pending_at, propose_over, vote_for, proxy_takes, proxy_tick, proxy_row}
 use Rattle.cx_model.specs.Proxy as proxy
-use Rattle.cx_inv_run.specs.Kinds.{Kinds}
-use Rattle.cx_inv_run.specs.States.{State, Given}
-use Rattle.cx_inv_run.proofs.Members.{Member-cases, Member-one, Member-filter, Member-is_in}
-use Rattle.cx_inv_run.proofs.Rounds.{same_round-true}
 use Rattle.cx_inv_match.specs.Facts.{AreOnce}
 use Rattle.cx_inv_vote.proofs.Moves.{is_informing-stage, is_collecting-stage}
 use Rattle.cx_inv_vote.proofs.Searches.{mark-cases, votes_from, Greatest, best_is_greatest, placed_at}

@@ -1,26 +1,10 @@
 -- Each step keeps the records in order, so they are in every run.
-use Rattle.std.proofs.Common.{◌≡◌, List, ◌∷◌, Option, None, Some, subst, sym, ◌∙◌, refl}
-use Rattle.cx_base.specs.declared.cluster.Cluster.{Cluster}
-use Rattle.cx_base.specs.declared.event.Event.{Event}
+use Rattle.cx_inv_run.proofs.Common.{◌≡◌, List, ◌∷◌, Option, None, Some, subst, sym, ◌∙◌, refl, Cluster, Event, RoleId, role, Letter}
+use Rattle.cx_inv_run.proofs.Common.{KeptRecord, Written, Record, Member, Outcome, reader_rules, replica_rules, run, OfKind, Lands, Laws}
+use Rattle.cx_inv_run.proofs.Common.{State, BatcherIn, LeaderIn, ProxyIn, ReplicaIn, ReaderIn, ReplacerIn, plain, entry_by, with_record}
+use Rattle.cx_inv_run.proofs.Common.{durable_of, HoldsIn, batcher_kinds, proxy_kinds, replica_kinds, unbatcher_kinds, reader_kinds, always}
 use Rattle.cx_base.specs.declared.role.Kind.TheVariants as kind
-use Rattle.cx_base.specs.declared.role.RoleId.{RoleId}
-use Rattle.cx_base.specs.Role.{role}
-use Rattle.cx_letter.specs.Letter.{Letter}
-use Rattle.cx_letter.specs.declared.input.KeptRecord.{KeptRecord}
-use Rattle.cx_letter.specs.declared.input.Written.{Written}
 use Rattle.cx_letter.specs.declared.input.Written.TheVariants as written
-use Rattle.cx_letter.specs.declared.kept.Record.{Record}
-use Rattle.cx_model.specs.Member.{Member}
-use Rattle.cx_model.specs.Outcome.{Outcome}
-use Rattle.cx_model.specs.Reader.{reader_rules}
-use Rattle.cx_model.specs.Replica.{replica_rules}
-use Rattle.cx_model.specs.World.{run}
-use Rattle.cx_inv_run.specs.Kinds.{OfKind}
-use Rattle.cx_inv_run.specs.Laws.{Lands, Laws}
-use Rattle.cx_inv_run.specs.States.{State, BatcherIn, LeaderIn, ProxyIn, ReplicaIn, ReaderIn, ReplacerIn, plain, entry_by, with_record}
-use Rattle.cx_inv_run.specs.States.{durable_of, HoldsIn}
-use Rattle.cx_inv_run.proofs.Senders.{batcher_kinds, proxy_kinds, replica_kinds, unbatcher_kinds, reader_kinds}
-use Rattle.cx_inv_run.proofs.Steps.{always}
 use Rattle.cx_inv_match.specs.Facts.{Facts}
 use Rattle.cx_inv_vote.proofs.Steps.{facts_hold}
 use Rattle.cx_inv_facts.specs.Order.{Each, IsLaterChange, LaterOfOne, Ordered}

@@ -1,35 +1,12 @@
 -- Each round that was begun is a real one.
-use Rattle.std.proofs.Common.{◌≡◌, true, List, ◌∷◌, Option, None, Some, sym, subst, ◌∙◌, refl, inl, inr}
-use Rattle.cx_base.specs.declared.cluster.Cluster.{Cluster}
-use Rattle.cx_base.specs.declared.event.Event.{Event}
-use Rattle.cx_base.specs.declared.role.Kind.{Kind}
+use Rattle.cx_inv_run.proofs.Common.{◌≡◌, true, List, ◌∷◌, Option, None, Some, sym, subst, ◌∙◌, refl, inl, inr, Cluster, Event, Kind}
+use Rattle.cx_inv_run.proofs.Common.{RoleId, Round, Shape, role, is_before, no_round, Letter, KeptRecord, Record, acceptor_rules}
+use Rattle.cx_inv_run.proofs.Common.{matchmaker_rules, Outcome, HasKept, reader_rules, replacer_rules, replica_rules, run, IsKept, OfKind}
+use Rattle.cx_inv_run.proofs.Common.{Lands, Laws, State, BatcherIn, LeaderIn, ProxyIn, ReplicaIn, ReaderIn, ReplacerIn, plain, entry_by}
+use Rattle.cx_inv_run.proofs.Common.{with_record, durable_of, HoldsIn, kept_cases, no_snap, batcher_kinds, proxy_kinds, acceptor_kinds}
+use Rattle.cx_inv_run.proofs.Common.{matchmaker_kinds, replica_kinds, unbatcher_kinds, reader_kinds, replacer_kinds, always}
 use Rattle.cx_base.specs.declared.role.Kind.TheVariants as kind
-use Rattle.cx_base.specs.declared.role.RoleId.{RoleId}
-use Rattle.cx_base.specs.declared.round.Round.{Round}
-use Rattle.cx_base.specs.Grid.{Shape}
-use Rattle.cx_base.specs.Role.{role}
-use Rattle.cx_base.specs.Round.{is_before, no_round}
-use Rattle.cx_letter.specs.Letter.{Letter}
-use Rattle.cx_letter.specs.declared.input.KeptRecord.{KeptRecord}
-use Rattle.cx_letter.specs.declared.kept.Record.{Record}
 use Rattle.cx_letter.specs.declared.kept.Record.TheVariants as kept
-use Rattle.cx_model.specs.Acceptor.{acceptor_rules}
-use Rattle.cx_model.specs.Matchmaker.{matchmaker_rules}
-use Rattle.cx_model.specs.Outcome.{Outcome}
-use Rattle.cx_model.specs.Promises.{HasKept}
-use Rattle.cx_model.specs.Reader.{reader_rules}
-use Rattle.cx_model.specs.Replacer.{replacer_rules}
-use Rattle.cx_model.specs.Replica.{replica_rules}
-use Rattle.cx_model.specs.World.{run}
-use Rattle.cx_inv_run.specs.Kinds.{IsKept, OfKind}
-use Rattle.cx_inv_run.specs.Laws.{Lands, Laws}
-use Rattle.cx_inv_run.specs.States.{State, BatcherIn, LeaderIn, ProxyIn, ReplicaIn, ReaderIn, ReplacerIn, plain, entry_by, with_record}
-use Rattle.cx_inv_run.specs.States.{durable_of, HoldsIn}
-use Rattle.cx_inv_run.proofs.Histories.{kept_cases, no_snap}
-use Rattle.cx_inv_run.proofs.Senders.{batcher_kinds, proxy_kinds, acceptor_kinds, matchmaker_kinds, replica_kinds, unbatcher_kinds}
-use Rattle.cx_inv_run.proofs.Senders.{reader_kinds}
-use Rattle.cx_inv_run.proofs.LeaderSenders.{replacer_kinds}
-use Rattle.cx_inv_run.proofs.Steps.{always}
 use Rattle.cx_inv_match.specs.Facts.{Facts}
 use Rattle.cx_inv_vote.proofs.Steps.{facts_hold}
 use Rattle.cx_inv_facts.proofs.LeaderRows.{leader_next}

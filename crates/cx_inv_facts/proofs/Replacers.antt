@@ -1,35 +1,18 @@
 -- What a replacer's rows keep is a ballot above all that it began before.
-use Rattle.std.proofs.Common.{◌≡◌, ℕ, true, not, ◌&&◌, ◌||◌, List, Option, None, Some, refl}
-use Rattle.std.specs.Prelude.{bytes_eq, nat_lt, length}
-use Rattle.cx_base.specs.declared.cluster.Cluster.{Cluster}
+use Rattle.cx_inv_run.proofs.Common.{◌≡◌, ℕ, true, not, ◌&&◌, ◌||◌, List, Option, None, Some, refl, bytes_eq, nat_lt, length, Cluster, Lead}
+use Rattle.cx_inv_run.proofs.Common.{Collect, Replace, RoleId, Round, is_in, role, same_role, is_before, same_round, lead_after, is_above}
+use Rattle.cx_inv_run.proofs.Common.{with_mark, Letter, Input, Take, Tick, Order, KeptRecord, Msg, Replacing, Stopping, Deciding, Booting}
+use Rattle.cx_inv_run.proofs.Common.{enough, first_set, names, names_set, Outcome, either_way, HasKept, ReplacerDurable, ReplacerVolatile}
+use Rattle.cx_inv_run.proofs.Common.{replacer_rules, is_resting, is_stopping, is_deciding, is_booting, has_halted, joined_entries}
+use Rattle.cx_inv_run.proofs.Common.{halt_counted, next_counted, replacer_takes, replacer_orders, replacer_row, State, durable_of}
+use Rattle.cx_inv_run.proofs.Common.{before-from_at_most}
 use Rattle.cx_base.specs.declared.event.Order.{Order as OrderOf}
-use Rattle.cx_base.specs.declared.event.Order.TheVariants.{Lead, Change, Collect, Replace}
+use Rattle.cx_base.specs.declared.event.Order.TheVariants.{Change}
 use Rattle.cx_base.specs.declared.role.Kind.TheVariants as kind
-use Rattle.cx_base.specs.declared.role.RoleId.{RoleId}
-use Rattle.cx_base.specs.declared.round.Round.{Round}
-use Rattle.cx_base.specs.Grid.{is_in}
-use Rattle.cx_base.specs.Role.{role, same_role}
-use Rattle.cx_base.specs.Round.{is_before, same_round, lead_after}
-use Rattle.cx_base.specs.Sets.{is_above}
-use Rattle.cx_grid.specs.Quorum.{with_mark}
-use Rattle.cx_letter.specs.Letter.{Letter}
-use Rattle.cx_letter.specs.declared.input.Input.{Input}
-use Rattle.cx_letter.specs.declared.input.Input.TheVariants.{Take, Tick, Order}
-use Rattle.cx_letter.specs.declared.input.KeptRecord.{KeptRecord}
 use Rattle.cx_letter.specs.declared.kept.Record.TheVariants as kept
-use Rattle.cx_letter.specs.declared.message.Msg.{Msg}
 use Rattle.cx_letter.specs.declared.message.Msg.TheVariants as msg
-use Rattle.cx_model.specs.declared.states.Replacing.{Replacing}
-use Rattle.cx_model.specs.declared.states.Replacing.TheVariants.{Idle, Stopping, Deciding, Booting}
-use Rattle.cx_model.specs.Matched.{enough, first_set}
-use Rattle.cx_model.specs.Names.{names, names_set}
-use Rattle.cx_model.specs.Outcome.{Outcome, either_way}
-use Rattle.cx_model.specs.Promises.{HasKept}
-use Rattle.cx_model.specs.Replacer.{ReplacerDurable, ReplacerVolatile, replacer_rules, is_resting, is_stopping, is_deciding, is_booting}
-use Rattle.cx_model.specs.Replacer.{has_halted, joined_entries, begin_in, halt_counted, next_counted, boot_counted, replacer_takes, tick_in}
-use Rattle.cx_model.specs.Replacer.{replacer_orders, replacer_row}
-use Rattle.cx_inv_run.specs.States.{State, durable_of}
-use Rattle.cx_inv_run.proofs.Rounds.{before-from_at_most}
+use Rattle.cx_model.specs.declared.states.Replacing.TheVariants.{Idle}
+use Rattle.cx_model.specs.Replacer.{begin_in, boot_counted, tick_in}
 use Rattle.cx_inv_match.specs.Facts.{Facts}
 use Rattle.cx_inv_facts.proofs.Next.{AllNext, lead_after-above}
 

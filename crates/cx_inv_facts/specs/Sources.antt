@@ -1,32 +1,12 @@
 -- Where what a running leader or proxy leader notes came from, and which record and which datagram come in which order: beside what
 -- cx_model's Facts say. Nothing of it is proved here.
 use Rattle.std.specs.Prelude.{◌≡◌, ◌⊎◌, ℕ, ◌≤◌, true, List, length}
-use Rattle.cx_base.specs.declared.cluster.Cluster.{Cluster}
-use Rattle.cx_base.specs.declared.command.Command.{Command}
-use Rattle.cx_base.specs.declared.command.Placed.{Placed}
-use Rattle.cx_base.specs.declared.command.Value.{Value}
-use Rattle.cx_base.specs.declared.command.Value.TheVariants.{Noop, Batch}
-use Rattle.cx_base.specs.declared.event.Event.{Event}
+use Rattle.cx_model.specs.Prelude.{Cluster, Command, Placed, Value, Noop, Event, RoleId, Round, Shape, role, no_round, NackReason, Vote}
+use Rattle.cx_model.specs.Prelude.{Letter, letter, Msg, is_retired, HasRound, IsFinished, has_recorded, round_in, LeaderVolatile}
+use Rattle.cx_model.specs.Prelude.{count_reaching, enough, Member, IsConfig, ProxyVolatile, LeaderIn, ProxyIn, World, change, run}
+use Rattle.cx_base.specs.declared.command.Value.TheVariants.{Batch}
 use Rattle.cx_base.specs.declared.role.Kind.TheVariants as kind
-use Rattle.cx_base.specs.declared.role.RoleId.{RoleId}
-use Rattle.cx_base.specs.declared.round.Round.{Round}
-use Rattle.cx_base.specs.Grid.{Shape}
-use Rattle.cx_base.specs.Role.{role}
-use Rattle.cx_base.specs.Round.{no_round}
-use Rattle.cx_field.specs.declared.parts.NackReason.{NackReason}
-use Rattle.cx_field.specs.declared.parts.Vote.{Vote}
-use Rattle.cx_letter.specs.Letter.{Letter, letter}
-use Rattle.cx_letter.specs.declared.message.Msg.{Msg}
 use Rattle.cx_letter.specs.declared.message.Msg.TheVariants as msg
-use Rattle.cx_model.specs.Collection.{is_retired}
-use Rattle.cx_model.specs.Facts.{HasRound, IsFinished, has_recorded, round_in}
-use Rattle.cx_model.specs.Leader.{LeaderVolatile, count_reaching}
-use Rattle.cx_model.specs.Matched.{enough}
-use Rattle.cx_model.specs.Member.{Member}
-use Rattle.cx_model.specs.Promises.{IsConfig}
-use Rattle.cx_model.specs.Proxy.{ProxyVolatile}
-use Rattle.cx_model.specs.State.{LeaderIn, ProxyIn}
-use Rattle.cx_model.specs.World.{World, change, run}
 use Rattle.cx_inv_match.specs.Facts.{AreOnce}
 
 -- this was sent to the role

@@ -1,36 +1,16 @@
 -- Each step keeps the facts on watermarks, so they hold in every run.
-use Rattle.std.proofs.Common.{ap}
-use Rattle.cx_model.specs.Promises.{ForgottenIsKept, OfEveryRun}
-use Rattle.cx_model.specs.Replica.{ReplicaDurable, before, replica_rules}
-use Rattle.cx_inv_run.specs.Ties.{Ties}
-use Rattle.cx_inv_run.proofs.Histories.{durable_by_time, log_by_time}
-use Rattle.cx_inv_run.proofs.Steps.{always}
-use Rattle.cx_inv_run.proofs.TieLaws.{ties_hold, tied_in}
-use Rattle.cx_inv_held.proofs.Keep.{low_snap}
+use Rattle.cx_inv_run.proofs.Common.{ap, OfEveryRun, ReplicaDurable, before, replica_rules, Ties, durable_by_time, log_by_time, always}
+use Rattle.cx_inv_run.proofs.Common.{ties_hold, ◌≡◌, ◌⊎◌, ℕ, map, List, [], ◌∷◌, length, slice_get, Some, refl, zero, suc, sym, subst, inl}
+use Rattle.cx_inv_run.proofs.Common.{inr, arith, Cluster, Event, Kind, below, role, KeptRecord, acceptor_rules, leader_rules}
+use Rattle.cx_inv_run.proofs.Common.{matchmaker_rules, reader_rules, replacer_rules, request, run, Laws, State, Down, BatcherIn, LeaderIn}
+use Rattle.cx_inv_run.proofs.Common.{ProxyIn, ReplicaIn, ReaderIn, ReplacerIn, plain, fresh_state, durable_of, HoldsIn, length-below}
+use Rattle.cx_inv_run.proofs.Common.{batcher_kinds, matchmaker_kinds, unbatcher_kinds, reader_kinds, replacer_kinds}
+use Rattle.cx_model.specs.Promises.{ForgottenIsKept}
+use Rattle.cx_inv_run.proofs.TieLaws.{tied_in}
+use Rattle.cx_inv_held.proofs.Keep.{low_snap, AllSayLow, none_low, one_low, both_low, low_with, low_lands}
 use Rattle.cx_inv_held.proofs.Stores.{lists_hold, stores_hold}
-use Rattle.std.specs.Prelude.{◌≡◌, ◌⊎◌, ℕ, map, List, [], ◌∷◌, length, slice_get, Some, refl}
-use Rattle.std.proofs.Common.{zero, suc, sym, subst, inl, inr, arith}
-use Rattle.cx_base.specs.declared.cluster.Cluster.{Cluster}
-use Rattle.cx_base.specs.declared.event.Event.{Event}
 use Rattle.cx_base.specs.declared.event.Event.TheVariants as event
-use Rattle.cx_base.specs.declared.role.Kind.{Kind}
 use Rattle.cx_base.specs.declared.role.Kind.TheVariants as kind
-use Rattle.cx_base.specs.Lists.{below}
-use Rattle.cx_base.specs.Role.{role}
-use Rattle.cx_letter.specs.declared.input.KeptRecord.{KeptRecord}
-use Rattle.cx_model.specs.Acceptor.{acceptor_rules}
-use Rattle.cx_model.specs.Leader.{leader_rules}
-use Rattle.cx_model.specs.Matchmaker.{matchmaker_rules}
-use Rattle.cx_model.specs.Reader.{reader_rules}
-use Rattle.cx_model.specs.Replacer.{replacer_rules}
-use Rattle.cx_model.specs.Request.{request}
-use Rattle.cx_model.specs.World.{run}
-use Rattle.cx_inv_run.specs.Laws.{Laws}
-use Rattle.cx_inv_run.specs.States.{State, Down, BatcherIn, LeaderIn, ProxyIn, ReplicaIn, ReaderIn, ReplacerIn, plain, fresh_state}
-use Rattle.cx_inv_run.specs.States.{durable_of, HoldsIn}
-use Rattle.cx_inv_run.proofs.Quorums.{length-below}
-use Rattle.cx_inv_run.proofs.Senders.{batcher_kinds, matchmaker_kinds, unbatcher_kinds, reader_kinds}
-use Rattle.cx_inv_run.proofs.LeaderSenders.{replacer_kinds}
 use Rattle.cx_inv_vote.proofs.Agree.{kept_is_chosen}
 use Rattle.cx_inv_held.specs.Held.{LowState, LowFacts}
 use Rattle.cx_inv_held.specs.Laws.{WatermarksHold, KeptWatermarks, SafeSnapshots}
@@ -38,7 +18,6 @@ use Rattle.cx_inv_held.proofs.Acceptors.{acceptor_stored, acceptor_low}
 use Rattle.cx_inv_held.proofs.Calm.{calm_low}
 use Rattle.cx_inv_held.proofs.Chosen.{chosen_below}
 use Rattle.cx_inv_held.proofs.Grow.{none_stored}
-use Rattle.cx_inv_held.proofs.Keep.{AllSayLow, none_low, one_low, both_low, low_with, low_lands}
 use Rattle.cx_inv_held.proofs.Leaders.{leader_low}
 use Rattle.cx_inv_held.proofs.Proxies.{proxy_low}
 use Rattle.cx_inv_held.proofs.Replicas.{replica_low}

@@ -1,64 +1,33 @@
 -- What is so of replicas' stores, in every run: how many slots a list holds, and that the replica before has what was forgotten.
-use Rattle.std.specs.Prelude.{◌≡◌, ◌⊎◌, ℕ, ◌+◌, ◌-◌, ◌%◌, ◌==◌, ◌&&◌, ◌<◌, ◌≤◌, true, false, nat_lt, nat_le, min, max, map, drop, List, []}
-use Rattle.std.specs.Prelude.{◌∷◌, ◌++◌, length, slice_get, Option, None, Some, refl}
-use Rattle.std.specs.List.{list_any}
-use Rattle.std.proofs.Common.{ap, sym, ◌∙◌, subst, inl, inr, arith, length-append, reverse}
-use Rattle.std.proofs.lemmas.Bool.{eqb-true}
-use Rattle.std.proofs.lemmas.List.{reverse-append, reverse-reverse}
-use Rattle.cx_base.specs.declared.cluster.Cluster.{Cluster}
-use Rattle.cx_base.specs.declared.command.Floor.{Floor}
-use Rattle.cx_base.specs.declared.command.Pair.{Pair}
-use Rattle.cx_base.specs.declared.command.Value.{Value}
-use Rattle.cx_base.specs.declared.event.Event.{Event}
-use Rattle.cx_base.specs.declared.role.Kind.{Kind}
+use Rattle.std.proofs.lemmas.List.{reverse-reverse}
+use Rattle.cx_model.specs.Prelude.{machine_ordered, IsOrdered, renewed_folds}
+use Rattle.cx_inv_run.proofs.Common.{◌≡◌, ◌⊎◌, ℕ, ◌+◌, ◌-◌, ◌%◌, ◌==◌, ◌&&◌, ◌<◌, ◌≤◌, true, false, nat_lt, nat_le, min, max, map, drop}
+use Rattle.cx_inv_run.proofs.Common.{List, [], ◌∷◌, ◌++◌, length, slice_get, Option, None, Some, refl, list_any, ap, sym, ◌∙◌, subst, inl}
+use Rattle.cx_inv_run.proofs.Common.{inr, arith, length-append, reverse, eqb-true, reverse-append, Cluster, Floor, Pair, Value, Event, Kind}
+use Rattle.cx_inv_run.proofs.Common.{RoleId, role, same_role, Letter, Input, KeptRecord, Written, Record, Msg, Deferred, acceptor_rules}
+use Rattle.cx_inv_run.proofs.Common.{leader_rules, matchmaker_rules, list_own, list_other, Member, names, Outcome, by_test, either_way}
+use Rattle.cx_inv_run.proofs.Common.{held_in, reader_rules, replacer_rules, IsTied, Machine, ReplicaDurable, ReplicaVolatile, before}
+use Rattle.cx_inv_run.proofs.Common.{chosen_row, fetch_found, fetch_row, fetched_by, held, read_row, replica_after, replica_renewed}
+use Rattle.cx_inv_run.proofs.Common.{replica_row, replica_rules, replica_takes, same_read, folded, list_after, list_of, log_of, run}
+use Rattle.cx_inv_run.proofs.Common.{IsKeeper, IsKept, OfKind, Lands, Laws, State, Down, BatcherIn, LeaderIn, ProxyIn, ReplicaIn, ReaderIn}
+use Rattle.cx_inv_run.proofs.Common.{ReplacerIn, plain, fresh_state, set_state, entry_by, snap_by, with_record, durable_of, log_in, Given}
+use Rattle.cx_inv_run.proofs.Common.{HoldsIn, Ties, by_role, durable_by_time, durable_else, durable_other, durable_own, log_by_time}
+use Rattle.cx_inv_run.proofs.Common.{log_other, log_own, log_snap, set_running, acceptor_kinds, batcher_kinds, matchmaker_kinds}
+use Rattle.cx_inv_run.proofs.Common.{proxy_kinds, reader_kinds, replica_kinds, unbatcher_kinds, leader_kinds, replacer_kinds, always}
+use Rattle.cx_inv_run.proofs.Common.{ties_hold, held_is}
 use Rattle.cx_base.specs.declared.role.Kind.TheVariants as kind
-use Rattle.cx_base.specs.declared.role.RoleId.{RoleId}
 use Rattle.cx_base.specs.Noted.{Table}
-use Rattle.cx_base.specs.Role.{role, same_role}
-use Rattle.cx_letter.specs.Letter.{Letter}
-use Rattle.cx_letter.specs.declared.input.Input.{Input}
 use Rattle.cx_letter.specs.declared.input.Input.TheVariants as input
-use Rattle.cx_letter.specs.declared.input.KeptRecord.{KeptRecord}
-use Rattle.cx_letter.specs.declared.input.Written.{Written}
 use Rattle.cx_letter.specs.declared.input.Written.TheVariants as written
-use Rattle.cx_letter.specs.declared.kept.Record.{Record}
 use Rattle.cx_letter.specs.declared.kept.Record.TheVariants as kept
-use Rattle.cx_letter.specs.declared.message.Msg.{Msg}
 use Rattle.cx_letter.specs.declared.message.Msg.TheVariants as msg
-use Rattle.cx_model.specs.declared.states.Deferred.{Deferred}
-use Rattle.cx_model.specs.Acceptor.{acceptor_rules}
-use Rattle.cx_model.specs.Leader.{leader_rules}
-use Rattle.cx_model.specs.Matchmaker.{matchmaker_rules}
-use Rattle.cx_model.specs.Lists.{list_own, list_other}
-use Rattle.cx_model.specs.Member.{Member}
-use Rattle.cx_model.specs.Names.{names}
-use Rattle.cx_model.specs.Ordered.{machine_ordered}
-use Rattle.cx_model.specs.Outcome.{Outcome, by_test, either_way}
-use Rattle.cx_model.specs.Promises.{appended, held_in}
-use Rattle.cx_model.specs.Reader.{reader_rules}
-use Rattle.cx_model.specs.Renewed.{IsOrdered}
-use Rattle.cx_model.specs.RenewedLaws.{renewed_folds}
-use Rattle.cx_model.specs.Replacer.{replacer_rules}
-use Rattle.cx_model.specs.Replica.{IsTied, Machine, ReplicaDurable, ReplicaVolatile, before, chosen_row, fetch_found, fetch_row, fetched_by}
-use Rattle.cx_model.specs.Replica.{held, notes_of, pieces, read_row, replica_after, replica_renewed, replica_row, replica_rules}
-use Rattle.cx_model.specs.Replica.{replica_takes, snap_limit}
-use Rattle.cx_model.specs.Request.{same_read}
-use Rattle.cx_model.specs.Rules.{folded}
-use Rattle.cx_model.specs.World.{list_after, list_of, log_of, run}
-use Rattle.cx_inv_run.specs.Kinds.{IsKeeper, IsKept, OfKind}
-use Rattle.cx_inv_run.specs.Laws.{Lands, Laws}
-use Rattle.cx_inv_run.specs.States.{State, Down, BatcherIn, LeaderIn, ProxyIn, ReplicaIn, ReaderIn, ReplacerIn, plain, fresh_state}
-use Rattle.cx_inv_run.specs.States.{set_state, entry_by, snap_by, with_record, durable_of, log_in, Given, HoldsIn, Property}
-use Rattle.cx_inv_run.specs.Ties.{Ties}
-use Rattle.cx_inv_run.proofs.Histories.{by_role, durable_by_time, durable_else, durable_none, durable_other, durable_own, durable_snap}
-use Rattle.cx_inv_run.proofs.Histories.{log_by_time, log_none, log_other, log_own, log_snap, set_running}
-use Rattle.cx_inv_run.proofs.Senders.{acceptor_kinds, batcher_kinds, matchmaker_kinds, proxy_kinds, reader_kinds, replica_kinds}
-use Rattle.cx_inv_run.proofs.Senders.{unbatcher_kinds}
-use Rattle.cx_inv_run.proofs.LeaderSenders.{leader_kinds, replacer_kinds}
+use Rattle.cx_model.specs.Promises.{appended}
+use Rattle.cx_model.specs.Replica.{notes_of, pieces, snap_limit}
+use Rattle.cx_inv_run.specs.States.{Property}
+use Rattle.cx_inv_run.proofs.Histories.{durable_none, durable_snap, log_none}
 use Rattle.cx_inv_run.proofs.Sends.{keeps_only, replica_keeps}
-use Rattle.cx_inv_run.proofs.Steps.{always}
-use Rattle.cx_inv_run.proofs.TieLaws.{by_replica, ties_hold}
-use Rattle.cx_inv_run.proofs.Tying.{held_is, snap_is}
+use Rattle.cx_inv_run.proofs.TieLaws.{by_replica}
+use Rattle.cx_inv_run.proofs.Tying.{snap_is}
 use Rattle.cx_inv_held.specs.Held.{IsFetched, LowFacts, SaysLow, Stores, slots_held}
 use Rattle.cx_inv_held.proofs.Grow.{Lengthens, lengthens}
 

@@ -1,30 +1,12 @@
 -- What is said of the list stays so when a record is kept; and what a row gives lands.
-use Rattle.std.proofs.Common.{◌≡◌, ◌⊎◌, ℕ, true, false, List, [], ◌∷◌, ◌++◌, take, length, inl, inr, ap, sym, subst, ◌∙◌, ⊎_elim, arith}
-use Rattle.std.proofs.Common.{append-nil}
-use Rattle.std.specs.Prelude.{Option, None, Some}
-use Rattle.std.proofs.lemmas.Bool.{cases_Bool}
-use Rattle.std.proofs.lemmas.List.{length-append, take-append-le}
-use Rattle.cx_base.specs.declared.command.Reply.{Reply}
+use Rattle.cx_inv_run.proofs.Common.{◌≡◌, ◌⊎◌, ℕ, true, false, List, [], ◌∷◌, ◌++◌, take, length, inl, inr, ap, sym, subst, ◌∙◌, ⊎_elim}
+use Rattle.cx_inv_run.proofs.Common.{arith, append-nil, Option, None, Some, cases_Bool, length-append, take-append-le, Reply, RoleId, fold}
+use Rattle.cx_inv_run.proofs.Common.{text_at, role, same_role, Token, Letter, KeptRecord, Record, Msg, IsRight, Member, Begins, Outcome}
+use Rattle.cx_inv_run.proofs.Common.{make_token, values_in, Lands, State, Down, set_state, entry_by, snap_by, with_record, log_in}
+use Rattle.cx_inv_run.proofs.Common.{log_other, log_own, log_snap, same_role-true, set_running, Member-cases}
 use Rattle.cx_base.specs.declared.role.Kind.TheVariants as kind
-use Rattle.cx_base.specs.declared.role.RoleId.{RoleId}
-use Rattle.cx_base.specs.Fold.{fold, text_at}
-use Rattle.cx_base.specs.Role.{role, same_role}
-use Rattle.cx_field.specs.declared.parts.Token.{Token}
-use Rattle.cx_letter.specs.Letter.{Letter}
-use Rattle.cx_letter.specs.declared.input.KeptRecord.{KeptRecord}
 use Rattle.cx_letter.specs.declared.input.Written.TheVariants as written
-use Rattle.cx_letter.specs.declared.kept.Record.{Record}
-use Rattle.cx_letter.specs.declared.message.Msg.{Msg}
 use Rattle.cx_letter.specs.declared.message.Msg.TheVariants as msg
-use Rattle.cx_model.specs.CommandList.{IsRight}
-use Rattle.cx_model.specs.Member.{Member, Begins}
-use Rattle.cx_model.specs.Outcome.{Outcome}
-use Rattle.cx_model.specs.Reader.{make_token}
-use Rattle.cx_model.specs.World.{values_in}
-use Rattle.cx_inv_run.specs.Laws.{Lands}
-use Rattle.cx_inv_run.specs.States.{State, Down, set_state, entry_by, snap_by, with_record, log_in}
-use Rattle.cx_inv_run.proofs.Histories.{log_other, log_own, log_snap, same_role-true, set_running}
-use Rattle.cx_inv_run.proofs.Members.{Member-cases}
 use Rattle.cx_inv_list.specs.Told.{RequestPredicates, IsRightByReplica, IsAnswerToRead, ListSays, ListKeeps, InList, ListFacts}
 use Rattle.cx_inv_list.specs.Told.{ListKeepsRecord, IsListed}
 use Rattle.cx_inv_list.proofs.Right.{grown_right}

@@ -1,38 +1,19 @@
 -- What all rows share in what they say of the list; the rows of acceptors, batchers and unbatchers; and that roles other than these,
 -- clients, leaders, proxy leaders, replicas and readers say nothing of it.
-use Rattle.std.proofs.Common.{◌≡◌, ◌⊎◌, ℕ, Bool, List, [], ◌∷◌, ◌++◌, map, inl, inr, sym, subst, ⊎_elim, refl}
-use Rattle.std.specs.Prelude.{◌==◌, ◌&&◌, max, nat_lt, nat_le, length, if◌then◌else◌, Option, Some}
-use Rattle.cx_base.specs.declared.cluster.Cluster.{Cluster}
-use Rattle.cx_base.specs.declared.command.Command.{Command}
-use Rattle.cx_base.specs.declared.role.Kind.{Kind}
+use Rattle.cx_inv_run.proofs.Common.{◌≡◌, ◌⊎◌, ℕ, Bool, List, [], ◌∷◌, ◌++◌, map, inl, inr, sym, subst, ⊎_elim, refl, ◌==◌, ◌&&◌, max}
+use Rattle.cx_inv_run.proofs.Common.{nat_lt, nat_le, length, if◌then◌else◌, Option, Some, Cluster, Command, Kind, RoleId, Why, commands_of}
+use Rattle.cx_inv_run.proofs.Common.{same_role, is_before, same_round, Vote, Letter, letter, Input, Take, Tick, Order, KeptRecord, Written}
+use Rattle.cx_inv_run.proofs.Common.{Record, Msg, AcceptorDurable, acceptor_rules, acceptor_row, acceptor_takes, with_vote, votes_from_slot}
+use Rattle.cx_inv_run.proofs.Common.{vote_at, is_of_round, BatcherVolatile, batcher_row, Member, names, Outcome, only_word, replied}
+use Rattle.cx_inv_run.proofs.Common.{either_way, written_after, answer_to, unbatcher_row, IsKept, IsSender, OfKind, State, BatcherIn, plain}
+use Rattle.cx_inv_run.proofs.Common.{Given, entry_by, with_record, Member-both, Member-one, Member-map, Member-filter}
 use Rattle.cx_base.specs.declared.role.Kind.TheVariants as kind
-use Rattle.cx_base.specs.declared.role.RoleId.{RoleId}
-use Rattle.cx_base.specs.declared.why.Why.{Why}
-use Rattle.cx_base.specs.Fold.{commands_of}
-use Rattle.cx_base.specs.Role.{same_role}
-use Rattle.cx_base.specs.Round.{is_before, same_round}
-use Rattle.cx_field.specs.declared.parts.Vote.{Vote}
-use Rattle.cx_letter.specs.Letter.{Letter, letter}
-use Rattle.cx_letter.specs.declared.input.Input.{Input}
-use Rattle.cx_letter.specs.declared.input.Input.TheVariants.{Take, Tick, Order}
-use Rattle.cx_letter.specs.declared.input.KeptRecord.{KeptRecord}
-use Rattle.cx_letter.specs.declared.input.Written.{Written}
 use Rattle.cx_letter.specs.declared.input.Written.TheVariants as written
-use Rattle.cx_letter.specs.declared.kept.Record.{Record}
 use Rattle.cx_letter.specs.declared.kept.Record.TheVariants as kept
-use Rattle.cx_letter.specs.declared.message.Msg.{Msg}
 use Rattle.cx_letter.specs.declared.message.Msg.TheVariants as msg
-use Rattle.cx_model.specs.Acceptor.{AcceptorDurable, acceptor_rules, acceptor_row, acceptor_takes, with_vote, votes_from_slot, vote_at}
-use Rattle.cx_model.specs.Acceptor.{is_of_round}
-use Rattle.cx_model.specs.Batcher.{BatcherVolatile, batcher_row, batcher_takes, send_batch}
-use Rattle.cx_model.specs.Member.{Member}
-use Rattle.cx_model.specs.Names.{names}
-use Rattle.cx_model.specs.Outcome.{Outcome, only_word, replied, either_way}
-use Rattle.cx_model.specs.Rules.{written_after}
-use Rattle.cx_model.specs.Unbatcher.{answer_to, unbatcher_row, unbatcher_takes}
-use Rattle.cx_inv_run.specs.Kinds.{IsKept, IsSender, OfKind}
-use Rattle.cx_inv_run.specs.States.{State, BatcherIn, plain, Given, entry_by, durable_of, with_record}
-use Rattle.cx_inv_run.proofs.Members.{Member-both, Member-one, Member-map, Member-filter}
+use Rattle.cx_model.specs.Batcher.{batcher_takes, send_batch}
+use Rattle.cx_model.specs.Unbatcher.{unbatcher_takes}
+use Rattle.cx_inv_run.specs.States.{durable_of}
 use Rattle.cx_inv_list.specs.Told.{RequestPredicates, AreAsked, AreVotesAsked, ListSays, ListKeeps, InList, ListKeepsRecord, IsListed}
 
 -- what all rows share

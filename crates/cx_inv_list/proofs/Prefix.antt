@@ -1,24 +1,13 @@
 -- The chosen prefix: each of its values is chosen, it is the longest such list, and it grows with the history.
-use Rattle.std.proofs.Common.{◌≡◌, ◌⊎◌, ℕ, zero, suc, ◌+◌, ◌<◌, ◌≤◌, Bool, true, false, not, ◌&&◌, List, [], ◌∷◌, ◌++◌, length, filter, inl}
-use Rattle.std.proofs.Common.{inr, ap, sym, subst, ◌∙◌, ⊎_elim, refl, arith}
-use Rattle.std.specs.Prelude.{◌==◌, slice_get, Option, None, Some}
-use Rattle.std.proofs.lemmas.Bool.{and_parts, and_from, both_ways, eq-eqb, not_from_false, not_from_true, ne_eqb}
-use Rattle.std.proofs.lemmas.Option.{same_Some}
-use Rattle.cx_base.specs.declared.command.Value.{Value}
-use Rattle.cx_base.specs.declared.role.Kind.TheVariants.{Acceptor}
-use Rattle.cx_base.specs.declared.round.Round.{Round}
-use Rattle.cx_base.specs.Log.{before_following}
-use Rattle.cx_base.specs.Role.{role}
-use Rattle.cx_grid.specs.Quorum.{member_at}
-use Rattle.cx_letter.specs.declared.input.KeptRecord.{KeptRecord}
-use Rattle.cx_letter.specs.declared.input.Written.{Written}
+use Rattle.std.proofs.lemmas.Bool.{not_from_false, not_from_true, ne_eqb}
+use Rattle.cx_model.specs.Prelude.{Acceptor, chosen_vote, first_chosen, chosen_at, prefix_from}
+use Rattle.cx_inv_run.proofs.Common.{◌≡◌, ◌⊎◌, ℕ, zero, suc, ◌+◌, ◌<◌, ◌≤◌, Bool, true, false, not, ◌&&◌, List, [], ◌∷◌, ◌++◌, length}
+use Rattle.cx_inv_run.proofs.Common.{filter, inl, inr, ap, sym, subst, ◌∙◌, ⊎_elim, refl, arith, ◌==◌, slice_get, Option, None, Some}
+use Rattle.cx_inv_run.proofs.Common.{and_parts, and_from, both_ways, eq-eqb, same_Some, Value, Round, before_following, role, member_at}
+use Rattle.cx_inv_run.proofs.Common.{KeptRecord, Written, is_chosen, chosen_prefix, Member, Begins, either_way, by_test, Member-first}
+use Rattle.cx_inv_run.proofs.Common.{filter-Member, entry_by}
 use Rattle.cx_letter.specs.declared.input.Written.TheVariants as written
 use Rattle.cx_letter.specs.declared.kept.Record.TheVariants as kept
-use Rattle.cx_model.specs.Chosen.{is_chosen, chosen_vote, first_chosen, chosen_at, prefix_from, chosen_prefix}
-use Rattle.cx_model.specs.Member.{Member, Begins}
-use Rattle.cx_model.specs.Outcome.{either_way, by_test}
-use Rattle.cx_inv_run.proofs.Members.{Member-first, filter-Member}
-use Rattle.cx_inv_run.specs.States.{entry_by}
 use Rattle.cx_inv_list.proofs.Right.{get_there}
 use Rattle.cx_inv_vote.proofs.Chosen.{chosen-true, true-chosen}
 

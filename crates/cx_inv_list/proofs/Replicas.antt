@@ -1,47 +1,20 @@
 -- A reader asks for the key that it was asked for; a replica answers commands and reads by its own values.
-use Rattle.std.proofs.Common.{◌≡◌, ℕ, ◌+◌, ◌-◌, ◌≤◌, not, ◌&&◌, List, [], ◌∷◌, ◌++◌, map, filter, take, length, inl, inr, ap, sym, subst}
-use Rattle.std.proofs.Common.{◌∙◌, ⊎_elim, refl, arith, append-nil}
-use Rattle.std.specs.Prelude.{◌==◌, max, nat_lt, nat_le, slice_get, Option, None, Some}
-use Rattle.std.specs.List.{list_any}
-use Rattle.std.proofs.lemmas.List.{length-append, take_all}
-use Rattle.cx_base.specs.declared.cluster.Cluster.{Cluster}
-use Rattle.cx_base.specs.declared.command.Value.{Value}
+use Rattle.cx_inv_run.proofs.Common.{◌≡◌, ℕ, ◌+◌, ◌-◌, ◌≤◌, not, ◌&&◌, List, [], ◌∷◌, ◌++◌, map, filter, take, length, inl, inr, ap, sym}
+use Rattle.cx_inv_run.proofs.Common.{subst, ◌∙◌, ⊎_elim, refl, arith, append-nil, ◌==◌, max, nat_lt, nat_le, slice_get, Option, None, Some}
+use Rattle.cx_inv_run.proofs.Common.{list_any, length-append, take_all, Cluster, Value, RoleId, Round, Why, fold, text_at, below}
+use Rattle.cx_inv_run.proofs.Common.{ready_values, role, same_role, is_in, same_round, is_above, Asking, Entry, Letter, Input, Take, Tick}
+use Rattle.cx_inv_run.proofs.Common.{Order, KeptRecord, Msg, Deferred, IsRight, is_counted, greatest_watermark, is_member_of, members_of}
+use Rattle.cx_inv_run.proofs.Common.{live_entries, rows_whole, Member, names, Outcome, either_way, Asked, ReaderDurable, ReaderVolatile}
+use Rattle.cx_inv_run.proofs.Common.{make_token, IsTied, Machine, ReplicaDurable, ReplicaVolatile, held, machine_from, machine_of}
+use Rattle.cx_inv_run.proofs.Common.{replica_after, replica_rules, same_read, ReplicaIn, ReaderIn, entry_by, durable_of, log_in, log_own}
+use Rattle.cx_inv_run.proofs.Common.{Member-both, Member-one, Member-filter, held_is}
 use Rattle.cx_base.specs.declared.role.Kind.TheVariants as kind
-use Rattle.cx_base.specs.declared.role.RoleId.{RoleId}
-use Rattle.cx_base.specs.declared.round.Round.{Round}
-use Rattle.cx_base.specs.declared.why.Why.{Why}
-use Rattle.cx_base.specs.Fold.{fold, text_at}
-use Rattle.cx_base.specs.Lists.{below}
-use Rattle.cx_base.specs.Log.{ready_values}
-use Rattle.cx_base.specs.Role.{role, same_role}
-use Rattle.cx_base.specs.Grid.{is_in}
-use Rattle.cx_base.specs.Round.{same_round}
-use Rattle.cx_base.specs.Sets.{is_above}
-use Rattle.cx_field.specs.declared.parts.Asking.{Asking}
-use Rattle.cx_field.specs.declared.parts.Entry.{Entry}
-use Rattle.cx_letter.specs.Letter.{Letter}
-use Rattle.cx_letter.specs.declared.input.Input.{Input}
-use Rattle.cx_letter.specs.declared.input.Input.TheVariants.{Take, Tick, Order}
-use Rattle.cx_letter.specs.declared.input.KeptRecord.{KeptRecord}
 use Rattle.cx_letter.specs.declared.kept.Record.TheVariants as kept
-use Rattle.cx_letter.specs.declared.message.Msg.{Msg}
 use Rattle.cx_letter.specs.declared.message.Msg.TheVariants as msg
-use Rattle.cx_model.specs.declared.states.Deferred.{Deferred}
-use Rattle.cx_model.specs.CommandList.{IsRight}
-use Rattle.cx_model.specs.Matched.{is_counted, greatest_watermark, is_member_of, members_of, live_entries, rows_whole}
-use Rattle.cx_model.specs.Member.{Member}
-use Rattle.cx_model.specs.Names.{names}
-use Rattle.cx_model.specs.Outcome.{Outcome, either_way}
 use Rattle.cx_model.specs.Reader as reader
-use Rattle.cx_model.specs.Reader.{Asked, Batch, ReaderDurable, ReaderVolatile, make_token}
+use Rattle.cx_model.specs.Reader.{Batch}
 use Rattle.cx_model.specs.Replica as replica
-use Rattle.cx_model.specs.Replica.{IsTied, Machine, ReplicaDurable, ReplicaVolatile, held, machine_from, machine_of, replica_after}
-use Rattle.cx_model.specs.Replica.{replica_rules}
-use Rattle.cx_model.specs.Request.{same_read}
-use Rattle.cx_inv_run.specs.States.{ReplicaIn, ReaderIn, entry_by, durable_of, log_in}
-use Rattle.cx_inv_run.proofs.Histories.{log_own}
-use Rattle.cx_inv_run.proofs.Members.{Member-both, Member-one, Member-filter}
-use Rattle.cx_inv_run.proofs.Tying.{held_is, tied_more}
+use Rattle.cx_inv_run.proofs.Tying.{tied_more}
 use Rattle.cx_inv_list.specs.Told.{AreWanted, BatchWanted, RequestPredicates, Wants, IsAnswerToRead, ListSays, InList, IsListed}
 use Rattle.cx_inv_list.proofs.Listed.{Sends, Heard, listed_if, listed_answered, listed_replied, one_send, each_send, both_send}
 use Rattle.cx_inv_list.proofs.Right.{are_at, log_right, results_right, map_is_fold}

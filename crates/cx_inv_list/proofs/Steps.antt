@@ -1,37 +1,16 @@
 -- Each step keeps what is said of the list, so every run has it.
-use Rattle.std.proofs.Common.{◌≡◌, ℕ, List, [], ◌∷◌, inl, ap, sym, subst, ⊎_elim, append-nil, refl}
-use Rattle.std.specs.Prelude.{None}
-use Rattle.cx_base.specs.declared.cluster.Cluster.{Cluster}
-use Rattle.cx_base.specs.declared.event.Event.{Event}
+use Rattle.cx_inv_run.proofs.Common.{◌≡◌, ℕ, List, [], ◌∷◌, inl, ap, sym, subst, ⊎_elim, append-nil, refl, None, Cluster, Event, Happened}
+use Rattle.cx_inv_run.proofs.Common.{Kind, RoleId, Why, role, Letter, KeptRecord, acceptor_rules, leader_rules, matchmaker_rules, Member}
+use Rattle.cx_inv_run.proofs.Common.{WasRead, WasSession, reader_rules, make_token, replacer_rules, request, token_of, World, change}
+use Rattle.cx_inv_run.proofs.Common.{run_from, run, Laws, AllAllowed, State, Down, BatcherIn, LeaderIn, ProxyIn, ReplicaIn, ReaderIn}
+use Rattle.cx_inv_run.proofs.Common.{ReplacerIn, plain, fresh_state, set_state, durable_of, HoldsIn, Ties, Member-first, Member-second}
+use Rattle.cx_inv_run.proofs.Common.{Member-cases, matchmaker_kinds, replacer_kinds, along, run_keeps, ties_hold}
 use Rattle.cx_base.specs.declared.event.Event.TheVariants as event
-use Rattle.cx_base.specs.declared.event.Happened.{Happened}
-use Rattle.cx_base.specs.declared.role.Kind.{Kind}
 use Rattle.cx_base.specs.declared.role.Kind.TheVariants as kind
-use Rattle.cx_base.specs.declared.role.RoleId.{RoleId}
-use Rattle.cx_base.specs.declared.why.Why.{Why}
 use Rattle.cx_base.specs.declared.why.Why.TheVariants as why
-use Rattle.cx_base.specs.Role.{role}
-use Rattle.cx_letter.specs.Letter.{Letter}
-use Rattle.cx_letter.specs.declared.input.KeptRecord.{KeptRecord}
 use Rattle.cx_letter.specs.declared.message.Msg.TheVariants as msg
-use Rattle.cx_model.specs.Acceptor.{acceptor_rules}
-use Rattle.cx_model.specs.Leader.{leader_rules}
-use Rattle.cx_model.specs.Matchmaker.{matchmaker_rules}
-use Rattle.cx_model.specs.Member.{Member}
-use Rattle.cx_model.specs.Promises.{WasRead, WasSession}
-use Rattle.cx_model.specs.Reader.{reader_rules, make_token}
-use Rattle.cx_model.specs.Replacer.{replacer_rules}
-use Rattle.cx_model.specs.Request.{request, token_of}
-use Rattle.cx_model.specs.World.{World, change, step, run_from, run}
-use Rattle.cx_inv_run.specs.Laws.{Laws, heard_of, AllAllowed}
-use Rattle.cx_inv_run.specs.States.{State, Down, BatcherIn, LeaderIn, ProxyIn, ReplicaIn, ReaderIn, ReplacerIn, plain, fresh_state}
-use Rattle.cx_inv_run.specs.States.{set_state, durable_of, HoldsIn}
-use Rattle.cx_inv_run.specs.Ties.{Ties}
-use Rattle.cx_inv_run.proofs.Members.{Member-first, Member-second, Member-cases}
-use Rattle.cx_inv_run.proofs.Senders.{matchmaker_kinds}
-use Rattle.cx_inv_run.proofs.LeaderSenders.{replacer_kinds}
-use Rattle.cx_inv_run.proofs.Steps.{along, run_keeps}
-use Rattle.cx_inv_run.proofs.TieLaws.{ties_hold}
+use Rattle.cx_model.specs.World.{step}
+use Rattle.cx_inv_run.specs.Laws.{heard_of}
 use Rattle.cx_inv_list.specs.Told.{RequestPredicates, ListSays, InList, ListFacts}
 use Rattle.cx_inv_list.proofs.Keep.{list_after, list_snapped, listed_lands}
 use Rattle.cx_inv_list.proofs.Leaders.{leader_listed, proxy_listed}

@@ -1,30 +1,13 @@
 -- What datagrams, records and roles say of the command list: each command in them was asked for, each answer in them is right by the values
 -- that a replica kept, and each key in them is that of its request.
 use Rattle.std.specs.Prelude.{◌≡◌, ◌⊎◌, ℕ, ◌≤◌, take, List, length, Option, None, Some}
-use Rattle.cx_base.specs.declared.command.Answered.{Answered}
-use Rattle.cx_base.specs.declared.command.Command.{Command}
-use Rattle.cx_base.specs.declared.command.Placed.{Placed}
-use Rattle.cx_base.specs.declared.command.Reply.{Reply}
-use Rattle.cx_base.specs.declared.role.RoleId.{RoleId}
-use Rattle.cx_base.specs.Fold.{commands_of, fold, text_at}
-use Rattle.cx_field.specs.declared.parts.Token.{Token}
-use Rattle.cx_field.specs.declared.parts.Vote.{Vote}
-use Rattle.cx_letter.specs.Letter.{Letter}
-use Rattle.cx_letter.specs.declared.input.KeptRecord.{KeptRecord}
-use Rattle.cx_letter.specs.declared.input.Written.{Written}
+use Rattle.cx_model.specs.Prelude.{Answered, Command, Placed, Reply, RoleId, commands_of, fold, text_at, Token, Vote, Letter, KeptRecord}
+use Rattle.cx_model.specs.Prelude.{Written, Record, Msg, IsRight, Member, Outcome, Asked, Batch, make_token, State, BatcherIn, LeaderIn}
+use Rattle.cx_model.specs.Prelude.{ProxyIn, ReplicaIn, ReaderIn}
+use Rattle.cx_inv_match.specs.Prelude.{Deferred, Pending, Promised, with_record, log_in}
 use Rattle.cx_letter.specs.declared.input.Written.TheVariants as written
-use Rattle.cx_letter.specs.declared.kept.Record.{Record}
 use Rattle.cx_letter.specs.declared.kept.Record.TheVariants as kept
-use Rattle.cx_letter.specs.declared.message.Msg.{Msg}
 use Rattle.cx_letter.specs.declared.message.Msg.TheVariants as msg
-use Rattle.cx_model.specs.declared.states.Deferred.{Deferred}
-use Rattle.cx_model.specs.declared.states.Pending.{Pending}
-use Rattle.cx_model.specs.declared.states.Promised.{Promised}
-use Rattle.cx_model.specs.CommandList.{IsRight}
-use Rattle.cx_model.specs.Member.{Member}
-use Rattle.cx_model.specs.Outcome.{Outcome}
-use Rattle.cx_model.specs.Reader.{Asked, Batch, make_token}
-use Rattle.cx_inv_run.specs.States.{State, BatcherIn, LeaderIn, ProxyIn, ReplicaIn, ReaderIn, with_record, log_in}
 
 -- What may be said of the commands that were asked for, of the keys of the reads that were, and of those of sessions.
 pub record RequestPredicates : Type 1 where

@@ -1,23 +1,12 @@
 -- The facts hold once a record of an acceptor is kept: a promise, a vote, a watermark.
-use Rattle.std.proofs.Common.{◌≡◌, ℕ, ◌+◌, ◌<◌, ◌≤◌, true, false, ◌⊎◌, List, ◌∷◌, inl, inr, sym, subst, ◌∙◌, ⊎_elim, refl, arith, max}
-use Rattle.std.proofs.lemmas.Bool.{cases_eq, cases_lt}
-use Rattle.cx_base.specs.declared.cluster.Cluster.{Cluster}
-use Rattle.cx_base.specs.declared.command.Value.{Value}
-use Rattle.cx_base.specs.declared.role.RoleId.{RoleId}
-use Rattle.cx_base.specs.declared.round.Round.{Round}
-use Rattle.cx_base.specs.Round.{is_before}
-use Rattle.cx_field.specs.declared.parts.Vote.{Vote}
-use Rattle.cx_letter.specs.Letter.{Letter}
-use Rattle.cx_letter.specs.declared.input.KeptRecord.{KeptRecord}
+use Rattle.std.proofs.lemmas.Bool.{cases_eq}
+use Rattle.cx_inv_run.proofs.Common.{◌≡◌, ℕ, ◌+◌, ◌<◌, ◌≤◌, true, false, ◌⊎◌, List, ◌∷◌, inl, inr, sym, subst, ◌∙◌, ⊎_elim, refl, arith}
+use Rattle.cx_inv_run.proofs.Common.{max, cases_lt, Cluster, Value, RoleId, Round, is_before, Vote, Letter, KeptRecord, acceptor_rules}
+use Rattle.cx_inv_run.proofs.Common.{acceptor_after, with_vote, votes_from_slot, HasVoted, IsProposed, Member, State, Down, set_state}
+use Rattle.cx_inv_run.proofs.Common.{entry_by, durable_of, kept_cases, itself-not_before, at_most-trans, before-both}
+use Rattle.cx_inv_match.specs.Prelude.{HasMark, HasPromise, IsPast, IsAcceptor, Facts}
 use Rattle.cx_letter.specs.declared.kept.Record.TheVariants as kept
-use Rattle.cx_model.specs.Acceptor.{acceptor_rules, acceptor_after, with_vote, votes_from_slot}
-use Rattle.cx_model.specs.Facts.{HasVoted, IsProposed}
-use Rattle.cx_model.specs.Member.{Member}
-use Rattle.cx_inv_run.specs.States.{State, Down, set_state, entry_by, durable_of}
-use Rattle.cx_inv_run.proofs.Histories.{kept_cases, kept_else}
-use Rattle.cx_inv_run.proofs.Rounds.{itself-not_before, at_most-trans, before-both}
-use Rattle.cx_inv_match.specs.Words.{HasMark, HasPromise, IsPast}
-use Rattle.cx_inv_match.specs.Facts.{IsAcceptor, Facts}
+use Rattle.cx_inv_run.proofs.Histories.{kept_else}
 use Rattle.cx_inv_match.proofs.Grow.{Grows}
 use Rattle.cx_inv_match.proofs.Parts.{put-itself, put-cases, put-older, from-member, from-there}
 use Rattle.cx_inv_match.proofs.Keep.{old_boots, old_nexts, old_matches, old_garbages, old_votes, old_marks, more_mark, more_low}

@@ -1,28 +1,11 @@
 -- Going on with another grid: what a leading leader proposed may be proposed in its next round, before anybody is asked; and when enough
 -- matchmakers took that round, it leads.
-use Rattle.std.proofs.Common.{◌≡◌, ℕ, ◌+◌, ◌<◌, ◌≤◌, true, ◌⊎◌, List, [], inl, inr, sym, subst, arith}
-use Rattle.std.proofs.lemmas.Bool.Decides.{nat_tests}
-use Rattle.cx_base.specs.declared.cluster.Cluster.{Cluster}
-use Rattle.cx_base.specs.declared.command.Placed.{Placed}
-use Rattle.cx_base.specs.declared.command.Value.{Value}
+use Rattle.cx_inv_run.proofs.Common.{◌≡◌, ℕ, ◌+◌, ◌<◌, ◌≤◌, true, ◌⊎◌, List, [], inl, inr, sym, subst, arith, nat_tests, Cluster, Placed}
+use Rattle.cx_inv_run.proofs.Common.{Value, Round, Shape, role, is_before, Entry, Letter, KeptRecord, Matching, Leading, not_collecting}
+use Rattle.cx_inv_run.proofs.Common.{IsProposed, LeaderVolatile, Member, HasKept, IsConfig, before_cases}
+use Rattle.cx_inv_match.specs.Prelude.{IsMatched, IsShut, IsSettled, IsLeft, IsSpent, IsSafe, IsMatching, InStage, IsReady, IsLeading}
 use Rattle.cx_base.specs.declared.role.Kind.TheVariants as kind
-use Rattle.cx_base.specs.declared.round.Round.{Round}
-use Rattle.cx_base.specs.Grid.{Shape}
-use Rattle.cx_base.specs.Role.{role}
-use Rattle.cx_base.specs.Round.{is_before}
-use Rattle.cx_field.specs.declared.parts.Entry.{Entry}
-use Rattle.cx_letter.specs.Letter.{Letter}
-use Rattle.cx_letter.specs.declared.input.KeptRecord.{KeptRecord}
 use Rattle.cx_letter.specs.declared.kept.Record.TheVariants as kept
-use Rattle.cx_model.specs.declared.states.Mode.TheVariants.{Matching, Leading}
-use Rattle.cx_model.specs.Collection.{not_collecting}
-use Rattle.cx_model.specs.Facts.{IsProposed}
-use Rattle.cx_model.specs.Leader.{LeaderVolatile}
-use Rattle.cx_model.specs.Member.{Member}
-use Rattle.cx_model.specs.Promises.{HasKept, IsConfig}
-use Rattle.cx_inv_run.proofs.Rounds.{before_cases}
-use Rattle.cx_inv_match.specs.Words.{IsMatched, IsShut, IsSettled, IsLeft, IsSpent, IsSafe}
-use Rattle.cx_inv_match.specs.Facts.{IsMatching, InStage, IsReady, IsLeading}
 
 -- between a round and the next one of its leader there is none
 pub before_next : (i j : Round) → is_before j (record i { s = i.s + 1 }) ≡ true → (is_before j i ≡ true) ⊎ (j ≡ i)

@@ -1,30 +1,14 @@
 -- The chain of sets: one set at each place, sets at two places without a common member; and a round that was matched isn't shut.
-use Rattle.std.proofs.Common.{◌≡◌, ◌≤◌, ◌<◌, ◌+◌, ◌*◌, ℕ, zero, suc, true, ◌⊎◌, List, [], ◌∷◌, length, ap, sym, ◌∙◌, subst, refl, inl, inr}
-use Rattle.std.proofs.Common.{⊎_elim, arith}
-use Rattle.std.specs.Prelude.{nat_lt}
-use Rattle.std.specs.List.{list_all}
-use Rattle.std.proofs.lemmas.Bool.{true≢false, and_parts, cases_Bool, cases_lt, ltb-true}
-use Rattle.cx_base.specs.declared.cluster.Cluster.{Cluster}
+use Rattle.cx_inv_run.proofs.Common.{◌≡◌, ◌≤◌, ◌<◌, ◌+◌, ◌*◌, ℕ, zero, suc, true, ◌⊎◌, List, [], ◌∷◌, length, ap, sym, ◌∙◌, subst, refl}
+use Rattle.cx_inv_run.proofs.Common.{inl, inr, ⊎_elim, arith, nat_lt, list_all, true≢false, and_parts, cases_Bool, cases_lt, ltb-true}
+use Rattle.cx_inv_run.proofs.Common.{Cluster, RoleId, Round, Shape, role, is_before, is_above, Entry, Letter, KeptRecord, same_number}
+use Rattle.cx_inv_run.proofs.Common.{first_set, entry, Member, names_set, all-Member, length-below, some_passes, before_cases, before-both}
+use Rattle.cx_inv_run.proofs.Common.{before-trans, before-to_at_least, before-not, least, HasRound}
 use Rattle.cx_base.specs.declared.role.Kind.TheVariants as kind
-use Rattle.cx_base.specs.declared.role.RoleId.{RoleId}
-use Rattle.cx_base.specs.declared.round.Round.{Round}
-use Rattle.cx_base.specs.Grid.{Shape}
-use Rattle.cx_base.specs.Role.{role}
-use Rattle.cx_base.specs.Round.{is_before}
-use Rattle.cx_base.specs.Sets.{is_above, is_rising}
-use Rattle.cx_field.specs.declared.parts.Entry.{Entry}
-use Rattle.cx_letter.specs.Letter.{Letter}
-use Rattle.cx_letter.specs.declared.input.KeptRecord.{KeptRecord}
-use Rattle.cx_model.specs.Lists.{same_number}
-use Rattle.cx_model.specs.Matched.{first_set}
-use Rattle.cx_model.specs.Matchmaker.{entry}
-use Rattle.cx_model.specs.Member.{Member}
-use Rattle.cx_model.specs.Names.{names_set}
-use Rattle.cx_inv_run.proofs.Members.{all-Member}
-use Rattle.cx_inv_run.proofs.Quorums.{length-below, most_meet, some_passes}
-use Rattle.cx_inv_run.proofs.Rounds.{before_cases, before-both, before-trans, before-to_at_least, before-not, least}
-use Rattle.cx_inv_match.specs.Words.{how_many, HasBoot, HasRound, HasTaken, HasNext, IsDecided, IsNth, IsClosed, IsMatched, IsMatchable}
-use Rattle.cx_inv_match.specs.Words.{CanTake, IsShut, IsWatermark, IsJoin, IsMember, SetFacts}
+use Rattle.cx_base.specs.Sets.{is_rising}
+use Rattle.cx_inv_run.proofs.Quorums.{most_meet}
+use Rattle.cx_inv_match.specs.Words.{how_many, HasBoot, HasTaken, HasNext, IsDecided, IsNth, IsClosed, IsMatched, IsMatchable, CanTake}
+use Rattle.cx_inv_match.specs.Words.{IsShut, IsWatermark, IsJoin, IsMember, SetFacts}
 
 -- sets without a common member
 

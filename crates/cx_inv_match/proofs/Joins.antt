@@ -1,28 +1,13 @@
 -- What a replacer may ask once enough matchmakers of the known set have stopped: the set to decide can be decided in no earlier ballot but
 -- as it is, and what they told is a join.
-use Rattle.std.proofs.Common.{◌≡◌, ℕ, ◌<◌, Bool, true, false, not, ◌⊎◌, List, [], ◌∷◌, length, Option, Some, None, inl, inr, ap, sym, subst}
-use Rattle.std.proofs.Common.{◌∙◌, refl, ⊎_elim, arith}
-use Rattle.std.specs.Prelude.{if◌then◌else◌}
-use Rattle.std.proofs.lemmas.Bool.{true≢false, cond_both}
-use Rattle.cx_base.specs.declared.cluster.Cluster.{Cluster}
+use Rattle.cx_inv_run.proofs.Common.{◌≡◌, ℕ, ◌<◌, Bool, true, false, not, ◌⊎◌, List, [], ◌∷◌, length, Option, Some, None, inl, inr, ap, sym}
+use Rattle.cx_inv_run.proofs.Common.{subst, ◌∙◌, refl, ⊎_elim, arith, if◌then◌else◌, true≢false, cond_both, Cluster, Round, Shape, is_in}
+use Rattle.cx_inv_run.proofs.Common.{role, is_before, same_round, no_round, Entry, Letter, KeptRecord, Halt, MatchAnswer}
+use Rattle.cx_inv_run.proofs.Common.{greatest_watermark, live_entries, entry, Member, IsConfig, joined_entries, to_decide, Member-map}
+use Rattle.cx_inv_run.proofs.Common.{Member-filter, is_in-Member, Member-is_in, once_count, before_cases, before-not, before-to_at_least}
+use Rattle.cx_inv_run.proofs.Common.{at_most-trans, itself-not_before, least, same_round-true}
 use Rattle.cx_base.specs.declared.role.Kind.TheVariants as kind
-use Rattle.cx_base.specs.declared.round.Round.{Round}
-use Rattle.cx_base.specs.Grid.{Shape, is_in}
-use Rattle.cx_base.specs.Role.{role}
-use Rattle.cx_base.specs.Round.{is_before, same_round, no_round}
-use Rattle.cx_field.specs.declared.parts.Entry.{Entry}
-use Rattle.cx_letter.specs.Letter.{Letter}
-use Rattle.cx_letter.specs.declared.input.KeptRecord.{KeptRecord}
-use Rattle.cx_model.specs.declared.states.Halt.{Halt}
-use Rattle.cx_model.specs.declared.states.MatchAnswer.{MatchAnswer}
-use Rattle.cx_model.specs.Matched.{greatest_watermark, live_entries}
-use Rattle.cx_model.specs.Matchmaker.{entry}
-use Rattle.cx_model.specs.Member.{Member}
-use Rattle.cx_model.specs.Promises.{IsConfig}
-use Rattle.cx_model.specs.Replacer.{answers_of, with_entry, sorted_into, joined_entries, later_halt, latest, next_of, to_decide}
-use Rattle.cx_inv_run.proofs.Members.{Member-map, Member-filter, is_in-Member, Member-is_in}
-use Rattle.cx_inv_run.proofs.Quorums.{once_count}
-use Rattle.cx_inv_run.proofs.Rounds.{before_cases, before-not, before-to_at_least, at_most-trans, itself-not_before, least, same_round-true}
+use Rattle.cx_model.specs.Replacer.{answers_of, with_entry, sorted_into, later_halt, latest, next_of}
 use Rattle.cx_inv_match.specs.Words.{how_many, HasGarbage, HasNext, IsKnown, IsClosed, IsWatermark, IsHalt, IsJoin, SetFacts}
 use Rattle.cx_inv_match.specs.Facts.{AreOnce, halted_by}
 use Rattle.cx_inv_match.proofs.Chains.{nth_meet}

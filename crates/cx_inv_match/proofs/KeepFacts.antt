@@ -1,32 +1,18 @@
 -- The facts, from those that differ by the kind of the record that was kept.
-use Rattle.std.proofs.Common.{◌≡◌, ◌⊎◌, ℕ, false, List, [], ◌∷◌, Some, inl, inr, sym, subst, ⊎_elim}
-use Rattle.std.specs.Prelude.{slice_get}
-use Rattle.cx_base.specs.declared.cluster.Cluster.{Cluster}
-use Rattle.cx_base.specs.declared.command.Value.{Value}
+use Rattle.cx_inv_run.proofs.Common.{◌≡◌, ◌⊎◌, ℕ, false, List, [], ◌∷◌, Some, inl, inr, sym, subst, ⊎_elim, slice_get, Cluster, Value}
+use Rattle.cx_inv_run.proofs.Common.{RoleId, Round, Shape, role, same_role, Letter, KeptRecord, Record, acceptor_rules, acceptor_after}
+use Rattle.cx_inv_run.proofs.Common.{HasVoted, IsProposed, IsRetiring, LeaderWasTold, LeaderDurable, leader_rules, leader_after, round_of}
+use Rattle.cx_inv_run.proofs.Common.{matchmaker_rules, matchmaker_after, HasKept, IsConfig, ReplacerDurable, replacer_rules, values_in}
+use Rattle.cx_inv_run.proofs.Common.{Kinds, State, Down, Plain, BatcherIn, LeaderIn, ProxyIn, ReplicaIn, ReaderIn, ReplacerIn, set_state}
+use Rattle.cx_inv_run.proofs.Common.{entry_by, snap_by, durable_of, log_in, by_role, durable_own, durable_other, set_running, kept_other}
+use Rattle.cx_inv_run.proofs.Common.{snap_same, HasRound}
 use Rattle.cx_base.specs.declared.role.Kind.TheVariants as kind
-use Rattle.cx_base.specs.declared.role.RoleId.{RoleId}
-use Rattle.cx_base.specs.declared.round.Round.{Round}
-use Rattle.cx_base.specs.Grid.{Shape}
-use Rattle.cx_base.specs.Role.{role, same_role}
-use Rattle.cx_letter.specs.Letter.{Letter}
-use Rattle.cx_letter.specs.declared.input.KeptRecord.{KeptRecord}
 use Rattle.cx_letter.specs.declared.input.Written.TheVariants as written
-use Rattle.cx_letter.specs.declared.kept.Record.{Record}
 use Rattle.cx_letter.specs.declared.kept.Record.TheVariants as kept
-use Rattle.cx_model.specs.Acceptor.{acceptor_rules, acceptor_after}
-use Rattle.cx_model.specs.Facts.{HasVoted, IsProposed, IsRetiring, LeaderWasTold}
-use Rattle.cx_model.specs.Leader.{LeaderDurable, leader_rules, leader_after, round_of}
-use Rattle.cx_model.specs.Matchmaker.{matchmaker_rules, matchmaker_after}
-use Rattle.cx_model.specs.Promises.{HasKept, IsConfig}
-use Rattle.cx_model.specs.Replacer.{ReplacerDurable, replacer_rules, replacer_after}
-use Rattle.cx_model.specs.World.{values_in}
-use Rattle.cx_inv_run.specs.Kinds.{Kinds}
-use Rattle.cx_inv_run.specs.States.{State, Down, Plain, BatcherIn, LeaderIn, ProxyIn, ReplicaIn, ReaderIn, ReplacerIn, set_state, entry_by}
-use Rattle.cx_inv_run.specs.States.{snap_by, durable_of, log_in}
-use Rattle.cx_inv_run.proofs.Histories.{by_role, durable_own, durable_other, set_running, kept_other}
-use Rattle.cx_inv_run.proofs.Snaps.{SameKept, log_else, snap_same}
-use Rattle.cx_inv_match.specs.Words.{HasMatch, HasGarbage, HasRound, HasNext, HasBallot, IsUsed, HasMark, HasPromise, IsChosen, IsCollected}
-use Rattle.cx_inv_match.specs.Words.{IsKnown, SetFacts}
+use Rattle.cx_model.specs.Replacer.{replacer_after}
+use Rattle.cx_inv_run.proofs.Snaps.{SameKept, log_else}
+use Rattle.cx_inv_match.specs.Words.{HasMatch, HasGarbage, HasNext, HasBallot, IsUsed, HasMark, HasPromise, IsChosen, IsCollected, IsKnown}
+use Rattle.cx_inv_match.specs.Words.{SetFacts}
 use Rattle.cx_inv_match.specs.Facts.{IsAcceptor, IsMatchmaker, IsLastRound, IsLastBallot, IsAsked, InMode, InWork, InState, Facts}
 use Rattle.cx_inv_match.proofs.Grow.{Grows, grown_config, grown_known, grown_next, grown_collected, grown_chosen_somewhere, grown_says}
 use Rattle.cx_inv_match.proofs.Grow.{grown_mode, grown_work, grown_pending}

@@ -1,24 +1,11 @@
 -- A set that works has stopped each earlier one. So an answer that is given later than some moment comes from no earlier set than those
 -- that worked then: what a reader and a leader count after that moment tells what was so then.
-use Rattle.std.proofs.Common.{◌≡◌, ◌≤◌, ◌<◌, ℕ, zero, suc, Bool, true, false, ◌⊎◌, List, sym, subst, refl, inl, inr, ⊎_elim, arith}
-use Rattle.std.proofs.lemmas.Bool.{cases_Bool, cases_lt}
-use Rattle.cx_base.specs.declared.cluster.Cluster.{Cluster}
+use Rattle.cx_inv_run.proofs.Common.{◌≡◌, ◌≤◌, ◌<◌, ℕ, zero, suc, Bool, true, false, ◌⊎◌, List, sym, subst, refl, inl, inr, ⊎_elim, arith}
+use Rattle.cx_inv_run.proofs.Common.{cases_Bool, cases_lt, Cluster, RoleId, Round, Shape, role, is_before, Entry, Letter, KeptRecord}
+use Rattle.cx_inv_run.proofs.Common.{first_set, entry, Member, some_passes, before-to_at_least, at_most-trans, HasRound}
 use Rattle.cx_base.specs.declared.role.Kind.TheVariants as kind
-use Rattle.cx_base.specs.declared.role.RoleId.{RoleId}
-use Rattle.cx_base.specs.declared.round.Round.{Round}
-use Rattle.cx_base.specs.Grid.{Shape}
-use Rattle.cx_base.specs.Role.{role}
-use Rattle.cx_base.specs.Round.{is_before}
-use Rattle.cx_field.specs.declared.parts.Entry.{Entry}
-use Rattle.cx_letter.specs.Letter.{Letter}
-use Rattle.cx_letter.specs.declared.input.KeptRecord.{KeptRecord}
-use Rattle.cx_model.specs.Matched.{first_set}
-use Rattle.cx_model.specs.Matchmaker.{entry}
-use Rattle.cx_model.specs.Member.{Member}
-use Rattle.cx_inv_run.proofs.Quorums.{most_meet, some_passes}
-use Rattle.cx_inv_run.proofs.Rounds.{before-to_at_least, at_most-trans}
-use Rattle.cx_inv_match.specs.Words.{how_many, HasGarbage, HasBoot, HasRound, HasTaken, HasStopped, IsNth, IsMatched, IsMember, IsJoin}
-use Rattle.cx_inv_match.specs.Words.{SetFacts}
+use Rattle.cx_inv_run.proofs.Quorums.{most_meet}
+use Rattle.cx_inv_match.specs.Words.{how_many, HasGarbage, HasBoot, HasTaken, HasStopped, IsNth, IsMatched, IsMember, IsJoin, SetFacts}
 use Rattle.cx_inv_match.proofs.Chains.{nth_length, nth_back, nth_once, nth_meet, began, boot_at, tells_boot, open_covers}
 use Rattle.cx_inv_match.proofs.Grow.{more_nth}
 

@@ -1,26 +1,12 @@
 -- The facts hold once a matchmaker kept a round, or that it forgot the earlier ones.
-use Rattle.std.proofs.Common.{◌≡◌, ◌+◌, true, false, ◌⊎◌, List, [], ◌∷◌, ◌++◌, inl, inr, ap, sym, subst, ◌∙◌, ⊎_elim, refl}
-use Rattle.std.proofs.lemmas.Bool.{true≢false}
-use Rattle.cx_base.specs.declared.cluster.Cluster.{Cluster}
-use Rattle.cx_base.specs.declared.role.RoleId.{RoleId}
-use Rattle.cx_base.specs.declared.round.Round.{Round}
-use Rattle.cx_base.specs.Grid.{Shape}
-use Rattle.cx_base.specs.Round.{is_before}
-use Rattle.cx_field.specs.declared.parts.Entry.{Entry}
-use Rattle.cx_letter.specs.Letter.{Letter}
-use Rattle.cx_letter.specs.declared.input.KeptRecord.{KeptRecord}
+use Rattle.cx_inv_run.proofs.Common.{◌≡◌, ◌+◌, true, false, ◌⊎◌, List, [], ◌∷◌, ◌++◌, inl, inr, ap, sym, subst, ◌∙◌, ⊎_elim, refl}
+use Rattle.cx_inv_run.proofs.Common.{true≢false, Cluster, RoleId, Round, Shape, is_before, Entry, Letter, KeptRecord, IsRetiring}
+use Rattle.cx_inv_run.proofs.Common.{matchmaker_rules, matchmaker_after, entry, entries_since, IsConfig, State, Down, set_state, entry_by}
+use Rattle.cx_inv_run.proofs.Common.{durable_of, kept_cases, Member-cases, Member-first, Member-second, before-trans, before-itself}
+use Rattle.cx_inv_run.proofs.Common.{itself-not_before, before-not, before-from_at_most, before-to_at_least, least, HasRound}
+use Rattle.cx_inv_match.specs.Prelude.{HasMatch, HasGarbage, HasBoot, HasLog, HasStopped, IsUsed, IsCollected, IsMember, IsWatermark}
+use Rattle.cx_inv_match.specs.Prelude.{SetFacts, IsMatchmaker, Facts}
 use Rattle.cx_letter.specs.declared.kept.Record.TheVariants as kept
-use Rattle.cx_model.specs.Facts.{IsRetiring}
-use Rattle.cx_model.specs.Matchmaker.{matchmaker_rules, matchmaker_after, entry, entries_since}
-use Rattle.cx_model.specs.Promises.{IsConfig}
-use Rattle.cx_inv_run.specs.States.{State, Down, set_state, entry_by, durable_of}
-use Rattle.cx_inv_run.proofs.Histories.{kept_cases}
-use Rattle.cx_inv_run.proofs.Members.{Member-cases, Member-first, Member-second}
-use Rattle.cx_inv_run.proofs.Rounds.{before-trans, before-itself, itself-not_before, before-not, before-from_at_most, before-to_at_least}
-use Rattle.cx_inv_run.proofs.Rounds.{least}
-use Rattle.cx_inv_match.specs.Words.{HasMatch, HasGarbage, HasBoot, HasRound, HasLog, HasStopped, IsUsed, IsCollected, IsMember}
-use Rattle.cx_inv_match.specs.Words.{IsWatermark, SetFacts}
-use Rattle.cx_inv_match.specs.Facts.{IsMatchmaker, Facts}
 use Rattle.cx_inv_match.proofs.Grow.{Grows, grown_config, grown_round, grown_ballot, grown_watermark, grown_collected}
 use Rattle.cx_inv_match.proofs.SetLaws.{grown_sets}
 use Rattle.cx_inv_match.proofs.Parts.{entries-member, entries-there, with-member, with-older, with-itself}

@@ -1,27 +1,12 @@
 -- The facts hold once a replica's values, a reader's turn or a leader's round is kept.
-use Rattle.std.proofs.Common.{◌≡◌, ℕ, ◌+◌, true, false, ◌⊎◌, List, [], ◌∷◌, ◌++◌, length, Some, inl, inr, ap, sym, subst, ◌∙◌, ⊎_elim, refl}
-use Rattle.std.proofs.Common.{arith, zero, suc}
-use Rattle.std.specs.Prelude.{slice_get}
-use Rattle.std.proofs.lemmas.Option.{same_Some}
-use Rattle.cx_base.specs.declared.cluster.Cluster.{Cluster}
-use Rattle.cx_base.specs.declared.command.Value.{Value}
+use Rattle.cx_inv_run.proofs.Common.{◌≡◌, ℕ, ◌+◌, true, false, ◌⊎◌, List, [], ◌∷◌, ◌++◌, length, Some, inl, inr, ap, sym, subst, ◌∙◌}
+use Rattle.cx_inv_run.proofs.Common.{⊎_elim, refl, arith, zero, suc, slice_get, same_Some, Cluster, Value, RoleId, Round, Shape, role}
+use Rattle.cx_inv_run.proofs.Common.{same_role, is_before, Letter, KeptRecord, leader_rules, leader_after, HasKept, IsConfig, bool_cases}
+use Rattle.cx_inv_run.proofs.Common.{State, Down, set_state, entry_by, durable_of, log_in, kept_cases, log_other, log_own, same_role-true}
+use Rattle.cx_inv_run.proofs.Common.{before-itself, itself-not_before, before-not}
+use Rattle.cx_inv_match.specs.Prelude.{IsChosen, AreChosen, IsLastRound, Facts}
 use Rattle.cx_base.specs.declared.role.Kind.TheVariants as kind
-use Rattle.cx_base.specs.declared.role.RoleId.{RoleId}
-use Rattle.cx_base.specs.declared.round.Round.{Round}
-use Rattle.cx_base.specs.Grid.{Shape}
-use Rattle.cx_base.specs.Role.{role, same_role}
-use Rattle.cx_base.specs.Round.{is_before}
-use Rattle.cx_letter.specs.Letter.{Letter}
-use Rattle.cx_letter.specs.declared.input.KeptRecord.{KeptRecord}
 use Rattle.cx_letter.specs.declared.kept.Record.TheVariants as kept
-use Rattle.cx_model.specs.Leader.{leader_rules, leader_after}
-use Rattle.cx_model.specs.Promises.{HasKept, IsConfig}
-use Rattle.cx_model.specs.Lists.{bool_cases}
-use Rattle.cx_inv_run.specs.States.{State, Down, set_state, entry_by, durable_of, log_in}
-use Rattle.cx_inv_run.proofs.Histories.{kept_cases, log_other, log_own, same_role-true}
-use Rattle.cx_inv_run.proofs.Rounds.{before-itself, itself-not_before, before-not}
-use Rattle.cx_inv_match.specs.Words.{IsChosen, AreChosen}
-use Rattle.cx_inv_match.specs.Facts.{IsLastRound, Facts}
 use Rattle.cx_inv_match.proofs.Grow.{Grows, grown_chosen_somewhere}
 use Rattle.cx_inv_match.proofs.Parts.{get-cases}
 use Rattle.cx_inv_match.proofs.KeepFacts.{old_sets, old_accepted, old_balloter, old_last_ballot, kept_facts, new_last, old_owner}

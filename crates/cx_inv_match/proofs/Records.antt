@@ -1,14 +1,6 @@
 -- One law for each kind of record: the facts hold once it is kept and its role has stopped.
-use Rattle.std.proofs.Common.{◌≡◌, ℕ, true, List, ◌∷◌, inr}
-use Rattle.cx_base.specs.declared.role.RoleId.{RoleId}
-use Rattle.cx_base.specs.declared.round.Round.{Round}
-use Rattle.cx_base.specs.Grid.{Shape}
-use Rattle.cx_base.specs.Round.{is_before}
-use Rattle.cx_field.specs.declared.parts.Entry.{Entry}
-use Rattle.cx_letter.specs.Letter.{Letter}
-use Rattle.cx_letter.specs.declared.input.KeptRecord.{KeptRecord}
-use Rattle.cx_letter.specs.declared.kept.Record.{Record}
-use Rattle.cx_inv_run.specs.States.{entry_by}
+use Rattle.cx_inv_run.proofs.Common.{◌≡◌, ℕ, true, List, ◌∷◌, inr, RoleId, Round, Shape, is_before, Entry, Letter, KeptRecord, Record}
+use Rattle.cx_inv_run.proofs.Common.{entry_by}
 use Rattle.cx_inv_match.specs.Words.{HasMatch, HasGarbage, HasBoot, HasLog, HasNext, HasBallot, HasStopped, IsUsed}
 use Rattle.cx_inv_match.proofs.Grow.{Grows}
 use Rattle.cx_inv_match.proofs.Keep.{IsVoteRecord, IsWaterRecord, IsMatchRecord, IsGarbageRecord, IsBootRecord, IsNextRecord, old_boots}

@@ -1,31 +1,16 @@
 -- What the tests and searches of a leader's rows find.
-use Rattle.std.proofs.Common.{◌≡◌, ℕ, zero, suc, ◌+◌, ◌<◌, ◌≤◌, true, false, cond, not, map, ◌⊎◌, List, [], ◌∷◌, ◌++◌, length, Option, Some}
-use Rattle.std.proofs.Common.{None, inl, inr, ap, sym, subst, ◌∙◌, refl, arith, ◌==◌}
-use Rattle.std.specs.Prelude.{nat_lt}
-use Rattle.std.proofs.lemmas.Bool.{true≢false, cond_both}
-use Rattle.cx_base.specs.declared.cluster.Cluster.{Cluster}
-use Rattle.cx_base.specs.declared.command.Placed.{Placed}
-use Rattle.cx_base.specs.declared.command.Value.{Value}
-use Rattle.cx_base.specs.declared.round.Round.{Round}
-use Rattle.cx_base.specs.Grid.{Shape, is_in}
-use Rattle.cx_base.specs.Lists.{numbers}
-use Rattle.cx_base.specs.Round.{is_before, no_round, same_round}
-use Rattle.cx_field.specs.declared.parts.Entry.{Entry}
-use Rattle.cx_field.specs.declared.parts.Vote.{Vote}
-use Rattle.cx_grid.specs.Quorum.{member_at, row_whole, column_whole, with_mark}
-use Rattle.cx_model.specs.declared.states.MatchAnswer.{MatchAnswer}
-use Rattle.cx_model.specs.declared.states.Promised.{Promised}
-use Rattle.cx_model.specs.Lists.{same_number, number_itself}
-use Rattle.cx_model.specs.Matched.{is_counted, greatest_watermark, entries_told, live_entries, rows_whole}
-use Rattle.cx_model.specs.Matchmaker.{entry, has_round}
-use Rattle.cx_model.specs.Member.{Member}
-use Rattle.cx_model.specs.Plan.{promised_by, votes_told, greatest_cw, end_told, greater_vote, best_vote, placed_from}
-use Rattle.cx_inv_match.specs.Facts.{AreOnce, answering_matchmakers}
-use Rattle.cx_inv_match.specs.Words.{how_many}
-use Rattle.cx_inv_run.proofs.Members.{Member-cases, Member-first, Member-second, Member-map, Member-filter, filter-Member, any-Member}
-use Rattle.cx_inv_run.proofs.Members.{Member-any, none-Member, all-Member, Member-is_in}
-use Rattle.cx_inv_run.proofs.Quorums.{row-Member, column-Member, once_count}
-use Rattle.cx_inv_run.proofs.Rounds.{before-not, itself-not_before, at_most-trans, same_round-true, same_round-itself}
+use Rattle.cx_inv_run.proofs.Common.{◌≡◌, ℕ, zero, suc, ◌+◌, ◌<◌, ◌≤◌, true, false, cond, not, map, ◌⊎◌, List, [], ◌∷◌, ◌++◌, length}
+use Rattle.cx_inv_run.proofs.Common.{Option, Some, None, inl, inr, ap, sym, subst, ◌∙◌, refl, arith, ◌==◌, nat_lt, true≢false, cond_both}
+use Rattle.cx_inv_run.proofs.Common.{Cluster, Placed, Value, Round, Shape, is_in, numbers, is_before, no_round, same_round, Entry, Vote}
+use Rattle.cx_inv_run.proofs.Common.{member_at, column_whole, with_mark, MatchAnswer, Promised, same_number, number_itself, is_counted}
+use Rattle.cx_inv_run.proofs.Common.{greatest_watermark, entries_told, live_entries, rows_whole, entry, has_round, Member, promised_by}
+use Rattle.cx_inv_run.proofs.Common.{votes_told, greatest_cw, end_told, greater_vote, best_vote, placed_from, Member-cases, Member-first}
+use Rattle.cx_inv_run.proofs.Common.{Member-second, Member-map, Member-filter, filter-Member, any-Member, Member-any, none-Member}
+use Rattle.cx_inv_run.proofs.Common.{all-Member, Member-is_in, column-Member, once_count, before-not, itself-not_before, at_most-trans}
+use Rattle.cx_inv_run.proofs.Common.{same_round-true, same_round-itself}
+use Rattle.cx_inv_match.specs.Prelude.{AreOnce, answering_matchmakers, how_many}
+use Rattle.cx_grid.specs.Quorum.{row_whole}
+use Rattle.cx_inv_run.proofs.Quorums.{row-Member}
 
 differ_number : (i j : ℕ) → (i == j) ≡ false → i ≡ j → ⊥
 differ_number i j f e = true≢false (sym (subst (λ k. (i == k) ≡ true) e (number_itself i)) ∙ f)

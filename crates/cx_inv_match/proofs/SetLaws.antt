@@ -1,15 +1,7 @@
 -- What is so of sets, after one more record: a ballot that a matchmaker promised, a set that it accepted, a log with which it began, a
 -- round that it recorded; and any other record.
-use Rattle.std.proofs.Common.{◌≡◌, true, ◌⊎◌, ℕ, List, sym, ⊎_elim}
-use Rattle.cx_base.specs.declared.cluster.Cluster.{Cluster}
-use Rattle.cx_base.specs.declared.role.RoleId.{RoleId}
-use Rattle.cx_base.specs.declared.round.Round.{Round}
-use Rattle.cx_base.specs.Grid.{Shape}
-use Rattle.cx_base.specs.Round.{is_before}
-use Rattle.cx_field.specs.declared.parts.Entry.{Entry}
-use Rattle.cx_letter.specs.Letter.{Letter}
-use Rattle.cx_letter.specs.declared.input.KeptRecord.{KeptRecord}
-use Rattle.cx_model.specs.Member.{Member}
+use Rattle.cx_inv_run.proofs.Common.{◌≡◌, true, ◌⊎◌, ℕ, List, sym, ⊎_elim, Cluster, RoleId, Round, Shape, is_before, Entry, Letter}
+use Rattle.cx_inv_run.proofs.Common.{KeptRecord, Member}
 use Rattle.cx_inv_match.specs.Words.{HasMatch, HasBoot, HasNext, IsUsed, IsNextSet, IsBoot, IsMember, SetFacts}
 use Rattle.cx_inv_match.proofs.Grow.{Grows, grown_next, grown_boot, grown_member}
 

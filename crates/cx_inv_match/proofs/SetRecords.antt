@@ -1,27 +1,12 @@
 -- The facts hold once a record on sets of matchmakers is kept: a stop, a next set, a beginning, a ballot.
-use Rattle.std.proofs.Common.{◌≡◌, ℕ, true, false, ◌⊎◌, List, ◌∷◌, inl, inr, ap, sym, subst, ◌∙◌, ⊎_elim, refl}
-use Rattle.std.proofs.lemmas.Bool.{true≢false}
-use Rattle.std.proofs.lemmas.Option.{same_Some}
-use Rattle.cx_base.specs.declared.cluster.Cluster.{Cluster}
+use Rattle.cx_inv_run.proofs.Common.{◌≡◌, ℕ, true, false, ◌⊎◌, List, ◌∷◌, inl, inr, ap, sym, subst, ◌∙◌, ⊎_elim, refl, true≢false}
+use Rattle.cx_inv_run.proofs.Common.{same_Some, Cluster, RoleId, Round, Shape, role, is_before, no_round, Entry, Letter, KeptRecord}
+use Rattle.cx_inv_run.proofs.Common.{MatchmakerDurable, matchmaker_rules, matchmaker_after, entry, Member, HasKept, replacer_rules, State}
+use Rattle.cx_inv_run.proofs.Common.{Down, set_state, entry_by, durable_of, kept_cases, itself-not_before, before-not, before-from_at_most}
+use Rattle.cx_inv_run.proofs.Common.{at_most-trans, before-both, HasRound}
 use Rattle.cx_base.specs.declared.role.Kind.TheVariants as kind
-use Rattle.cx_base.specs.declared.role.RoleId.{RoleId}
-use Rattle.cx_base.specs.declared.round.Round.{Round}
-use Rattle.cx_base.specs.Grid.{Shape}
-use Rattle.cx_base.specs.Role.{role}
-use Rattle.cx_base.specs.Round.{is_before, no_round}
-use Rattle.cx_field.specs.declared.parts.Entry.{Entry}
-use Rattle.cx_letter.specs.Letter.{Letter}
-use Rattle.cx_letter.specs.declared.input.KeptRecord.{KeptRecord}
 use Rattle.cx_letter.specs.declared.kept.Record.TheVariants as kept
-use Rattle.cx_model.specs.Matchmaker.{MatchmakerDurable, matchmaker_rules, matchmaker_after, entry}
-use Rattle.cx_model.specs.Member.{Member}
-use Rattle.cx_model.specs.Promises.{HasKept}
-use Rattle.cx_model.specs.Replacer.{replacer_rules}
-use Rattle.cx_inv_run.specs.States.{State, Down, set_state, entry_by, durable_of}
-use Rattle.cx_inv_run.proofs.Histories.{kept_cases}
-use Rattle.cx_inv_run.proofs.Rounds.{itself-not_before, before-not, before-from_at_most, at_most-trans, before-both}
-use Rattle.cx_inv_match.specs.Words.{HasMatch, HasBoot, HasRound, HasStop, HasNext, HasBallot, IsUsed, IsMember, IsNextSet, IsBoot}
-use Rattle.cx_inv_match.specs.Words.{SetFacts}
+use Rattle.cx_inv_match.specs.Words.{HasMatch, HasBoot, HasStop, HasNext, HasBallot, IsUsed, IsMember, IsNextSet, IsBoot, SetFacts}
 use Rattle.cx_inv_match.specs.Facts.{IsMatchmaker, IsNextAsked, IsAsked, Facts}
 use Rattle.cx_inv_match.proofs.Grow.{Grows, grown_round, grown_ballot, grown_watermark}
 use Rattle.cx_inv_match.proofs.SetLaws.{grown_sets}

@@ -1,21 +1,13 @@
 -- The facts that hold at every moment of every run, and from which agreement follows.
 use Rattle.std.specs.Prelude.{◌≡◌, ◌⊎◌, ℕ, ◌<◌, ◌≤◌, true, false, List, [], ◌∷◌, length, slice_get, Option, None, Some}
-use Rattle.cx_base.specs.declared.cluster.Cluster.{Cluster}
-use Rattle.cx_base.specs.declared.command.Placed.{Placed}
-use Rattle.cx_base.specs.declared.command.Value.{Value}
+use Rattle.cx_model.specs.Prelude.{Cluster, Placed, Value, RoleId, Round, Shape, role, is_before, no_round, is_above, Entry, Vote, Letter}
+use Rattle.cx_model.specs.Prelude.{letter, KeptRecord, Msg, AcceptorDurable, acceptor_rules, Collection, HasVoted, IsProposed, IsRetiring}
+use Rattle.cx_model.specs.Prelude.{LeaderWasTold, BatcherWasTold, ReplicaWasTold, ReaderWasTold, LeaderVolatile, leader_rules, round_of}
+use Rattle.cx_model.specs.Prelude.{is_idle, is_changed, MatchmakerDurable, matchmaker_rules, entry, Member, HasKept, IsConfig, names_set}
+use Rattle.cx_model.specs.Prelude.{Batch, ReaderVolatile, is_matched, ReplacerDurable, ReplacerVolatile, replacer_rules, State, Down, Plain}
+use Rattle.cx_model.specs.Prelude.{BatcherIn, LeaderIn, ProxyIn, ReplicaIn, ReaderIn, ReplacerIn, HasRound}
 use Rattle.cx_base.specs.declared.role.Kind.TheVariants as kind
-use Rattle.cx_base.specs.declared.role.RoleId.{RoleId}
-use Rattle.cx_base.specs.declared.round.Round.{Round}
-use Rattle.cx_base.specs.Grid.{Shape}
-use Rattle.cx_base.specs.Role.{role}
-use Rattle.cx_base.specs.Round.{is_before, no_round}
-use Rattle.cx_base.specs.Sets.{is_above}
-use Rattle.cx_field.specs.declared.parts.Entry.{Entry}
-use Rattle.cx_field.specs.declared.parts.Vote.{Vote}
-use Rattle.cx_letter.specs.Letter.{Letter, letter}
-use Rattle.cx_letter.specs.declared.input.KeptRecord.{KeptRecord}
 use Rattle.cx_letter.specs.declared.kept.Record.TheVariants as kept
-use Rattle.cx_letter.specs.declared.message.Msg.{Msg}
 use Rattle.cx_letter.specs.declared.message.Msg.TheVariants as msg
 use Rattle.cx_model.specs.declared.states.Acked.{Acked}
 use Rattle.cx_model.specs.declared.states.Halt.{Halt}
@@ -27,19 +19,9 @@ use Rattle.cx_model.specs.declared.states.Replacing.{Replacing}
 use Rattle.cx_model.specs.declared.states.Replacing.TheVariants as replacing
 use Rattle.cx_model.specs.declared.states.Stage.{Stage}
 use Rattle.cx_model.specs.declared.states.Stage.TheVariants.{Off, Informing, Collecting, Retired}
-use Rattle.cx_model.specs.Acceptor.{AcceptorDurable, acceptor_rules}
-use Rattle.cx_model.specs.Collection.{Collection}
-use Rattle.cx_model.specs.Facts.{HasVoted, IsProposed, IsRetiring, LeaderWasTold, ProxyWasTold, BatcherWasTold, ReplicaWasTold}
-use Rattle.cx_model.specs.Facts.{ReaderWasTold}
-use Rattle.cx_model.specs.Leader.{LeaderVolatile, leader_rules, round_of, is_idle, is_changed}
-use Rattle.cx_model.specs.Matchmaker.{MatchmakerDurable, matchmaker_rules, entry}
-use Rattle.cx_model.specs.Member.{Member}
-use Rattle.cx_model.specs.Promises.{HasKept, IsConfig}
-use Rattle.cx_model.specs.Names.{names_set}
-use Rattle.cx_model.specs.Reader.{Batch, ReaderVolatile, is_matched}
-use Rattle.cx_model.specs.Replacer.{ReplacerDurable, ReplacerVolatile, replacer_rules}
-use Rattle.cx_inv_run.specs.States.{State, Down, Plain, BatcherIn, LeaderIn, ProxyIn, ReplicaIn, ReaderIn, ReplacerIn, durable_of, log_in}
-use Rattle.cx_inv_match.specs.Words.{HasMatch, HasGarbage, HasRound, HasMark, HasPromise, HasLow, IsChosenIn, IsChosen, IsMatched, IsSafe}
+use Rattle.cx_model.specs.Facts.{ProxyWasTold}
+use Rattle.cx_inv_run.specs.States.{durable_of, log_in}
+use Rattle.cx_inv_match.specs.Words.{HasMatch, HasGarbage, HasMark, HasPromise, HasLow, IsChosenIn, IsChosen, IsMatched, IsSafe}
 use Rattle.cx_inv_match.specs.Words.{IsCollected, IsAnswer, IsPromise, HasBoot, HasNext, HasBallot, IsHalt, IsKnown, IsDecided, IsClosed}
 use Rattle.cx_inv_match.specs.Words.{IsNextSet, IsJoin, IsBoot, IsWatermark, HasStopped, SetFacts}
 

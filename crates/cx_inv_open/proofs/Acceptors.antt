@@ -1,29 +1,13 @@
 -- An acceptor keeps what it may keep, and reports votes in the window of its watermark.
-use Rattle.std.specs.Prelude.{◌≡◌, ℕ, ◌+◌, ◌<◌, ◌≤◌, ◌&&◌, ◌||◌, true, false, nat_le, nat_lt, List, refl}
-use Rattle.std.proofs.Common.{subst, inl, arith}
-use Rattle.std.proofs.lemmas.Bool.{and_parts, and_from}
-use Rattle.std.proofs.lemmas.Bool.Decides.{nat_tests}
-use Rattle.cx_base.specs.declared.cluster.Cluster.{Cluster}
+use Rattle.cx_inv_run.proofs.Common.{◌≡◌, ℕ, ◌+◌, ◌<◌, ◌≤◌, ◌&&◌, ◌||◌, true, false, nat_le, nat_lt, List, refl, subst, inl, arith}
+use Rattle.cx_inv_run.proofs.Common.{and_parts, and_from, nat_tests, Cluster, RoleId, Round, role, same_role, is_before, same_round, Vote}
+use Rattle.cx_inv_run.proofs.Common.{Letter, letter, Input, KeptRecord, Msg, AcceptorDurable, acceptor_rules, acceptor_row, acceptor_takes}
+use Rattle.cx_inv_run.proofs.Common.{is_of_round, vote_at, Member, names, names_body, names_role, names_round, names_value, Outcome}
+use Rattle.cx_inv_run.proofs.Common.{by_test, IsFit, Lands, State, Given, plain, durable_of}
 use Rattle.cx_base.specs.declared.role.Kind.TheVariants as kind
-use Rattle.cx_base.specs.declared.role.RoleId.{RoleId}
-use Rattle.cx_base.specs.declared.round.Round.{Round}
-use Rattle.cx_base.specs.Role.{role, same_role}
-use Rattle.cx_base.specs.Round.{is_before, same_round}
 use Rattle.cx_field.specs.Fields.{in_window}
-use Rattle.cx_field.specs.declared.parts.Vote.{Vote}
-use Rattle.cx_letter.specs.Letter.{Letter, letter}
-use Rattle.cx_letter.specs.declared.input.Input.{Input}
 use Rattle.cx_letter.specs.declared.input.Input.TheVariants as input
-use Rattle.cx_letter.specs.declared.input.KeptRecord.{KeptRecord}
-use Rattle.cx_letter.specs.declared.message.Msg.{Msg}
 use Rattle.cx_letter.specs.declared.message.Msg.TheVariants as msg
-use Rattle.cx_model.specs.Acceptor.{AcceptorDurable, acceptor_rules, acceptor_row, acceptor_takes, is_of_round, vote_at}
-use Rattle.cx_model.specs.Member.{Member}
-use Rattle.cx_model.specs.Names.{names, names_body, names_role, names_round, names_value}
-use Rattle.cx_model.specs.Outcome.{Outcome, by_test}
-use Rattle.cx_model.specs.Rules.{IsFit}
-use Rattle.cx_inv_run.specs.Laws.{Lands}
-use Rattle.cx_inv_run.specs.States.{State, Given, plain, durable_of}
 use Rattle.cx_inv_match.specs.Facts.{Facts}
 use Rattle.cx_inv_open.specs.Fits.{Fitting}
 use Rattle.cx_inv_open.proofs.Keep.{AllInWindow, none_in, one_in, new_fits, lands, vote_window}

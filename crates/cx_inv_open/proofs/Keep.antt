@@ -1,32 +1,14 @@
 -- A row keeps the facts where its record fits, and its state and datagrams are in their ranges.
-use Rattle.std.specs.Prelude.{◌≡◌, ℕ, ◌+◌, ◌<◌, ◌&&◌, Bool, true, nat_lt, map, List, [], ◌∷◌, ◌++◌, Option, None, Some}
-use Rattle.std.proofs.Common.{sym, subst, inl, inr, arith}
-use Rattle.std.proofs.lemmas.Bool.{and_parts}
-use Rattle.std.proofs.lemmas.Bool.Decides.{nat_tests}
-use Rattle.cx_base.specs.declared.cluster.Cluster.{Cluster}
-use Rattle.cx_base.specs.declared.command.Value.{Value}
-use Rattle.cx_base.specs.declared.role.Kind.{Kind}
+use Rattle.cx_inv_run.proofs.Common.{◌≡◌, ℕ, ◌+◌, ◌<◌, ◌&&◌, Bool, true, nat_lt, map, List, [], ◌∷◌, ◌++◌, Option, None, Some, sym, subst}
+use Rattle.cx_inv_run.proofs.Common.{inl, inr, arith, and_parts, nat_tests, Cluster, Value, Kind, RoleId, Round, same_role, Letter}
+use Rattle.cx_inv_run.proofs.Common.{KeptRecord, Written, Record, Msg, IsProposed, Member, Outcome, either_way, HasKept, Rules, IsFit}
+use Rattle.cx_inv_run.proofs.Common.{IsSender, IsKeeper, IsKept, OfKind, Lands, State, Down, with_record, durable_of, Member-both}
+use Rattle.cx_inv_run.proofs.Common.{Member-map, Member-one}
 use Rattle.cx_base.specs.declared.role.Kind.TheVariants as kind
-use Rattle.cx_base.specs.declared.role.RoleId.{RoleId}
-use Rattle.cx_base.specs.declared.round.Round.{Round}
-use Rattle.cx_base.specs.Role.{same_role}
-use Rattle.cx_letter.specs.Letter.{Letter}
-use Rattle.cx_letter.specs.declared.input.KeptRecord.{KeptRecord}
-use Rattle.cx_letter.specs.declared.input.Written.{Written}
 use Rattle.cx_letter.specs.declared.input.Written.TheVariants as written
-use Rattle.cx_letter.specs.declared.kept.Record.{Record}
 use Rattle.cx_letter.specs.declared.kept.Record.TheVariants as kept
-use Rattle.cx_letter.specs.declared.message.Msg.{Msg}
 use Rattle.cx_letter.specs.declared.message.Msg.TheVariants as msg
-use Rattle.cx_model.specs.Facts.{IsProposed}
-use Rattle.cx_model.specs.Member.{Member}
-use Rattle.cx_model.specs.Outcome.{Outcome, either_way}
-use Rattle.cx_model.specs.Promises.{HasKept}
-use Rattle.cx_model.specs.Rules.{Rules, IsFit}
-use Rattle.cx_inv_run.specs.Kinds.{IsSender, IsKeeper, IsKept, OfKind}
-use Rattle.cx_inv_run.specs.Laws.{Lands}
-use Rattle.cx_inv_run.specs.States.{State, Down, set_state, with_record, durable_of}
-use Rattle.cx_inv_run.proofs.Members.{Member-both, Member-map, Member-one}
+use Rattle.cx_inv_run.specs.States.{set_state}
 use Rattle.cx_inv_open.specs.Fits.{FitsAs, NewFits, AllFit, InWindow, InRange, IsSlot, Fitting}
 
 abbrev pub AllInWindow : List Letter → Type 0

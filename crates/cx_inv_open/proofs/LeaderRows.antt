@@ -1,49 +1,27 @@
 -- A leader keeps rounds that follow its own, and proposes in the window of its watermark.
-use Rattle.std.specs.Prelude.{◌≡◌, ℕ, ◌+◌, ◌-◌, ◌<◌, ◌≤◌, ◌==◌, Bool, true, false, not, ◌&&◌, ◌||◌, max, nat_lt, nat_le, map, List, [], ◌∷◌}
-use Rattle.std.specs.Prelude.{◌++◌, length, slice_index_or, slice_set, Option, None, Some, if◌then◌else◌, refl}
-use Rattle.std.proofs.Common.{ap, sym, subst, ◌∙◌, arith}
-use Rattle.std.proofs.lemmas.Bool.{and_from, and_parts, or_left, or_right, not-false}
-use Rattle.std.proofs.lemmas.Bool.Decides.{nat_tests}
-use Rattle.std.proofs.lemmas.Option.{same_Some}
-use Rattle.cx_base.specs.declared.cluster.Cluster.{Cluster}
-use Rattle.cx_base.specs.declared.command.Command.{Command}
-use Rattle.cx_base.specs.declared.command.Placed.{Placed}
+use Rattle.std.proofs.lemmas.Bool.{or_left}
+use Rattle.cx_inv_run.proofs.Common.{◌≡◌, ℕ, ◌+◌, ◌-◌, ◌<◌, ◌≤◌, ◌==◌, Bool, true, false, not, ◌&&◌, ◌||◌, max, nat_lt, nat_le, map, List}
+use Rattle.cx_inv_run.proofs.Common.{[], ◌∷◌, ◌++◌, length, slice_index_or, slice_set, Option, None, Some, if◌then◌else◌, refl, ap, sym}
+use Rattle.cx_inv_run.proofs.Common.{subst, ◌∙◌, arith, and_from, and_parts, or_right, not-false, nat_tests, same_Some, Cluster, Command}
+use Rattle.cx_inv_run.proofs.Common.{Placed, Lead, Collect, Replace, RoleId, Round, Why, Shape, is_in, below, numbers, same_role}
+use Rattle.cx_inv_run.proofs.Common.{lead_after, change_after, is_above, Entry, Letter, Input, Msg, Mode, Idle, Matching, Phase1, Leading}
+use Rattle.cx_inv_run.proofs.Common.{Promised, Collection, collection_from, with_informed, with_forgotten, is_off, is_informing}
+use Rattle.cx_inv_run.proofs.Common.{is_collecting, LeaderDurable, LeaderVolatile, leader_rules, is_idle, is_matching, is_promising}
+use Rattle.cx_inv_run.proofs.Common.{is_leading, round_of, is_own, match_a_to, phase1a_to, leads_to, propose_to, inform_to, garbage_a_to}
+use Rattle.cx_inv_run.proofs.Common.{begin_in, finish, is_changed, bypass, matched_by, match_counted, promise_counted, with_seen}
+use Rattle.cx_inv_run.proofs.Common.{is_past_window, propose_in, held_by, is_settled, collect_in, informed_counted, informed_in, set_learnt}
+use Rattle.cx_inv_run.proofs.Common.{leader_takes, open_values, stage_sends, tick_in, order_row, leader_row, has_no_room, number_itself}
+use Rattle.cx_inv_run.proofs.Common.{enough, is_counted, live_entries, is_member_of, members_of, members_in, rows_whole, Member, names}
+use Rattle.cx_inv_run.proofs.Common.{names_grid, names_round, Outcome, only_word, replied, by_test, either_way, promised_by, has_promised}
+use Rattle.cx_inv_run.proofs.Common.{votes_told, greatest_cw, end_told, voted_value, best_vote, placed_from, IsFit, Member-both}
+use Rattle.cx_inv_run.proofs.Common.{Member-filter, Member-one, same_round-itself, before-higher}
 use Rattle.cx_base.specs.declared.event.Order.{Order as OrderOf}
-use Rattle.cx_base.specs.declared.event.Order.TheVariants.{Lead, Change, Collect, Replace}
-use Rattle.cx_base.specs.declared.role.RoleId.{RoleId}
-use Rattle.cx_base.specs.declared.round.Round.{Round}
-use Rattle.cx_base.specs.declared.why.Why.{Why}
+use Rattle.cx_base.specs.declared.event.Order.TheVariants.{Change}
 use Rattle.cx_base.specs.declared.why.Why.TheVariants as why
-use Rattle.cx_base.specs.Grid.{Shape, is_in}
-use Rattle.cx_base.specs.Lists.{below, numbers}
-use Rattle.cx_base.specs.Role.{same_role}
-use Rattle.cx_base.specs.Round.{lead_after, change_after}
-use Rattle.cx_base.specs.Sets.{is_above}
-use Rattle.cx_field.specs.declared.parts.Entry.{Entry}
-use Rattle.cx_letter.specs.Letter.{Letter}
-use Rattle.cx_letter.specs.declared.input.Input.{Input}
 use Rattle.cx_letter.specs.declared.input.Input.TheVariants as input
 use Rattle.cx_letter.specs.declared.kept.Record.TheVariants as kept
-use Rattle.cx_letter.specs.declared.message.Msg.{Msg}
 use Rattle.cx_letter.specs.declared.message.Msg.TheVariants as msg
-use Rattle.cx_model.specs.declared.states.Mode.{Mode}
-use Rattle.cx_model.specs.declared.states.Mode.TheVariants.{Idle, Matching, Phase1, Leading}
-use Rattle.cx_model.specs.declared.states.Promised.{Promised}
-use Rattle.cx_model.specs.Collection.{Collection, collection_from, with_informed, with_forgotten, is_off, is_informing, is_collecting}
-use Rattle.cx_model.specs.Leader.{LeaderDurable, LeaderVolatile, leader_rules, leader_fits, is_idle, is_matching, is_promising, is_leading}
-use Rattle.cx_model.specs.Leader.{round_of, is_own, match_a_to, phase1a_to, leads_to, propose_to, inform_to, garbage_a_to, begin_in, finish}
-use Rattle.cx_model.specs.Leader.{is_changed, bypass, matched_by, match_counted, promise_counted, with_seen, is_past_window, propose_in}
-use Rattle.cx_model.specs.Leader.{held_by, is_settled, collect_in, informed_counted, informed_in, set_learnt, leader_takes, open_values}
-use Rattle.cx_model.specs.Leader.{stage_sends, tick_in, order_row, leader_row, follows, has_no_room}
-use Rattle.cx_model.specs.Lists.{number_itself}
-use Rattle.cx_model.specs.Matched.{enough, is_counted, live_entries, is_member_of, members_of, members_in, rows_whole}
-use Rattle.cx_model.specs.Member.{Member}
-use Rattle.cx_model.specs.Names.{names, names_grid, names_round}
-use Rattle.cx_model.specs.Outcome.{Outcome, only_word, replied, by_test, either_way}
-use Rattle.cx_model.specs.Plan.{promised_by, has_promised, votes_told, greatest_cw, end_told, voted_value, best_vote, placed_from}
-use Rattle.cx_model.specs.Rules.{IsFit}
-use Rattle.cx_inv_run.proofs.Members.{Member-both, Member-filter, Member-one}
-use Rattle.cx_inv_run.proofs.Rounds.{same_round-itself, before-higher}
+use Rattle.cx_model.specs.Leader.{leader_fits, follows}
 use Rattle.cx_inv_open.specs.Fits.{IsNextSlot, IsSlot}
 use Rattle.cx_inv_open.proofs.Keep.{AllInWindow, none_in, one_in, both_in, each_in}
 use Rattle.cx_inv_open.proofs.Plans.{AreReported, Reports, AllReported, all_reported, end_most, planned_count, placed_below, next_free}

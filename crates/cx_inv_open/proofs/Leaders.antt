@@ -1,26 +1,12 @@
 -- A leader's rows keep the facts, by what is known of a leader that runs.
-use Rattle.std.specs.Prelude.{◌≡◌, ℕ, suc, ◌-◌, ◌<◌, ◌≤◌, Bool, true, nat_le, filter, List, [], ◌∷◌, length, slice_get, None, Some, refl}
-use Rattle.std.proofs.Common.{ap, sym, subst, inl, arith}
-use Rattle.std.proofs.lemmas.Bool.{leb-true}
-use Rattle.cx_base.specs.declared.cluster.Cluster.{Cluster}
-use Rattle.cx_base.specs.declared.command.Placed.{Placed}
+use Rattle.cx_inv_run.proofs.Common.{◌≡◌, ℕ, suc, ◌-◌, ◌<◌, ◌≤◌, Bool, true, nat_le, filter, List, [], ◌∷◌, length, slice_get, None, Some}
+use Rattle.cx_inv_run.proofs.Common.{refl, ap, sym, subst, inl, arith, leb-true, Cluster, Placed, RoleId, below, role, Entry, Letter}
+use Rattle.cx_inv_run.proofs.Common.{letter, Input, KeptRecord, Msg, Mode, Idle, Matching, Phase1, Leading, LeaderDurable, LeaderVolatile}
+use Rattle.cx_inv_run.proofs.Common.{leader_rules, is_idle, is_matching, is_leading, is_changed, leader_row, Member, Lands, State, Given}
+use Rattle.cx_inv_run.proofs.Common.{LeaderIn, durable_of, log_in}
 use Rattle.cx_base.specs.declared.role.Kind.TheVariants as kind
-use Rattle.cx_base.specs.declared.role.RoleId.{RoleId}
-use Rattle.cx_base.specs.Lists.{below}
-use Rattle.cx_base.specs.Role.{role}
-use Rattle.cx_field.specs.declared.parts.Entry.{Entry}
-use Rattle.cx_letter.specs.Letter.{Letter, letter}
-use Rattle.cx_letter.specs.declared.input.Input.{Input}
 use Rattle.cx_letter.specs.declared.input.Input.TheVariants as input
-use Rattle.cx_letter.specs.declared.input.KeptRecord.{KeptRecord}
-use Rattle.cx_letter.specs.declared.message.Msg.{Msg}
 use Rattle.cx_letter.specs.declared.message.Msg.TheVariants as msg
-use Rattle.cx_model.specs.declared.states.Mode.{Mode}
-use Rattle.cx_model.specs.declared.states.Mode.TheVariants.{Idle, Matching, Phase1, Leading}
-use Rattle.cx_model.specs.Leader.{LeaderDurable, LeaderVolatile, leader_rules, is_idle, is_matching, is_leading, is_changed, leader_row}
-use Rattle.cx_model.specs.Member.{Member}
-use Rattle.cx_inv_run.specs.Laws.{Lands}
-use Rattle.cx_inv_run.specs.States.{State, Given, LeaderIn, durable_of, log_in}
 use Rattle.cx_inv_run.proofs.Members.{filter-passes}
 use Rattle.cx_inv_match.specs.Facts.{Facts, InMode, InState, IsLastRound}
 use Rattle.cx_inv_vote.proofs.Agree.{chosen_proposed}

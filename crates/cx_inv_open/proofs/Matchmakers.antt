@@ -1,32 +1,15 @@
 -- A matchmaker keeps what it may keep.
-use Rattle.std.specs.Prelude.{◌≡◌, ℕ, ◌&&◌, bytes_eq, true, false, nat_le, nat_lt, List, length, Option, None, Some, refl}
-use Rattle.std.specs.List.{list_any, list_all}
-use Rattle.std.proofs.Common.{arith}
-use Rattle.std.proofs.lemmas.Bool.{and_parts}
-use Rattle.std.proofs.lemmas.Bool.Decides.{nat_tests}
-use Rattle.cx_base.specs.declared.cluster.Cluster.{Cluster}
+use Rattle.cx_inv_run.proofs.Common.{◌≡◌, ℕ, ◌&&◌, bytes_eq, true, false, nat_le, nat_lt, List, length, Option, None, Some, refl, list_any}
+use Rattle.cx_inv_run.proofs.Common.{list_all, arith, and_parts, nat_tests, Cluster, RoleId, Round, Shape, is_in, role, same_role}
+use Rattle.cx_inv_run.proofs.Common.{is_before, same_round, Entry, Letter, Input, KeptRecord, Msg, MatchmakerDurable, matchmaker_rules}
+use Rattle.cx_inv_run.proofs.Common.{matchmaker_row, matchmaker_takes, at_work, boot_in, has_round, in_set, is_booted, is_stopped}
+use Rattle.cx_inv_run.proofs.Common.{match_a_row, set_of, names, names_body, names_entry, names_grid, names_role, names_round, names_set}
+use Rattle.cx_inv_run.proofs.Common.{Outcome, by_test, either_way, IsFit, Lands, State, plain, durable_of, none-Member, Member-all}
+use Rattle.cx_inv_run.proofs.Common.{matchmaker_kinds}
 use Rattle.cx_base.specs.declared.role.Kind.TheVariants as kind
-use Rattle.cx_base.specs.declared.role.RoleId.{RoleId}
-use Rattle.cx_base.specs.declared.round.Round.{Round}
-use Rattle.cx_base.specs.Grid.{Shape, is_in}
-use Rattle.cx_base.specs.Role.{role, same_role}
-use Rattle.cx_base.specs.Round.{is_before, same_round}
-use Rattle.cx_field.specs.declared.parts.Entry.{Entry}
-use Rattle.cx_letter.specs.Letter.{Letter}
-use Rattle.cx_letter.specs.declared.input.Input.{Input}
 use Rattle.cx_letter.specs.declared.input.Input.TheVariants as input
-use Rattle.cx_letter.specs.declared.input.KeptRecord.{KeptRecord}
-use Rattle.cx_letter.specs.declared.message.Msg.{Msg}
 use Rattle.cx_letter.specs.declared.message.Msg.TheVariants as msg
-use Rattle.cx_model.specs.Matchmaker.{MatchmakerDurable, matchmaker_rules, matchmaker_row, matchmaker_takes, at_work, boot_in, has_round}
-use Rattle.cx_model.specs.Matchmaker.{in_set, is_booted, is_stopped, match_a_row, set_of}
-use Rattle.cx_model.specs.Names.{names, names_ballot, names_body, names_entry, names_grid, names_role, names_round, names_set}
-use Rattle.cx_model.specs.Outcome.{Outcome, by_test, either_way}
-use Rattle.cx_model.specs.Rules.{IsFit}
-use Rattle.cx_inv_run.specs.Laws.{Lands}
-use Rattle.cx_inv_run.specs.States.{State, plain, durable_of}
-use Rattle.cx_inv_run.proofs.Members.{none-Member, Member-all}
-use Rattle.cx_inv_run.proofs.Senders.{matchmaker_kinds}
+use Rattle.cx_model.specs.Names.{names_ballot}
 use Rattle.cx_inv_open.specs.Fits.{Fitting}
 use Rattle.cx_inv_open.proofs.Keep.{calm_in, new_fits, lands}
 

@@ -1,44 +1,19 @@
 -- A role that runs is one of the cluster's.
-use Rattle.std.specs.Prelude.{◌≡◌, ◌⊎◌, ℕ, ◌<◌, Bool, true, false, List, [], ◌∷◌, slice_get, Option, None, Some, refl, if◌then◌else◌}
-use Rattle.std.proofs.Common.{ap, sym, ◌∙◌, subst, inl, inr, nat_lt, arith}
-use Rattle.std.proofs.lemmas.Bool.Decides.{nat_tests}
-use Rattle.cx_base.specs.declared.cluster.Cluster.{Cluster}
-use Rattle.cx_base.specs.declared.event.Cut.{Cut}
-use Rattle.cx_base.specs.declared.event.Cut.TheVariants.{Whole}
-use Rattle.cx_base.specs.declared.event.Event.{Event}
+use Rattle.cx_inv_run.proofs.Common.{◌≡◌, ◌⊎◌, ℕ, ◌<◌, Bool, true, false, List, [], ◌∷◌, slice_get, Option, None, Some, refl, if◌then◌else◌}
+use Rattle.cx_inv_run.proofs.Common.{ap, sym, ◌∙◌, subst, inl, inr, nat_lt, arith, nat_tests, Cluster, Cut, Whole, Event, Kind, RoleId}
+use Rattle.cx_inv_run.proofs.Common.{role, Token, Letter, Act, Give, Snap, Stop, Wake, KeptRecord, acceptor_rules, batcher_rules}
+use Rattle.cx_inv_run.proofs.Common.{LeaderVolatile, leader_rules, matchmaker_rules, names_role, either_way, proxy_rules, reader_rules}
+use Rattle.cx_inv_run.proofs.Common.{ReplacerVolatile, replacer_rules, replica_rules, is_stale, Rules, Turn, turn, still, unbatcher_rules}
+use Rattle.cx_inv_run.proofs.Common.{World, change, come, ask, act_of, durable_part, turned, start, run, run_from, State, Down, BatcherIn}
+use Rattle.cx_inv_run.proofs.Common.{LeaderIn, ProxyIn, ReplicaIn, ReaderIn, ReplacerIn, plain, state_of, plain_volatile, batcher_volatile}
+use Rattle.cx_inv_run.proofs.Common.{leader_volatile, proxy_volatile, replica_volatile, reader_volatile, replacer_volatile, fresh_state}
+use Rattle.cx_inv_run.proofs.Common.{set_running, run_cluster}
 use Rattle.cx_base.specs.declared.event.Event.TheVariants as event
 use Rattle.cx_base.specs.declared.event.Order.TheVariants as order
-use Rattle.cx_base.specs.declared.role.Kind.{Kind}
 use Rattle.cx_base.specs.declared.role.Kind.TheVariants as kind
-use Rattle.cx_base.specs.declared.role.RoleId.{RoleId}
-use Rattle.cx_base.specs.Role.{role}
-use Rattle.cx_field.specs.declared.parts.Token.{Token}
-use Rattle.cx_letter.specs.Letter.{Letter}
-use Rattle.cx_letter.specs.declared.input.Act.{Act}
-use Rattle.cx_letter.specs.declared.input.Act.TheVariants.{Give, Snap, Stop, Wake}
 use Rattle.cx_letter.specs.declared.input.Input.TheVariants as input
-use Rattle.cx_letter.specs.declared.input.KeptRecord.{KeptRecord}
 use Rattle.cx_base.specs.declared.why.Why.TheVariants as why
-use Rattle.cx_model.specs.Acceptor.{acceptor_rules}
-use Rattle.cx_model.specs.Batcher.{batcher_rules}
-use Rattle.cx_model.specs.Leader.{LeaderVolatile, leader_rules}
-use Rattle.cx_model.specs.Matchmaker.{matchmaker_rules}
-use Rattle.cx_model.specs.Names.{names_role}
-use Rattle.cx_model.specs.Outcome.{either_way}
-use Rattle.cx_model.specs.Proxy.{proxy_rules}
-use Rattle.cx_model.specs.Reader.{reader_rules}
-use Rattle.cx_model.specs.Replacer.{ReplacerVolatile, replacer_rules}
-use Rattle.cx_model.specs.Replica.{replica_rules}
-use Rattle.cx_model.specs.Request.{is_stale}
-use Rattle.cx_model.specs.Rules.{Rules}
-use Rattle.cx_model.specs.Turn.{Turn, turn, still}
-use Rattle.cx_model.specs.Unbatcher.{unbatcher_rules}
-use Rattle.cx_model.specs.World.{World, Change, change, come, ask, act_of, durable_part, turned, start, step, run, run_from}
-use Rattle.cx_inv_run.specs.States.{State, Down, BatcherIn, LeaderIn, ProxyIn, ReplicaIn, ReaderIn, ReplacerIn, plain, state_of}
-use Rattle.cx_inv_run.specs.States.{plain_volatile, batcher_volatile, leader_volatile, proxy_volatile, replica_volatile, reader_volatile}
-use Rattle.cx_inv_run.specs.States.{replacer_volatile, fresh_state}
-use Rattle.cx_inv_run.proofs.Histories.{set_running}
-use Rattle.cx_inv_run.proofs.Steps.{run_cluster}
+use Rattle.cx_model.specs.World.{Change, step}
 
 abbrev IsThere : Cluster → (RoleId → State) → Type 0
 IsThere c roles = (a : RoleId) → (roles a ≡ Down) ⊎ (names_role c a ≡ true)

@@ -1,17 +1,8 @@
 -- What a leader plans lies in the window of its watermark, in slots below 2^40, where what acceptors reported does.
-use Rattle.std.specs.Prelude.{◌≡◌, ℕ, zero, suc, ◌+◌, ◌<◌, ◌≤◌, ◌==◌, false, ◌||◌, max, map, List, [], ◌∷◌, length, refl}
-use Rattle.std.proofs.Common.{ap, inl, inr, arith}
-use Rattle.std.proofs.lemmas.Bool.Decides.{nat_tests}
-use Rattle.cx_base.specs.declared.command.Placed.{Placed}
-use Rattle.cx_base.specs.declared.command.Value.{Value}
-use Rattle.cx_base.specs.Lists.{numbers}
-use Rattle.cx_field.specs.declared.parts.Vote.{Vote}
-use Rattle.cx_letter.specs.declared.message.Msg.{Msg}
+use Rattle.cx_inv_run.proofs.Common.{◌≡◌, ℕ, zero, suc, ◌+◌, ◌<◌, ◌≤◌, ◌==◌, false, ◌||◌, max, map, List, [], ◌∷◌, length, refl, ap, inl}
+use Rattle.cx_inv_run.proofs.Common.{inr, arith, nat_tests, Placed, Value, numbers, Vote, Msg, Promised, Member, votes_told, greatest_cw}
+use Rattle.cx_inv_run.proofs.Common.{end_told, placed_from, Member-cases}
 use Rattle.cx_letter.specs.declared.message.Msg.TheVariants as msg
-use Rattle.cx_model.specs.declared.states.Promised.{Promised}
-use Rattle.cx_model.specs.Member.{Member}
-use Rattle.cx_model.specs.Plan.{votes_told, greatest_cw, end_told, placed_from}
-use Rattle.cx_inv_run.proofs.Members.{Member-cases}
 use Rattle.cx_inv_open.specs.Fits.{IsNextSlot, IsSlot}
 
 -- what an acceptor reports lies in the window of its watermark, in slots below 2^40

@@ -1,31 +1,14 @@
 -- A proxy leader asks for votes in the windows that leaders proposed in.
-use Rattle.std.specs.Prelude.{◌≡◌, ℕ, ◌+◌, ◌<◌, ◌&&◌, not, nat_lt, map, List, [], ◌∷◌, Option, None, Some, refl}
-use Rattle.std.proofs.Common.{subst}
-use Rattle.cx_base.specs.declared.cluster.Cluster.{Cluster}
+use Rattle.cx_inv_run.proofs.Common.{◌≡◌, ℕ, ◌+◌, ◌<◌, ◌&&◌, not, nat_lt, map, List, [], ◌∷◌, Option, None, Some, refl, subst, Cluster}
+use Rattle.cx_inv_run.proofs.Common.{RoleId, Round, is_in, below, numbers, role, same_role, is_before, same_round, column_whole, with_mark}
+use Rattle.cx_inv_run.proofs.Common.{Letter, Input, KeptRecord, Msg, Pending, Member, names, Outcome, either_way, ProxyVolatile, pending_at}
+use Rattle.cx_inv_run.proofs.Common.{pending_of, phase2a_to, column_for, members_for, chosen_to, chosen_in_to, announcement, propose_over}
+use Rattle.cx_inv_run.proofs.Common.{vote_counted, vote_for, proxy_takes, again_for, again_at, proxy_tick, proxy_row, Lands, State, Given}
+use Rattle.cx_inv_run.proofs.Common.{ProxyIn, proxy_kinds}
 use Rattle.cx_base.specs.declared.role.Kind.TheVariants as kind
-use Rattle.cx_base.specs.declared.role.RoleId.{RoleId}
-use Rattle.cx_base.specs.declared.round.Round.{Round}
-use Rattle.cx_base.specs.Grid.{is_in}
-use Rattle.cx_base.specs.Lists.{below, numbers}
-use Rattle.cx_base.specs.Role.{role, same_role}
-use Rattle.cx_base.specs.Round.{is_before, same_round}
-use Rattle.cx_grid.specs.Quorum.{column_whole, with_mark}
-use Rattle.cx_letter.specs.Letter.{Letter}
-use Rattle.cx_letter.specs.declared.input.Input.{Input}
 use Rattle.cx_letter.specs.declared.input.Input.TheVariants as input
-use Rattle.cx_letter.specs.declared.input.KeptRecord.{KeptRecord}
-use Rattle.cx_letter.specs.declared.message.Msg.{Msg}
 use Rattle.cx_letter.specs.declared.message.Msg.TheVariants as msg
-use Rattle.cx_model.specs.declared.states.Pending.{Pending}
-use Rattle.cx_model.specs.Member.{Member}
-use Rattle.cx_model.specs.Names.{names}
-use Rattle.cx_model.specs.Outcome.{Outcome, either_way}
-use Rattle.cx_model.specs.Proxy.{ProxyVolatile, pending_at, raised_to, pending_of, phase2a_to, column_for, members_for, chosen_to}
-use Rattle.cx_model.specs.Proxy.{chosen_in_to, announcement, propose_over, vote_counted, vote_for, proxy_takes, again_for, again_at}
-use Rattle.cx_model.specs.Proxy.{proxy_tick, proxy_row}
-use Rattle.cx_inv_run.specs.Laws.{Lands}
-use Rattle.cx_inv_run.specs.States.{State, Given, ProxyIn}
-use Rattle.cx_inv_run.proofs.Senders.{proxy_kinds}
+use Rattle.cx_model.specs.Proxy.{raised_to}
 use Rattle.cx_inv_run.proofs.Sends.{proxy_keeps}
 use Rattle.cx_inv_match.specs.Facts.{Facts, InState}
 use Rattle.cx_inv_vote.proofs.Proxies.{pending_found}

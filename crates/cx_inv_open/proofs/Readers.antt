@@ -1,42 +1,20 @@
 -- A reader keeps its turns in order, none above the last one.
-use Rattle.std.specs.Prelude.{◌≡◌, ℕ, ◌+◌, ◌==◌, ◌≤◌, ◌&&◌, true, false, not, nat_le, nat_lt, max, List, [], ◌∷◌, ◌++◌, length, Option}
-use Rattle.std.specs.Prelude.{None, Some, refl}
-use Rattle.std.proofs.Common.{sym, subst, arith}
-use Rattle.std.proofs.lemmas.Bool.{and_parts, and_from, not-true}
-use Rattle.std.proofs.lemmas.Bool.Decides.{nat_tests}
-use Rattle.cx_base.specs.declared.cluster.Cluster.{Cluster}
+use Rattle.cx_inv_run.proofs.Common.{◌≡◌, ℕ, ◌+◌, ◌==◌, ◌≤◌, ◌&&◌, true, false, not, nat_le, nat_lt, max, List, [], ◌∷◌, ◌++◌, length}
+use Rattle.cx_inv_run.proofs.Common.{Option, None, Some, refl, sym, subst, arith, and_parts, and_from, not-true, nat_tests, Cluster, RoleId}
+use Rattle.cx_inv_run.proofs.Common.{Round, Why, Sent, role, same_role, is_in, same_round, is_above, Asking, Entry, Letter, Input}
+use Rattle.cx_inv_run.proofs.Common.{KeptRecord, Written, Msg, same_role-true, is_counted, is_member_of, greatest_watermark, live_entries}
+use Rattle.cx_inv_run.proofs.Common.{rows_whole, names, Outcome, by_test, either_way, Asked, ReaderDurable, ReaderVolatile, acked_by}
+use Rattle.cx_inv_run.proofs.Common.{ask_replicas, asked_anew, asked_for, begin, begin_if, greatest_mark, has_acked, is_among, is_first}
+use Rattle.cx_inv_run.proofs.Common.{is_matched, is_of_batch, last_turn, match_ack_row, matched, pre_read_ack_row, reader_row, reader_rules}
+use Rattle.cx_inv_run.proofs.Common.{reader_takes, reader_tick, request_over, make_token, IsFit, written_after, Lands, State, ReaderIn}
+use Rattle.cx_inv_run.proofs.Common.{reader_kinds}
 use Rattle.cx_base.specs.declared.role.Kind.TheVariants as kind
-use Rattle.cx_base.specs.declared.role.RoleId.{RoleId}
-use Rattle.cx_base.specs.declared.round.Round.{Round}
-use Rattle.cx_base.specs.declared.why.Why.{Why}
-use Rattle.cx_base.specs.declared.why.Why.TheVariants.{Sent}
-use Rattle.cx_base.specs.Role.{role, same_role}
-use Rattle.cx_base.specs.Grid.{is_in}
-use Rattle.cx_base.specs.Round.{same_round}
-use Rattle.cx_base.specs.Sets.{is_above}
-use Rattle.cx_field.specs.declared.parts.Asking.{Asking}
-use Rattle.cx_field.specs.declared.parts.Entry.{Entry}
-use Rattle.cx_letter.specs.Letter.{Letter}
-use Rattle.cx_letter.specs.declared.input.Input.{Input}
 use Rattle.cx_letter.specs.declared.input.Input.TheVariants as input
-use Rattle.cx_letter.specs.declared.input.KeptRecord.{KeptRecord}
-use Rattle.cx_letter.specs.declared.input.Written.{Written}
 use Rattle.cx_letter.specs.declared.input.Written.TheVariants as written
 use Rattle.cx_letter.specs.declared.kept.Record.TheVariants as kept
-use Rattle.cx_letter.specs.declared.message.Msg.{Msg}
 use Rattle.cx_letter.specs.declared.message.Msg.TheVariants as msg
-use Rattle.cx_model.specs.Lists.{same_role-true}
-use Rattle.cx_model.specs.Matched.{is_counted, is_member_of, greatest_watermark, live_entries, rows_whole}
-use Rattle.cx_model.specs.Names.{names}
-use Rattle.cx_model.specs.Outcome.{Outcome, by_test, either_way}
-use Rattle.cx_model.specs.Reader.{Asked, Batch, ReaderDurable, ReaderVolatile, acked_by, ask_replicas, asked_anew, asked_for, begin}
-use Rattle.cx_model.specs.Reader.{begin_if, finish, greatest_mark, has_acked, is_among, is_first, is_matched, is_of_batch, last_turn}
-use Rattle.cx_model.specs.Reader.{match_ack_row, matched, pre_read_ack_row, reader_row, reader_rules, reader_takes, reader_tick}
-use Rattle.cx_model.specs.Reader.{request_over, make_token}
-use Rattle.cx_model.specs.Rules.{IsFit, written_after}
-use Rattle.cx_inv_run.specs.Laws.{Lands}
-use Rattle.cx_inv_run.specs.States.{State, ReaderIn, durable_of}
-use Rattle.cx_inv_run.proofs.Senders.{reader_kinds}
+use Rattle.cx_model.specs.Reader.{Batch, finish}
+use Rattle.cx_inv_run.specs.States.{durable_of}
 use Rattle.cx_inv_open.specs.Fits.{FitsAs, AllFit, Fitting}
 use Rattle.cx_inv_open.proofs.Keep.{calm_in, new_fits, lands}
 

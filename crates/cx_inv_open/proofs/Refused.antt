@@ -1,38 +1,15 @@
 -- A role refuses no record of its list, where each change of it is one that it could have made after the earlier ones.
-use Rattle.std.specs.Prelude.{◌≡◌, ℕ, ◌+◌, Bool, true, false, List, [], ◌∷◌, ◌++◌, None, Some, if◌then◌else◌, refl}
-use Rattle.std.specs.List.{list_all}
-use Rattle.std.proofs.Common.{ap, sym, ◌∙◌, subst, reverse}
-use Rattle.std.proofs.lemmas.Bool.{and_parts}
-use Rattle.std.proofs.lemmas.List.Folds.{list_all-append}
-use Rattle.std.proofs.lemmas.List.{reverse-append, reverse-reverse}
-use Rattle.cx_base.specs.declared.cluster.Cluster.{Cluster}
-use Rattle.cx_base.specs.declared.command.Command.{Command}
-use Rattle.cx_base.specs.declared.command.Value.{Value}
-use Rattle.cx_base.specs.declared.role.Kind.{Kind}
+use Rattle.std.proofs.lemmas.List.{reverse-reverse}
+use Rattle.cx_inv_run.proofs.Common.{◌≡◌, ℕ, ◌+◌, Bool, true, false, List, [], ◌∷◌, ◌++◌, None, Some, if◌then◌else◌, refl, list_all, ap}
+use Rattle.cx_inv_run.proofs.Common.{sym, ◌∙◌, subst, reverse, and_parts, list_all-append, reverse-append, Cluster, Command, Value, Kind}
+use Rattle.cx_inv_run.proofs.Common.{RoleId, floor_fits, commands_of, role, same_role, KeptRecord, Written, Record, acceptor_rules}
+use Rattle.cx_inv_run.proofs.Common.{batcher_rules, leader_rules, same_role-true, matchmaker_rules, by_test, proxy_rules, reader_rules}
+use Rattle.cx_inv_run.proofs.Common.{replacer_rules, replica_rules, IsFit, Rules, folded, folded_from, refused, refused_from}
+use Rattle.cx_inv_run.proofs.Common.{unbatcher_rules, list_after, list_of, values_in, durable_of, durable_by_time}
 use Rattle.cx_base.specs.declared.role.Kind.TheVariants as kind
-use Rattle.cx_base.specs.declared.role.RoleId.{RoleId}
-use Rattle.cx_base.specs.Asked.{floor_fits}
-use Rattle.cx_base.specs.Fold.{commands_of}
-use Rattle.cx_base.specs.Role.{role, same_role}
-use Rattle.cx_letter.specs.declared.input.KeptRecord.{KeptRecord}
-use Rattle.cx_letter.specs.declared.input.Written.{Written}
 use Rattle.cx_letter.specs.declared.input.Written.TheVariants as written
-use Rattle.cx_letter.specs.declared.kept.Record.{Record}
-use Rattle.cx_model.specs.Acceptor.{acceptor_rules}
-use Rattle.cx_model.specs.Batcher.{batcher_rules}
-use Rattle.cx_model.specs.Leader.{leader_rules}
-use Rattle.cx_model.specs.Lists.{list_append, same_role-true}
-use Rattle.cx_model.specs.Matchmaker.{matchmaker_rules}
-use Rattle.cx_model.specs.Outcome.{by_test}
-use Rattle.cx_model.specs.Proxy.{proxy_rules}
-use Rattle.cx_model.specs.Reader.{reader_rules}
-use Rattle.cx_model.specs.Replacer.{replacer_rules}
-use Rattle.cx_model.specs.Replica.{replica_rules}
-use Rattle.cx_model.specs.Rules.{IsFit, Rules, folded, folded_from, refused, refused_from}
-use Rattle.cx_model.specs.Unbatcher.{unbatcher_rules}
-use Rattle.cx_model.specs.World.{list_after, list_of, values_in}
-use Rattle.cx_inv_run.specs.States.{durable_of, log_in}
-use Rattle.cx_inv_run.proofs.Histories.{durable_by_time}
+use Rattle.cx_model.specs.Lists.{list_append}
+use Rattle.cx_inv_run.specs.States.{log_in}
 use Rattle.cx_inv_open.specs.Fits.{FitsAs, AllFit, has_fitting_floors}
 use Rattle.cx_inv_open.specs.Reopened.{refused_as, stored_as}
 

@@ -1,41 +1,24 @@
 -- What values leave whose commands name clients of the cluster and tell floors that fit: keys that rise, and notes near their clients'
 -- floors. So a replica opens from the renewed list.
-use Rattle.std.specs.Prelude.{◌≡◌, ◌⊎◌, ℕ, ◌+◌, ◌==◌, ◌&&◌, Bool, true, false, not, nat_le, nat_lt, max, if◌then◌else◌, List, [], ◌∷◌, ◌++◌}
-use Rattle.std.specs.Prelude.{drop, take, Option, None, Some, refl}
-use Rattle.std.specs.List.{list_all}
-use Rattle.std.specs.Str.{bytes_eq}
-use Rattle.std.proofs.Common.{ap, sym, ◌∙◌, subst, inl, inr, arith, take-append-drop}
-use Rattle.std.proofs.lemmas.Bool.{and_from, and_parts, cases_Bool, eqb-true, both_ways, true≢false}
-use Rattle.std.proofs.lemmas.Bool.Decides.{nat_tests}
-use Rattle.std.proofs.lemmas.List.Folds.{list_all-append}
-use Rattle.cx_base.specs.declared.cluster.Cluster.{Cluster}
-use Rattle.cx_base.specs.declared.command.Answered.{Answered}
-use Rattle.cx_base.specs.declared.command.Command.{Command}
-use Rattle.cx_base.specs.declared.command.Floor.{Floor}
-use Rattle.cx_base.specs.declared.command.Op.{Op}
-use Rattle.cx_base.specs.declared.command.Op.TheVariants.{Put, Del, App}
-use Rattle.cx_base.specs.declared.command.Pair.{Pair}
-use Rattle.cx_base.specs.declared.command.Value.{Value}
+use Rattle.std.proofs.Common.{take-append-drop}
+use Rattle.cx_letter.specs.Prelude.{Op, Put, Del, App, is_less, map_after, rises, still_noted, with_told}
+use Rattle.cx_inv_run.proofs.Common.{◌≡◌, ◌⊎◌, ℕ, ◌+◌, ◌==◌, ◌&&◌, Bool, true, false, not, nat_le, nat_lt, max, if◌then◌else◌, List, []}
+use Rattle.cx_inv_run.proofs.Common.{◌∷◌, ◌++◌, drop, take, Option, None, Some, refl, list_all, bytes_eq, ap, sym, ◌∙◌, subst, inl, inr}
+use Rattle.cx_inv_run.proofs.Common.{arith, and_from, and_parts, cases_Bool, eqb-true, both_ways, true≢false, nat_tests, list_all-append}
+use Rattle.cx_inv_run.proofs.Common.{Cluster, Answered, Command, Floor, Pair, Value, RoleId, floor_fits, commands_of, text_at, are_rising}
+use Rattle.cx_inv_run.proofs.Common.{comes_before, floor_of, is_done, noted_for, with_floor, with_note, role, same_role, none_placed}
+use Rattle.cx_inv_run.proofs.Common.{same_client, turned_test, KeptRecord, Written, names_value, IsTied, Machine, ReplicaDurable, execute}
+use Rattle.cx_inv_run.proofs.Common.{execute_all, execute_noted, execute_value, machine_from, new_machine, replica_rules, values_in}
+use Rattle.cx_inv_run.proofs.Common.{durable_of, same_role-true}
 use Rattle.cx_base.specs.declared.role.Kind.TheVariants as kind
-use Rattle.cx_base.specs.declared.role.RoleId.{RoleId}
-use Rattle.cx_base.specs.Asked.{floor_fits}
-use Rattle.cx_base.specs.Fold.{commands_of, is_less, longer, map_after, map_appended, text_at, with_text, without_key}
-use Rattle.cx_base.specs.Lists.{rises}
-use Rattle.cx_base.specs.Noted.{are_rising, comes_before, floor_of, is_done, noted_for, still_noted, with_floor, with_note, with_told}
-use Rattle.cx_base.specs.Role.{role, same_role}
-use Rattle.cx_base.proofs.Used.{none_placed, same_client, turned_test}
-use Rattle.cx_letter.specs.declared.input.KeptRecord.{KeptRecord}
-use Rattle.cx_letter.specs.declared.input.Written.{Written}
+use Rattle.cx_base.specs.Fold.{longer, map_appended, with_text, without_key}
 use Rattle.cx_letter.specs.declared.input.Written.TheVariants as written
 use Rattle.cx_letter.specs.declared.kept.Record.TheVariants as kept
-use Rattle.cx_model.specs.Names.{names_command, names_value}
+use Rattle.cx_model.specs.Names.{names_command}
 use Rattle.cx_model.specs.Ordered.{machine_ordered, answer_ordered, told_ordered}
 use Rattle.cx_model.specs.Renewed.{IsOrdered, IsRenewable, is_near, fits_told}
-use Rattle.cx_model.specs.Replica.{IsTied, Machine, ReplicaDurable, execute, execute_all, execute_noted, execute_value, is_renewal_whole}
-use Rattle.cx_model.specs.Replica.{key_before, machine_from, new_machine, replica_rules}
-use Rattle.cx_model.specs.World.{values_in}
-use Rattle.cx_inv_run.specs.States.{durable_of, log_in}
-use Rattle.cx_inv_run.proofs.Histories.{same_role-true}
+use Rattle.cx_model.specs.Replica.{is_renewal_whole, key_before}
+use Rattle.cx_inv_run.specs.States.{log_in}
 use Rattle.cx_inv_open.specs.Fits.{AllFit, FitsAs, has_fitting_floors}
 
 -- THE ORDER OF KEYS

@@ -1,43 +1,21 @@
 -- A replacer keeps its own ballots, each above its last.
-use Rattle.std.specs.Prelude.{◌≡◌, ℕ, ◌+◌, ◌<◌, ◌==◌, ◌&&◌, ◌||◌, Bool, true, false, max, not, bytes_eq, nat_lt, List, length, Option, None}
-use Rattle.std.specs.Prelude.{Some, if◌then◌else◌, refl}
-use Rattle.std.proofs.Common.{subst, arith}
-use Rattle.std.proofs.lemmas.Bool.{and_from}
-use Rattle.std.proofs.lemmas.Bool.Decides.{nat_tests}
-use Rattle.std.proofs.lemmas.Option.{same_Some}
-use Rattle.cx_base.specs.declared.cluster.Cluster.{Cluster}
+use Rattle.cx_inv_run.proofs.Common.{◌≡◌, ℕ, ◌+◌, ◌<◌, ◌==◌, ◌&&◌, ◌||◌, Bool, true, false, max, not, bytes_eq, nat_lt, List, length}
+use Rattle.cx_inv_run.proofs.Common.{Option, None, Some, if◌then◌else◌, refl, subst, arith, and_from, nat_tests, same_Some, Cluster, Lead}
+use Rattle.cx_inv_run.proofs.Common.{Collect, Replace, RoleId, Round, is_in, role, same_role, is_before, lead_after, same_round, is_above}
+use Rattle.cx_inv_run.proofs.Common.{Entry, with_mark, Letter, Input, KeptRecord, Msg, Replacing, Stopping, Deciding, Booting}
+use Rattle.cx_inv_run.proofs.Common.{number_itself, enough, first_set, names, names_set, Outcome, either_way, ReplacerDurable}
+use Rattle.cx_inv_run.proofs.Common.{ReplacerVolatile, decide, halt_counted, has_halted, is_booting, is_deciding, is_resting, is_stopping}
+use Rattle.cx_inv_run.proofs.Common.{joined_entries, next_counted, replacer_orders, replacer_row, replacer_rules, replacer_takes, to_decide}
+use Rattle.cx_inv_run.proofs.Common.{IsFit, Lands, State, ReplacerIn, durable_of, before-higher, replacer_kinds}
 use Rattle.cx_base.specs.declared.event.Order.{Order as OrderOf}
-use Rattle.cx_base.specs.declared.event.Order.TheVariants.{Lead, Change, Collect, Replace}
+use Rattle.cx_base.specs.declared.event.Order.TheVariants.{Change}
 use Rattle.cx_base.specs.declared.role.Kind.TheVariants as kind
-use Rattle.cx_base.specs.declared.role.RoleId.{RoleId}
-use Rattle.cx_base.specs.declared.round.Round.{Round}
-use Rattle.cx_base.specs.Grid.{is_in}
-use Rattle.cx_base.specs.Role.{role, same_role}
-use Rattle.cx_base.specs.Round.{is_before, lead_after, same_round}
-use Rattle.cx_base.specs.Sets.{is_above}
-use Rattle.cx_field.specs.declared.parts.Entry.{Entry}
-use Rattle.cx_grid.specs.Quorum.{with_mark}
-use Rattle.cx_letter.specs.Letter.{Letter}
-use Rattle.cx_letter.specs.declared.input.Input.{Input}
 use Rattle.cx_letter.specs.declared.input.Input.TheVariants as input
-use Rattle.cx_letter.specs.declared.input.KeptRecord.{KeptRecord}
 use Rattle.cx_letter.specs.declared.kept.Record.TheVariants as kept
-use Rattle.cx_letter.specs.declared.message.Msg.{Msg}
 use Rattle.cx_letter.specs.declared.message.Msg.TheVariants as msg
-use Rattle.cx_model.specs.declared.states.Replacing.{Replacing}
-use Rattle.cx_model.specs.declared.states.Replacing.TheVariants.{Idle, Stopping, Deciding, Booting}
-use Rattle.cx_model.specs.Lists.{number_itself}
-use Rattle.cx_model.specs.Matched.{enough, first_set}
-use Rattle.cx_model.specs.Names.{names, names_ballot, names_set}
-use Rattle.cx_model.specs.Outcome.{Outcome, either_way}
-use Rattle.cx_model.specs.Replacer.{ReplacerDurable, ReplacerVolatile, begin_in, boot_counted, decide, halt_counted, has_halted, is_booting}
-use Rattle.cx_model.specs.Replacer.{is_deciding, is_resting, is_stopping, joined_entries, next_counted, replacer_orders, replacer_row}
-use Rattle.cx_model.specs.Replacer.{replacer_rules, replacer_takes, tick_in, to_decide}
-use Rattle.cx_model.specs.Rules.{IsFit}
-use Rattle.cx_inv_run.specs.Laws.{Lands}
-use Rattle.cx_inv_run.specs.States.{State, ReplacerIn, durable_of}
-use Rattle.cx_inv_run.proofs.Rounds.{before-higher}
-use Rattle.cx_inv_run.proofs.LeaderSenders.{replacer_kinds}
+use Rattle.cx_model.specs.declared.states.Replacing.TheVariants.{Idle}
+use Rattle.cx_model.specs.Names.{names_ballot}
+use Rattle.cx_model.specs.Replacer.{begin_in, boot_counted, tick_in}
 use Rattle.cx_inv_open.specs.Fits.{Fitting}
 use Rattle.cx_inv_open.proofs.Keep.{calm_in, new_fits, lands}
 

@@ -1,37 +1,19 @@
 -- A replica keeps values that name clients of the cluster, in slots below 2^40.
-use Rattle.std.specs.Prelude.{◌≡◌, ℕ, zero, suc, ◌+◌, ◌-◌, ◌≤◌, ◌==◌, ◌&&◌, min, max, true, false, nat_lt, nat_le, List, ◌∷◌, length}
-use Rattle.std.specs.Prelude.{slice_get, Option, None, Some, refl}
-use Rattle.std.specs.List.{list_all, list_any}
-use Rattle.std.proofs.Common.{subst, sym, inl, inr, arith}
-use Rattle.std.proofs.lemmas.Bool.{and_parts, and_from}
-use Rattle.std.proofs.lemmas.Bool.Decides.{nat_tests}
-use Rattle.cx_base.specs.declared.cluster.Cluster.{Cluster}
-use Rattle.cx_base.specs.declared.command.Placed.{Placed}
-use Rattle.cx_base.specs.declared.command.Value.{Value}
+use Rattle.cx_inv_run.proofs.Common.{◌≡◌, ℕ, zero, suc, ◌+◌, ◌-◌, ◌≤◌, ◌==◌, ◌&&◌, min, max, true, false, nat_lt, nat_le, List, ◌∷◌, length}
+use Rattle.cx_inv_run.proofs.Common.{slice_get, Option, None, Some, refl, list_all, list_any, subst, sym, inl, inr, arith, and_parts}
+use Rattle.cx_inv_run.proofs.Common.{and_from, nat_tests, Cluster, Placed, Value, RoleId, before_following, following, ready_values, role}
+use Rattle.cx_inv_run.proofs.Common.{same_role, Letter, letter, Input, KeptRecord, Msg, Deferred, Member, names, names_body, names_role}
+use Rattle.cx_inv_run.proofs.Common.{names_value, Outcome, by_test, either_way, ReplicaDurable, ReplicaVolatile, before, held}
+use Rattle.cx_inv_run.proofs.Common.{replica_renewed, replica_rules, replica_row, replica_takes, read_row, fetched_by, fetch_found}
+use Rattle.cx_inv_run.proofs.Common.{same_read, IsFit, refused, Lands, State, Given, ReplicaIn, snap_by, durable_of, log_in, Ties}
+use Rattle.cx_inv_run.proofs.Common.{replica_kinds}
 use Rattle.cx_base.specs.declared.role.Kind.TheVariants as kind
-use Rattle.cx_base.specs.declared.role.RoleId.{RoleId}
-use Rattle.cx_base.specs.Log.{value_for, before_following, following, ready_values}
-use Rattle.cx_base.specs.Role.{role, same_role}
-use Rattle.cx_letter.specs.Letter.{Letter, letter}
-use Rattle.cx_letter.specs.declared.input.Input.{Input}
+use Rattle.cx_base.specs.Log.{value_for}
 use Rattle.cx_letter.specs.declared.input.Input.TheVariants as input
-use Rattle.cx_letter.specs.declared.input.KeptRecord.{KeptRecord}
 use Rattle.cx_letter.specs.declared.kept.Record.TheVariants as kept
-use Rattle.cx_letter.specs.declared.message.Msg.{Msg}
 use Rattle.cx_letter.specs.declared.message.Msg.TheVariants as msg
-use Rattle.cx_model.specs.declared.states.Deferred.{Deferred}
-use Rattle.cx_model.specs.Member.{Member}
-use Rattle.cx_model.specs.Names.{names, names_body, names_role, names_value}
-use Rattle.cx_model.specs.Outcome.{Outcome, by_test, either_way}
-use Rattle.cx_model.specs.Replica.{ReplicaDurable, ReplicaVolatile, before, held, is_renewal_whole, replica_renewed, replica_rules}
-use Rattle.cx_model.specs.Replica.{replica_row, replica_takes, read_row, fetched_by, fetch_found, with_early}
-use Rattle.cx_model.specs.Request.{same_read}
+use Rattle.cx_model.specs.Replica.{is_renewal_whole, with_early}
 use Rattle.cx_model.specs.RenewedLaws.{renewed_fits}
-use Rattle.cx_model.specs.Rules.{IsFit, refused}
-use Rattle.cx_inv_run.specs.Laws.{Lands}
-use Rattle.cx_inv_run.specs.States.{State, Given, ReplicaIn, snap_by, durable_of, log_in}
-use Rattle.cx_inv_run.specs.Ties.{Ties}
-use Rattle.cx_inv_run.proofs.Senders.{replica_kinds}
 use Rattle.cx_inv_run.proofs.Tying.{limit_held, snap_is}
 use Rattle.cx_inv_match.specs.Facts.{Facts}
 use Rattle.cx_inv_vote.proofs.Agree.{chosen_proposed}

@@ -1,25 +1,11 @@
 -- Each step keeps the facts, so every role can be opened again from its records, in every run.
-use Rattle.std.specs.Prelude.{◌≡◌, ◌⊎◌, ℕ, ◌<◌, List}
-use Rattle.std.proofs.Common.{sym, subst, refl, inl, inr, arith}
-use Rattle.cx_base.specs.declared.cluster.Cluster.{Cluster}
-use Rattle.cx_base.specs.declared.event.Event.{Event}
+use Rattle.cx_inv_run.proofs.Common.{◌≡◌, ◌⊎◌, ℕ, ◌<◌, List, sym, subst, refl, inl, inr, arith, Cluster, Event, Kind, role, LeaderVolatile}
+use Rattle.cx_inv_run.proofs.Common.{OfEveryRun, ReplacerVolatile, request, run, Laws, State, Down, BatcherIn, LeaderIn, ReplacerIn, plain}
+use Rattle.cx_inv_run.proofs.Common.{fresh_state, HoldsIn, batcher_kinds, unbatcher_kinds, Ties, always, ties_hold}
+use Rattle.cx_inv_match.specs.Prelude.{Property, Facts}
 use Rattle.cx_base.specs.declared.event.Event.TheVariants as event
-use Rattle.cx_base.specs.declared.role.Kind.{Kind}
 use Rattle.cx_base.specs.declared.role.Kind.TheVariants as kind
-use Rattle.cx_base.specs.Role.{role}
-use Rattle.cx_model.specs.Leader.{LeaderVolatile}
-use Rattle.cx_model.specs.Promises.{OfEveryRun}
-use Rattle.cx_model.specs.Replacer.{ReplacerVolatile}
-use Rattle.cx_model.specs.Request.{request}
-use Rattle.cx_model.specs.World.{run}
-use Rattle.cx_inv_run.specs.Laws.{Laws}
-use Rattle.cx_inv_run.specs.States.{State, Down, BatcherIn, LeaderIn, ReplacerIn, plain, fresh_state, Property, HoldsIn}
-use Rattle.cx_inv_run.proofs.Senders.{batcher_kinds, unbatcher_kinds}
 use Rattle.cx_inv_run.proofs.Sends.{batcher_keeps, unbatcher_keeps}
-use Rattle.cx_inv_run.specs.Ties.{Ties}
-use Rattle.cx_inv_run.proofs.Steps.{always}
-use Rattle.cx_inv_run.proofs.TieLaws.{ties_hold}
-use Rattle.cx_inv_match.specs.Facts.{Facts}
 use Rattle.cx_inv_vote.proofs.Steps.{facts_hold}
 use Rattle.cx_inv_held.specs.Held.{LowFacts}
 use Rattle.cx_inv_held.proofs.Steps.{low_facts}

@@ -1,21 +1,11 @@
 -- Where each event tells a floor that fits its number, so does each command that a replica kept.
-use Rattle.std.specs.Prelude.{◌≡◌, ◌⊎◌, ℕ, true, List, [], ◌∷◌}
-use Rattle.std.specs.List.{list_all}
-use Rattle.std.proofs.Common.{ap, subst, inl, inr, reverse}
-use Rattle.cx_base.specs.declared.cluster.Cluster.{Cluster}
-use Rattle.cx_base.specs.declared.command.Command.{Command}
-use Rattle.cx_base.specs.declared.command.Value.{Value}
-use Rattle.cx_base.specs.declared.event.Event.{Event}
+use Rattle.cx_inv_run.proofs.Common.{◌≡◌, ◌⊎◌, ℕ, true, List, [], ◌∷◌, list_all, ap, subst, inl, inr, reverse, Cluster, Command, Value}
+use Rattle.cx_inv_run.proofs.Common.{Event, Happened, floor_fits, is_valid_event, commands_of, Member, World, change, log_of, run, run_from}
+use Rattle.cx_inv_run.proofs.Common.{log_in, log_by_time, Member-all, Member-cases, all-Member}
 use Rattle.cx_base.specs.declared.event.Event.TheVariants as event
-use Rattle.cx_base.specs.declared.event.Happened.{Happened}
-use Rattle.cx_base.specs.Asked.{floor_fits, is_valid_event}
-use Rattle.cx_base.specs.Fold.{commands_of}
-use Rattle.cx_model.specs.Member.{Member}
 use Rattle.cx_model.specs.Promises.{WasSent}
-use Rattle.cx_model.specs.World.{World, change, log_of, run, run_from, step}
-use Rattle.cx_inv_run.specs.States.{log_in}
-use Rattle.cx_inv_run.proofs.Histories.{log_by_time}
-use Rattle.cx_inv_run.proofs.Members.{Member-all, Member-cases, all-Member, at-Member}
+use Rattle.cx_model.specs.World.{step}
+use Rattle.cx_inv_run.proofs.Members.{at-Member}
 use Rattle.cx_inv_vote.proofs.Agree.{kept_is_chosen}
 use Rattle.cx_inv_list.proofs.Answers.{chosen_asked}
 use Rattle.cx_inv_open.specs.Fits.{has_fitting_floors}

@@ -1,34 +1,13 @@
 -- What is so of changes of stores at a moment, the newest first: each is one that its role could have made after the earlier ones. And what
 -- datagrams and running roles must say for that.
 use Rattle.std.specs.Prelude.{◌≡◌, ℕ, ◌+◌, ◌<◌, ◌≤◌, Bool, true, List, [], ◌∷◌, Option, None, Some}
-use Rattle.std.specs.List.{list_all}
-use Rattle.cx_base.specs.declared.cluster.Cluster.{Cluster}
-use Rattle.cx_base.specs.declared.command.Command.{Command}
-use Rattle.cx_base.specs.declared.command.Placed.{Placed}
-use Rattle.cx_base.specs.declared.command.Value.{Value}
-use Rattle.cx_base.specs.declared.role.Kind.{Kind}
+use Rattle.cx_model.specs.Prelude.{list_all, Cluster, Command, Placed, Value, Kind, RoleId, floor_fits, commands_of, Vote, Letter}
+use Rattle.cx_model.specs.Prelude.{KeptRecord, Written, Record, Msg, acceptor_rules, leader_rules, matchmaker_rules, Member, names_value}
+use Rattle.cx_model.specs.Prelude.{reader_rules, replacer_rules, replica_rules, IsFit, refused, State, LeaderIn, ReplicaIn}
 use Rattle.cx_base.specs.declared.role.Kind.TheVariants as kind
-use Rattle.cx_base.specs.declared.role.RoleId.{RoleId}
-use Rattle.cx_base.specs.Asked.{floor_fits}
-use Rattle.cx_base.specs.Fold.{commands_of}
-use Rattle.cx_field.specs.declared.parts.Vote.{Vote}
-use Rattle.cx_letter.specs.Letter.{Letter}
-use Rattle.cx_letter.specs.declared.input.KeptRecord.{KeptRecord}
-use Rattle.cx_letter.specs.declared.input.Written.{Written}
 use Rattle.cx_letter.specs.declared.input.Written.TheVariants as written
-use Rattle.cx_letter.specs.declared.kept.Record.{Record}
-use Rattle.cx_letter.specs.declared.message.Msg.{Msg}
 use Rattle.cx_letter.specs.declared.message.Msg.TheVariants as msg
-use Rattle.cx_model.specs.Acceptor.{acceptor_rules}
-use Rattle.cx_model.specs.Leader.{leader_rules}
-use Rattle.cx_model.specs.Matchmaker.{matchmaker_rules}
-use Rattle.cx_model.specs.Member.{Member}
-use Rattle.cx_model.specs.Names.{names_value}
-use Rattle.cx_model.specs.Reader.{reader_rules}
-use Rattle.cx_model.specs.Replacer.{replacer_rules}
-use Rattle.cx_model.specs.Replica.{replica_rules}
-use Rattle.cx_model.specs.Rules.{IsFit, refused}
-use Rattle.cx_inv_run.specs.States.{State, LeaderIn, ReplicaIn, durable_of, log_in}
+use Rattle.cx_inv_run.specs.States.{durable_of, log_in}
 
 -- whether each command of these values tells a floor that fits its number
 abbrev pub has_fitting_floors : List Value → Bool

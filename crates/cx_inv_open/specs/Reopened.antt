@@ -1,25 +1,9 @@
 -- What is promised of a role that is opened again. Nothing of it is proved here.
 use Rattle.std.specs.Prelude.{◌≡◌, ℕ, true, List, [], Option, None}
-use Rattle.std.specs.List.{list_all}
-use Rattle.cx_base.specs.declared.cluster.Cluster.{Cluster}
-use Rattle.cx_base.specs.declared.event.Event.{Event}
-use Rattle.cx_base.specs.declared.role.Kind.{Kind}
+use Rattle.cx_model.specs.Prelude.{list_all, Cluster, Event, Kind, RoleId, is_valid_event, KeptRecord, Record, acceptor_rules}
+use Rattle.cx_model.specs.Prelude.{batcher_rules, leader_rules, matchmaker_rules, proxy_rules, reader_rules, replacer_rules, replica_rules}
+use Rattle.cx_model.specs.Prelude.{refused, unbatcher_rules, list_of, run}
 use Rattle.cx_base.specs.declared.role.Kind.TheVariants as kind
-use Rattle.cx_base.specs.declared.role.RoleId.{RoleId}
-use Rattle.cx_base.specs.Asked.{is_valid_event}
-use Rattle.cx_letter.specs.declared.input.KeptRecord.{KeptRecord}
-use Rattle.cx_letter.specs.declared.kept.Record.{Record}
-use Rattle.cx_model.specs.Acceptor.{acceptor_rules}
-use Rattle.cx_model.specs.Batcher.{batcher_rules}
-use Rattle.cx_model.specs.Leader.{leader_rules}
-use Rattle.cx_model.specs.Matchmaker.{matchmaker_rules}
-use Rattle.cx_model.specs.Proxy.{proxy_rules}
-use Rattle.cx_model.specs.Reader.{reader_rules}
-use Rattle.cx_model.specs.Replacer.{replacer_rules}
-use Rattle.cx_model.specs.Replica.{replica_rules}
-use Rattle.cx_model.specs.Rules.{refused}
-use Rattle.cx_model.specs.Unbatcher.{unbatcher_rules}
-use Rattle.cx_model.specs.World.{list_of, run}
 
 -- the place of the first record that a role of this kind could not have appended; a client has none
 abbrev pub refused_as : Cluster → RoleId → List Record → Kind → Option ℕ

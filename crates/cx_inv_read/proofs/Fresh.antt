@@ -1,36 +1,16 @@
 -- In every run that goes on from one in which a read was not asked for, the facts on the read hold.
-use Rattle.std.proofs.Common.{◌≡◌, ℕ, false, ◌⊎◌, List, [], ◌∷◌, ◌++◌, reverse, Option, None, Some, inl, inr, sym, subst, ◌∙◌, refl}
-use Rattle.std.proofs.lemmas.Bool.{true≢false}
-use Rattle.cx_base.specs.declared.cluster.Cluster.{Cluster}
-use Rattle.cx_base.specs.declared.event.Event.{Event}
-use Rattle.cx_base.specs.declared.role.Kind.{Kind}
+use Rattle.cx_inv_run.proofs.Common.{◌≡◌, ℕ, false, ◌⊎◌, List, [], ◌∷◌, ◌++◌, reverse, Option, None, Some, inl, inr, sym, subst, ◌∙◌, refl}
+use Rattle.cx_inv_run.proofs.Common.{true≢false, Cluster, Event, Kind, RoleId, Round, role, Asking, Token, Letter, KeptRecord, Msg}
+use Rattle.cx_inv_run.proofs.Common.{was_asked, leader_rules, replacer_rules, replica_rules, request, World, change, run, run_from, Laws}
+use Rattle.cx_inv_run.proofs.Common.{AllAllowed, HoldsAlong, State, Down, BatcherIn, LeaderIn, ProxyIn, ReplicaIn, ReaderIn, ReplacerIn}
+use Rattle.cx_inv_run.proofs.Common.{plain, fresh_state, snap_by, durable_of, HoldsIn, set_running, kinds_hold, Member-first}
+use Rattle.cx_inv_run.proofs.Common.{Member-reverse, Member-turned, batcher_kinds, proxy_kinds, replica_kinds, unbatcher_kinds}
+use Rattle.cx_inv_run.proofs.Common.{leader_kinds, replacer_kinds, batcher_sends, leader_sends, proxy_sends, replica_sends, unbatcher_sends}
+use Rattle.cx_inv_run.proofs.Common.{sends_only, run_keeps, run_from_keeps, run_append, run_cluster, along, all_allowed}
 use Rattle.cx_base.specs.declared.role.Kind.TheVariants as kind
-use Rattle.cx_base.specs.declared.role.RoleId.{RoleId}
-use Rattle.cx_base.specs.declared.round.Round.{Round}
-use Rattle.cx_base.specs.Role.{role}
-use Rattle.cx_field.specs.declared.parts.Asking.{Asking}
-use Rattle.cx_field.specs.declared.parts.Token.{Token}
-use Rattle.cx_letter.specs.Letter.{Letter}
-use Rattle.cx_letter.specs.declared.input.KeptRecord.{KeptRecord}
-use Rattle.cx_letter.specs.declared.message.Msg.{Msg}
 use Rattle.cx_letter.specs.declared.message.Msg.TheVariants as msg
-use Rattle.cx_model.specs.History.{was_asked}
-use Rattle.cx_model.specs.Leader.{leader_rules}
 use Rattle.cx_model.specs.Reader.{Batch}
-use Rattle.cx_model.specs.Replacer.{replacer_rules}
-use Rattle.cx_model.specs.Replica.{replica_rules}
-use Rattle.cx_model.specs.Request.{request}
-use Rattle.cx_model.specs.World.{World, change, step, run, run_from}
-use Rattle.cx_inv_run.specs.Laws.{Laws, AllAllowed, HoldsAlong}
-use Rattle.cx_inv_run.specs.States.{State, Down, BatcherIn, LeaderIn, ProxyIn, ReplicaIn, ReaderIn, ReplacerIn, plain, fresh_state, snap_by}
-use Rattle.cx_inv_run.specs.States.{durable_of, HoldsIn}
-use Rattle.cx_inv_run.proofs.Histories.{set_running}
-use Rattle.cx_inv_run.proofs.KindLaws.{kinds_hold}
-use Rattle.cx_inv_run.proofs.Members.{Member-first, Member-reverse, Member-turned}
-use Rattle.cx_inv_run.proofs.Senders.{batcher_kinds, proxy_kinds, replica_kinds, unbatcher_kinds}
-use Rattle.cx_inv_run.proofs.LeaderSenders.{leader_kinds, replacer_kinds}
-use Rattle.cx_inv_run.proofs.Sends.{batcher_sends, leader_sends, proxy_sends, replica_sends, unbatcher_sends, sends_only}
-use Rattle.cx_inv_run.proofs.Steps.{run_keeps, run_from_keeps, run_append, run_cluster, along, all_allowed}
+use Rattle.cx_model.specs.World.{step}
 use Rattle.cx_inv_match.specs.Facts.{InState, Facts}
 use Rattle.cx_inv_vote.proofs.Steps.{facts_hold}
 use Rattle.cx_inv_read.specs.Reads.{Has, HasSent, ReadSays, TurnSays, HasBatch, InReader, FreshReadFacts, IsElse, Unread}

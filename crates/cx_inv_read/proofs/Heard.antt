@@ -1,23 +1,12 @@
 -- What was delivered to a client it has heard from then on.
-use Rattle.std.proofs.Common.{◌≡◌, ℕ, zero, suc, ◌≤◌, true, List, [], ◌∷◌, ◌++◌, Some, inl, inr, sym, subst, refl, arith}
-use Rattle.std.specs.Prelude.{slice_get, Option}
-use Rattle.cx_base.specs.declared.event.Cut.{Cut}
-use Rattle.cx_base.specs.declared.event.Event.{Event}
+use Rattle.cx_inv_run.proofs.Common.{◌≡◌, ℕ, zero, suc, ◌≤◌, true, List, [], ◌∷◌, ◌++◌, Some, inl, inr, sym, subst, refl, arith, slice_get}
+use Rattle.cx_inv_run.proofs.Common.{Option, Cut, Event, Happened, RoleId, role, same_role, Token, Letter, mark_told, heard_at, heard_by}
+use Rattle.cx_inv_run.proofs.Common.{number_itself, Member, token_of, World, change, AllAllowed, Member-first}
 use Rattle.cx_base.specs.declared.event.Event.TheVariants as event
-use Rattle.cx_base.specs.declared.event.Happened.{Happened}
 use Rattle.cx_base.specs.declared.role.Kind.TheVariants as kind
-use Rattle.cx_base.specs.declared.role.RoleId.{RoleId}
 use Rattle.cx_base.specs.declared.why.Why.TheVariants as why
-use Rattle.cx_base.specs.Role.{role, same_role}
-use Rattle.cx_field.specs.declared.parts.Token.{Token}
-use Rattle.cx_letter.specs.Letter.{Letter}
-use Rattle.cx_model.specs.Heard.{mark_told, heard_at, heard_by}
-use Rattle.cx_model.specs.Lists.{number_itself}
-use Rattle.cx_model.specs.Member.{Member}
-use Rattle.cx_model.specs.Request.{token_of}
-use Rattle.cx_model.specs.World.{World, change, step}
-use Rattle.cx_inv_run.specs.Laws.{AllAllowed, heard_of}
-use Rattle.cx_inv_run.proofs.Members.{Member-first}
+use Rattle.cx_model.specs.World.{step}
+use Rattle.cx_inv_run.specs.Laws.{heard_of}
 
 get_front : {X : Type 0} (xs ys : List X) (i : ℕ) (x : X) → slice_get xs i ≡ Some x → slice_get (xs ++ ys) i ≡ Some x
 get_front [] ys i x h = cc

@@ -1,29 +1,12 @@
 -- The facts on a read after a step: what was said stays so, and what a row sends and leaves is added.
-use Rattle.std.proofs.Common.{◌≡◌, ℕ, Bool, true, false, ◌&&◌, ◌⊎◌, List, ◌∷◌, ◌++◌, Option, None, Some, inl, inr, ap, sym, subst, ◌∙◌}
-use Rattle.std.specs.List.{list_any}
-use Rattle.std.proofs.lemmas.Bool.{true≢false, and_parts, and_from, cases_Bool}
-use Rattle.cx_base.specs.declared.cluster.Cluster.{Cluster}
+use Rattle.cx_inv_run.proofs.Common.{◌≡◌, ℕ, Bool, true, false, ◌&&◌, ◌⊎◌, List, ◌∷◌, ◌++◌, Option, None, Some, inl, inr, ap, sym, subst}
+use Rattle.cx_inv_run.proofs.Common.{◌∙◌, list_any, true≢false, and_parts, and_from, cases_Bool, Cluster, RoleId, Round, same_round, Asking}
+use Rattle.cx_inv_run.proofs.Common.{Entry, Token, Letter, letter, KeptRecord, Msg, number_itself, Member, Outcome, OfKind, Lands, State}
+use Rattle.cx_inv_run.proofs.Common.{Down, ReaderIn, entry_by, with_record, Member-cases, Member-first, Member-both, Member-any, any-Member}
+use Rattle.cx_inv_run.proofs.Common.{kept_longer, set_running, same_round-true, same_round-itself}
 use Rattle.cx_base.specs.declared.role.Kind.TheVariants as kind
-use Rattle.cx_base.specs.declared.role.RoleId.{RoleId}
-use Rattle.cx_base.specs.declared.round.Round.{Round}
-use Rattle.cx_base.specs.Round.{same_round}
-use Rattle.cx_field.specs.declared.parts.Asking.{Asking}
-use Rattle.cx_field.specs.declared.parts.Entry.{Entry}
-use Rattle.cx_field.specs.declared.parts.Token.{Token}
-use Rattle.cx_letter.specs.Letter.{Letter, letter}
-use Rattle.cx_letter.specs.declared.input.KeptRecord.{KeptRecord}
-use Rattle.cx_letter.specs.declared.message.Msg.{Msg}
 use Rattle.cx_letter.specs.declared.message.Msg.TheVariants as msg
-use Rattle.cx_model.specs.Lists.{number_itself}
-use Rattle.cx_model.specs.Member.{Member}
-use Rattle.cx_model.specs.Outcome.{Outcome}
 use Rattle.cx_model.specs.Reader.{Batch, same_asking}
-use Rattle.cx_inv_run.specs.Kinds.{OfKind}
-use Rattle.cx_inv_run.specs.Laws.{Lands}
-use Rattle.cx_inv_run.specs.States.{State, Down, ReaderIn, entry_by, with_record}
-use Rattle.cx_inv_run.proofs.Members.{Member-cases, Member-first, Member-both, Member-any, any-Member}
-use Rattle.cx_inv_run.proofs.Histories.{kept_longer, set_running}
-use Rattle.cx_inv_run.proofs.Rounds.{same_round-true, same_round-itself}
 use Rattle.cx_inv_match.specs.Facts.{Facts}
 use Rattle.cx_inv_match.proofs.Grow.{more_nth}
 use Rattle.cx_inv_vote.proofs.Readers.{same_asking-true}

@@ -1,38 +1,15 @@
 -- Each answer of a replica to a client stands on a question that was sent to a replica for this client and number.
-use Rattle.std.proofs.Common.{◌≡◌, ℕ, ◌≤◌, ◌&&◌, List, ◌++◌, inl, inr, ap, subst, refl}
-use Rattle.cx_base.specs.declared.cluster.Cluster.{Cluster}
-use Rattle.cx_base.specs.declared.event.Event.{Event}
-use Rattle.cx_base.specs.declared.role.Kind.{Kind}
+use Rattle.cx_inv_run.proofs.Common.{◌≡◌, ℕ, ◌≤◌, ◌&&◌, List, ◌++◌, inl, inr, ap, subst, refl, Cluster, Event, Kind, RoleId, role}
+use Rattle.cx_inv_run.proofs.Common.{same_role, Token, Letter, letter, Input, KeptRecord, Msg, Deferred, acceptor_rules, ReplicaWasTold}
+use Rattle.cx_inv_run.proofs.Common.{leader_rules, matchmaker_rules, Member, names, Outcome, either_way, reader_rules, replacer_rules}
+use Rattle.cx_inv_run.proofs.Common.{Machine, ReplicaDurable, ReplicaVolatile, held, replica_rules, read_answer_to, replica_row, request}
+use Rattle.cx_inv_run.proofs.Common.{run, IsSender, OfKind, Lands, Laws, State, Given, durable_of, HoldsIn, Member-both, Member-first}
+use Rattle.cx_inv_run.proofs.Common.{batcher_kinds, proxy_kinds, acceptor_kinds, matchmaker_kinds, unbatcher_kinds, reader_kinds}
+use Rattle.cx_inv_run.proofs.Common.{leader_kinds, replacer_kinds, always}
 use Rattle.cx_base.specs.declared.role.Kind.TheVariants as kind
-use Rattle.cx_base.specs.declared.role.RoleId.{RoleId}
-use Rattle.cx_base.specs.Role.{role, same_role}
-use Rattle.cx_field.specs.declared.parts.Token.{Token}
-use Rattle.cx_letter.specs.Letter.{Letter, letter}
-use Rattle.cx_letter.specs.declared.input.Input.{Input}
 use Rattle.cx_letter.specs.declared.input.Input.TheVariants as input
-use Rattle.cx_letter.specs.declared.input.KeptRecord.{KeptRecord}
-use Rattle.cx_letter.specs.declared.message.Msg.{Msg}
 use Rattle.cx_letter.specs.declared.message.Msg.TheVariants as msg
-use Rattle.cx_model.specs.declared.states.Deferred.{Deferred}
-use Rattle.cx_model.specs.Acceptor.{acceptor_rules}
-use Rattle.cx_model.specs.Facts.{IsReadOf, ReplicaWasTold}
-use Rattle.cx_model.specs.Leader.{leader_rules}
-use Rattle.cx_model.specs.Matchmaker.{matchmaker_rules}
-use Rattle.cx_model.specs.Member.{Member}
-use Rattle.cx_model.specs.Names.{names}
-use Rattle.cx_model.specs.Outcome.{Outcome, either_way}
-use Rattle.cx_model.specs.Reader.{reader_rules}
-use Rattle.cx_model.specs.Replacer.{replacer_rules}
-use Rattle.cx_model.specs.Replica.{Machine, ReplicaDurable, ReplicaVolatile, held, replica_rules, read_answer_to, replica_row}
-use Rattle.cx_model.specs.Request.{request}
-use Rattle.cx_model.specs.World.{run}
-use Rattle.cx_inv_run.specs.Kinds.{IsSender, OfKind}
-use Rattle.cx_inv_run.specs.Laws.{Lands, Laws}
-use Rattle.cx_inv_run.specs.States.{State, Given, durable_of, HoldsIn}
-use Rattle.cx_inv_run.proofs.Members.{Member-both, Member-first}
-use Rattle.cx_inv_run.proofs.Senders.{batcher_kinds, proxy_kinds, acceptor_kinds, matchmaker_kinds, unbatcher_kinds, reader_kinds}
-use Rattle.cx_inv_run.proofs.LeaderSenders.{leader_kinds, replacer_kinds}
-use Rattle.cx_inv_run.proofs.Steps.{always}
+use Rattle.cx_model.specs.Facts.{IsReadOf}
 use Rattle.cx_inv_match.specs.Facts.{InState}
 use Rattle.cx_inv_read.specs.Reads.{AnswerHasQuestion, AreAnswers}
 use Rattle.cx_inv_read.proofs.Fresh.{known_holds}

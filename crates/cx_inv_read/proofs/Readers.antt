@@ -1,48 +1,22 @@
 -- Each row of a reader keeps the facts on a read: what it asks under a new turn is so, and when it asks a replica for the read, the number
 -- is above all that was chosen when the read was asked for.
-use Rattle.std.proofs.Common.{◌≡◌, ℕ, ◌+◌, ◌<◌, Bool, true, false, not, ◌&&◌, map, List, [], ◌∷◌, ◌++◌, length, Option, None, Some, inl}
-use Rattle.std.proofs.Common.{inr, sym, subst, ◌∙◌, refl, arith}
-use Rattle.std.specs.Prelude.{◌==◌, nat_lt, nat_le}
-use Rattle.std.proofs.lemmas.Bool.{true≢false, and_parts, not-false, leb-true}
-use Rattle.cx_base.specs.declared.cluster.Cluster.{Cluster}
+use Rattle.cx_inv_run.proofs.Common.{◌≡◌, ℕ, ◌+◌, ◌<◌, Bool, true, false, not, ◌&&◌, map, List, [], ◌∷◌, ◌++◌, length, Option, None, Some}
+use Rattle.cx_inv_run.proofs.Common.{inl, inr, sym, subst, ◌∙◌, refl, arith, ◌==◌, nat_lt, nat_le, true≢false, and_parts, not-false}
+use Rattle.cx_inv_run.proofs.Common.{leb-true, Cluster, RoleId, Round, Why, is_in, role, same_role, no_round, same_round, is_above, Asking}
+use Rattle.cx_inv_run.proofs.Common.{Entry, Token, Letter, letter, Input, KeptRecord, Msg, Acked, MatchAnswer, ReaderWasTold, enough}
+use Rattle.cx_inv_run.proofs.Common.{is_counted, is_member_of, greatest_watermark, live_entries, members_of, rows_whole, entry, Member}
+use Rattle.cx_inv_run.proofs.Common.{names, Outcome, only_word, either_way, by_test, Asked, ReaderDurable, ReaderVolatile, acked_by}
+use Rattle.cx_inv_run.proofs.Common.{ask_acceptors, ask_matchmakers, ask_replicas, asked_anew, asked_for, begin, begin_if, greatest_mark}
+use Rattle.cx_inv_run.proofs.Common.{has_acked, is_among, is_first, is_matched, is_of_batch, last_turn, match_ack_counted, match_ack_row}
+use Rattle.cx_inv_run.proofs.Common.{match_read_to, matched, pre_read_ack_row, pre_read_counted, pre_read_to, read_to, reader_row}
+use Rattle.cx_inv_run.proofs.Common.{reader_rules, reader_takes, reader_tick, request_over, request_row, make_token, asking_of, Lands}
+use Rattle.cx_inv_run.proofs.Common.{State, ReaderIn, Given, durable_of, is_in-Member, Member-both, Member-cases, Member-second, Member-one}
+use Rattle.cx_inv_run.proofs.Common.{itself-not_before, same_round-true, reader_kinds, named}
+use Rattle.cx_inv_match.specs.Prelude.{AreOnce, answering_matchmakers, InState, Facts, IsKnown}
 use Rattle.cx_base.specs.declared.role.Kind.TheVariants as kind
-use Rattle.cx_base.specs.declared.role.RoleId.{RoleId}
-use Rattle.cx_base.specs.declared.round.Round.{Round}
-use Rattle.cx_base.specs.declared.why.Why.{Why}
-use Rattle.cx_base.specs.Grid.{is_in}
-use Rattle.cx_base.specs.Role.{role, same_role}
-use Rattle.cx_base.specs.Round.{no_round, same_round}
-use Rattle.cx_base.specs.Sets.{is_above}
-use Rattle.cx_field.specs.declared.parts.Asking.{Asking}
-use Rattle.cx_field.specs.declared.parts.Entry.{Entry}
-use Rattle.cx_field.specs.declared.parts.Token.{Token}
-use Rattle.cx_letter.specs.Letter.{Letter, letter}
-use Rattle.cx_letter.specs.declared.input.Input.{Input}
 use Rattle.cx_letter.specs.declared.input.Input.TheVariants as input
-use Rattle.cx_letter.specs.declared.input.KeptRecord.{KeptRecord}
-use Rattle.cx_letter.specs.declared.message.Msg.{Msg}
 use Rattle.cx_letter.specs.declared.message.Msg.TheVariants as msg
-use Rattle.cx_model.specs.declared.states.Acked.{Acked}
-use Rattle.cx_model.specs.declared.states.MatchAnswer.{MatchAnswer}
-use Rattle.cx_model.specs.Facts.{ReaderWasTold}
-use Rattle.cx_model.specs.Matched.{enough, is_counted, is_member_of, greatest_watermark, live_entries, members_of, rows_whole}
-use Rattle.cx_model.specs.Matchmaker.{entry}
-use Rattle.cx_model.specs.Member.{Member}
-use Rattle.cx_model.specs.Names.{names}
-use Rattle.cx_model.specs.Outcome.{Outcome, only_word, either_way, by_test}
-use Rattle.cx_model.specs.Reader.{Asked, Batch, ReaderDurable, ReaderVolatile, acked_by, ask_acceptors, ask_matchmakers, ask_replicas}
-use Rattle.cx_model.specs.Reader.{asked_anew, asked_for, begin, begin_if, finish, greatest_mark, has_acked, is_among, is_first, is_matched}
-use Rattle.cx_model.specs.Reader.{is_of_batch, last_turn, match_ack_counted, match_ack_row, match_read_to, matched, pre_read_ack_row}
-use Rattle.cx_model.specs.Reader.{pre_read_counted, pre_read_to, read_to, reader_row, reader_rules, reader_takes, reader_tick, request_over}
-use Rattle.cx_model.specs.Reader.{request_row, sets_row, make_token, asking_of}
-use Rattle.cx_inv_run.specs.Laws.{Lands}
-use Rattle.cx_inv_run.specs.States.{State, ReaderIn, Given, durable_of}
-use Rattle.cx_inv_run.proofs.Members.{is_in-Member, Member-both, Member-cases, Member-second, Member-one}
-use Rattle.cx_inv_run.proofs.Rounds.{itself-not_before, same_round-true}
-use Rattle.cx_inv_run.proofs.Senders.{reader_kinds}
-use Rattle.cx_inv_run.proofs.Sends.{named}
-use Rattle.cx_inv_match.specs.Facts.{AreOnce, answering_matchmakers, InState, Facts}
-use Rattle.cx_inv_match.specs.Words.{IsKnown}
+use Rattle.cx_model.specs.Reader.{Batch, finish, sets_row}
 use Rattle.cx_inv_vote.proofs.Readers.{same_asking-true}
 use Rattle.cx_inv_vote.proofs.Searches.{told_by-counted, told_more, once_more, live_has, top_told}
 use Rattle.cx_inv_read.specs.Reads.{IsAbove, IsRaised, IsReadAnswer, IsNew, ReadSays, IsAcked, IsBatch, HasBatch, InReader, FreshReadFacts}

@@ -1,29 +1,14 @@
 -- The requests of a run: each that goes out stays among its events, by one number no client asks both for a read and in a session, and
 -- three kinds of datagrams are sent.
-use Rattle.std.proofs.Common.{◌≡◌, ◌⊎◌, ℕ, Bool, true, false, not, ◌&&◌, ◌||◌, List, [], ◌∷◌, Some, inl, inr, ap, sym, subst, ◌∙◌, refl}
-use Rattle.std.specs.List.{list_any}
-use Rattle.std.proofs.lemmas.Bool.{true≢false, and_from}
-use Rattle.cx_base.specs.declared.cluster.Cluster.{Cluster}
-use Rattle.cx_base.specs.declared.command.Command.{Command}
-use Rattle.cx_base.specs.declared.event.Event.{Event}
+use Rattle.cx_inv_run.proofs.Common.{◌≡◌, ◌⊎◌, ℕ, Bool, true, false, not, ◌&&◌, ◌||◌, List, [], ◌∷◌, Some, inl, inr, ap, sym, subst, ◌∙◌}
+use Rattle.cx_inv_run.proofs.Common.{refl, list_any, true≢false, and_from, Cluster, Command, Event, Happened, RoleId, Why, Token, Letter}
+use Rattle.cx_inv_run.proofs.Common.{letter, was_asked, number_itself, Member, by_test, WasRead, WasSession, make_token, token_of}
+use Rattle.cx_inv_run.proofs.Common.{same_request, same_token, is_past, floor_in, was_sent, is_stale, request, World, ask, change, run_from}
+use Rattle.cx_inv_run.proofs.Common.{run, AllAllowed, Member-cases, Member-first, Member-second, Member-one, Member-any}
 use Rattle.cx_base.specs.declared.event.Event.TheVariants as event
-use Rattle.cx_base.specs.declared.event.Happened.{Happened}
-use Rattle.cx_base.specs.declared.role.RoleId.{RoleId}
-use Rattle.cx_base.specs.declared.why.Why.{Why}
 use Rattle.cx_base.specs.declared.why.Why.TheVariants as why
-use Rattle.cx_field.specs.declared.parts.Token.{Token}
-use Rattle.cx_letter.specs.Letter.{Letter, letter}
 use Rattle.cx_letter.specs.declared.message.Msg.TheVariants as msg
-use Rattle.cx_model.specs.History.{was_asked}
-use Rattle.cx_model.specs.Lists.{number_itself}
-use Rattle.cx_model.specs.Member.{Member}
-use Rattle.cx_model.specs.Outcome.{by_test}
-use Rattle.cx_model.specs.Promises.{WasRead, WasSession}
-use Rattle.cx_model.specs.Reader.{make_token}
-use Rattle.cx_model.specs.Request.{token_of, same_request, same_token, is_past, floor_in, was_sent, is_stale, request}
-use Rattle.cx_model.specs.World.{World, Change, ask, change, step, run_from, run}
-use Rattle.cx_inv_run.specs.Laws.{AllAllowed}
-use Rattle.cx_inv_run.proofs.Members.{Member-cases, Member-first, Member-second, Member-one, Member-any}
+use Rattle.cx_model.specs.World.{Change, step}
 use Rattle.cx_inv_read.proofs.Rows.{Each}
 
 abbrev happened : Event → Why → Happened

@@ -1,30 +1,12 @@
 -- Each row of an acceptor and of a matchmaker keeps the facts on a read.
-use Rattle.std.proofs.Common.{◌≡◌, ℕ, true, false, ◌&&◌, max, List, [], inl, inr, sym, subst, refl, arith}
-use Rattle.cx_base.specs.declared.cluster.Cluster.{Cluster}
+use Rattle.cx_inv_run.proofs.Common.{◌≡◌, ℕ, true, false, ◌&&◌, max, List, [], inl, inr, sym, subst, refl, arith, Cluster, RoleId, Round}
+use Rattle.cx_inv_run.proofs.Common.{Shape, role, same_role, Asking, Token, Letter, letter, Input, KeptRecord, Msg, acceptor_rules}
+use Rattle.cx_inv_run.proofs.Common.{acceptor_row, entry, is_booted, is_stopped, matchmaker_rules, matchmaker_row, Member, names, Outcome}
+use Rattle.cx_inv_run.proofs.Common.{either_way, IsConfig, Lands, State, plain, Given, durable_of, matchmaker_kinds, HasRound}
+use Rattle.cx_inv_match.specs.Prelude.{Facts, HasStopped}
 use Rattle.cx_base.specs.declared.role.Kind.TheVariants as kind
-use Rattle.cx_base.specs.declared.role.RoleId.{RoleId}
-use Rattle.cx_base.specs.declared.round.Round.{Round}
-use Rattle.cx_base.specs.Grid.{Shape}
-use Rattle.cx_base.specs.Role.{role, same_role}
-use Rattle.cx_field.specs.declared.parts.Asking.{Asking}
-use Rattle.cx_field.specs.declared.parts.Token.{Token}
-use Rattle.cx_letter.specs.Letter.{Letter, letter}
-use Rattle.cx_letter.specs.declared.input.Input.{Input}
 use Rattle.cx_letter.specs.declared.input.Input.TheVariants as input
-use Rattle.cx_letter.specs.declared.input.KeptRecord.{KeptRecord}
-use Rattle.cx_letter.specs.declared.message.Msg.{Msg}
 use Rattle.cx_letter.specs.declared.message.Msg.TheVariants as msg
-use Rattle.cx_model.specs.Acceptor.{acceptor_rules, acceptor_row}
-use Rattle.cx_model.specs.Matchmaker.{entry, is_booted, is_stopped, matchmaker_rules, matchmaker_row}
-use Rattle.cx_model.specs.Member.{Member}
-use Rattle.cx_model.specs.Names.{names}
-use Rattle.cx_model.specs.Outcome.{Outcome, either_way}
-use Rattle.cx_model.specs.Promises.{IsConfig}
-use Rattle.cx_inv_run.specs.Laws.{Lands}
-use Rattle.cx_inv_run.specs.States.{State, plain, Given, durable_of}
-use Rattle.cx_inv_run.proofs.Senders.{matchmaker_kinds}
-use Rattle.cx_inv_match.specs.Facts.{Facts}
-use Rattle.cx_inv_match.specs.Words.{HasRound, HasStopped}
 use Rattle.cx_inv_vote.proofs.Matchmakers.{booted_member, running_log}
 use Rattle.cx_inv_read.specs.Reads.{Covers, IsNew, IsRaised, IsReadAnswer, ReadSays, FreshReadFacts}
 use Rattle.cx_inv_read.proofs.Keep.{Since, covers_older, lands, no_acks}

@@ -1,49 +1,25 @@
 -- What the rows of the roles that take part in reads send: what is true of their other datagrams, and of each step of a read, is true of
 -- all.
-use Rattle.std.proofs.Common.{◌≡◌, ℕ, ◌+◌, ◌-◌, ◌≤◌, true, false, not, ◌&&◌, max, map, filter, ◌⊎◌, List, [], ◌∷◌, ◌++◌, length, Option}
-use Rattle.std.proofs.Common.{None, Some, inl, inr, sym, subst, refl}
-use Rattle.std.specs.Prelude.{◌==◌, ◌%◌, nat_lt, nat_le, bytes_eq, slice_get, if◌then◌else◌}
-use Rattle.std.specs.List.{list_any}
-use Rattle.std.proofs.lemmas.Bool.{leb-true}
-use Rattle.cx_base.specs.declared.cluster.Cluster.{Cluster}
-use Rattle.cx_base.specs.declared.command.Answered.{Answered}
-use Rattle.cx_base.specs.declared.command.Value.{Value}
-use Rattle.cx_base.specs.declared.role.RoleId.{RoleId}
-use Rattle.cx_base.specs.declared.round.Round.{Round}
+use Rattle.cx_inv_run.proofs.Common.{◌≡◌, ℕ, ◌+◌, ◌-◌, ◌≤◌, true, false, not, ◌&&◌, max, map, filter, ◌⊎◌, List, [], ◌∷◌, ◌++◌, length}
+use Rattle.cx_inv_run.proofs.Common.{Option, None, Some, inl, inr, sym, subst, refl, ◌==◌, ◌%◌, nat_lt, nat_le, bytes_eq, slice_get}
+use Rattle.cx_inv_run.proofs.Common.{if◌then◌else◌, list_any, leb-true, Cluster, Answered, Value, RoleId, Round, Why, Sent, is_in, below}
+use Rattle.cx_inv_run.proofs.Common.{role, same_role, names, Input, ready_values, is_above, is_before, same_round, Asking, Entry, Letter}
+use Rattle.cx_inv_run.proofs.Common.{letter, Msg, Deferred, AcceptorDurable, is_of_round, vote_at, acceptor_takes, is_counted}
+use Rattle.cx_inv_run.proofs.Common.{greatest_watermark, live_entries, is_member_of, members_of, rows_whole, MatchmakerDurable, at_work}
+use Rattle.cx_inv_run.proofs.Common.{boot_in, garbage_a_row, has_round, in_set, is_booted, is_stopped, match_a_row, match_read_row}
+use Rattle.cx_inv_run.proofs.Common.{matchmaker_takes, next_a_row, set_of, stop_a_row, Member, Outcome, only_word, either_way, by_test}
+use Rattle.cx_inv_run.proofs.Common.{Asked, ReaderDurable, ReaderVolatile, acked_by, ask_acceptors, ask_matchmakers, ask_replicas}
+use Rattle.cx_inv_run.proofs.Common.{asked_anew, asked_for, begin, begin_if, greatest_mark, has_acked, is_among, is_first, is_matched}
+use Rattle.cx_inv_run.proofs.Common.{is_of_batch, last_turn, match_ack_row, match_read_to, matched, pre_read_ack_row, pre_read_to, read_to}
+use Rattle.cx_inv_run.proofs.Common.{reader_row, reader_takes, reader_tick, request_over, request_row, make_token, asking_of}
+use Rattle.cx_inv_run.proofs.Common.{ReplicaDurable, ReplicaVolatile, Machine, held, execute_value, machine_from, results_at, results_from}
+use Rattle.cx_inv_run.proofs.Common.{read_answer_to, read_answers, fetched_by, fetch_found, read_row, replica_takes, held_to, fetch_to}
+use Rattle.cx_inv_run.proofs.Common.{replica_tick, same_read, IsSender, Member-both, Member-one, Member-map, Member-filter}
 use Rattle.cx_base.specs.declared.role.Kind.TheVariants as kind
-use Rattle.cx_base.specs.declared.why.Why.{Why}
-use Rattle.cx_base.specs.declared.why.Why.TheVariants.{Sent, Stopped}
-use Rattle.cx_base.specs.Grid.{is_in}
-use Rattle.cx_base.specs.Lists.{below}
-use Rattle.cx_base.specs.Role.{role, same_role}
-use Rattle.cx_model.specs.Names.{names}
-use Rattle.cx_letter.specs.declared.input.Input.{Input}
+use Rattle.cx_base.specs.declared.why.Why.TheVariants.{Stopped}
 use Rattle.cx_letter.specs.declared.input.Input.TheVariants as input
-use Rattle.cx_base.specs.Log.{ready_values}
-use Rattle.cx_base.specs.Sets.{is_above}
-use Rattle.cx_base.specs.Round.{is_before, same_round}
-use Rattle.cx_field.specs.declared.parts.Asking.{Asking}
-use Rattle.cx_field.specs.declared.parts.Entry.{Entry}
-use Rattle.cx_letter.specs.Letter.{Letter, letter}
-use Rattle.cx_letter.specs.declared.message.Msg.{Msg}
 use Rattle.cx_letter.specs.declared.message.Msg.TheVariants as msg
-use Rattle.cx_model.specs.declared.states.Deferred.{Deferred}
-use Rattle.cx_model.specs.Acceptor.{AcceptorDurable, is_of_round, vote_at, acceptor_takes}
-use Rattle.cx_model.specs.Matched.{is_counted, greatest_watermark, live_entries, is_member_of, members_of, rows_whole}
-use Rattle.cx_model.specs.Matchmaker.{MatchmakerDurable, at_work, boot_in, garbage_a_row, has_round, in_set, is_booted, is_stopped}
-use Rattle.cx_model.specs.Matchmaker.{match_a_row, match_read_row, matchmaker_takes, next_a_row, set_of, stop_a_row}
-use Rattle.cx_model.specs.Member.{Member}
-use Rattle.cx_model.specs.Outcome.{Outcome, only_word, either_way, by_test}
-use Rattle.cx_model.specs.Reader.{Asked, Batch, ReaderDurable, ReaderVolatile, acked_by, ask_acceptors, ask_matchmakers, ask_replicas}
-use Rattle.cx_model.specs.Reader.{asked_anew, asked_for, begin, begin_if, finish, greatest_mark, has_acked, is_among, is_first, is_matched}
-use Rattle.cx_model.specs.Reader.{is_of_batch, last_turn, match_ack_row, match_read_to, matched, pre_read_ack_row, pre_read_to, read_to}
-use Rattle.cx_model.specs.Reader.{reader_row, reader_takes, reader_tick, request_over, request_row, make_token, asking_of}
-use Rattle.cx_model.specs.Replica.{ReplicaDurable, ReplicaVolatile, Machine, held, execute_value, machine_from, results_at, results_from}
-use Rattle.cx_model.specs.Replica.{read_answer_to, read_answers, fetched_by, fetch_found, read_row, replica_takes, held_to, fetch_to}
-use Rattle.cx_model.specs.Replica.{replica_tick}
-use Rattle.cx_model.specs.Request.{same_read}
-use Rattle.cx_inv_run.specs.Kinds.{IsSender}
-use Rattle.cx_inv_run.proofs.Members.{Member-both, Member-one, Member-map, Member-filter}
+use Rattle.cx_model.specs.Reader.{Batch, finish}
 
 -- a message that is of no read
 abbrev pub IsPlain : Msg → Type 0

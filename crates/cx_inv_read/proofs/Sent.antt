@@ -1,38 +1,16 @@
 -- What one event sends: an acceptor's answer to a read is above each slot that it voted in and at least its watermark.
-use Rattle.std.proofs.Common.{◌≡◌, ℕ, ◌<◌, ◌≤◌, ◌&&◌, max, List, [], ◌++◌, reverse, append-nil, sym, subst, ◌∙◌, refl, arith}
 use Rattle.std.proofs.lemmas.List.{append_cancel_left}
-use Rattle.cx_base.specs.declared.cluster.Cluster.{Cluster}
-use Rattle.cx_base.specs.declared.command.Value.{Value}
-use Rattle.cx_base.specs.declared.event.Event.{Event}
+use Rattle.cx_inv_run.proofs.Common.{◌≡◌, ℕ, ◌<◌, ◌≤◌, ◌&&◌, max, List, [], ◌++◌, reverse, append-nil, sym, subst, ◌∙◌, refl, arith}
+use Rattle.cx_inv_run.proofs.Common.{Cluster, Value, Event, RoleId, Round, role, same_role, Asking, Letter, letter, Input, KeptRecord}
+use Rattle.cx_inv_run.proofs.Common.{acceptor_rules, acceptor_row, HasVoted, leader_rules, matchmaker_rules, Member, names, Outcome}
+use Rattle.cx_inv_run.proofs.Common.{either_way, reader_rules, replacer_rules, replica_rules, request, change, run, IsSender, OfKind, Lands}
+use Rattle.cx_inv_run.proofs.Common.{Laws, State, durable_of, HoldsIn, Member-second, batcher_kinds, proxy_kinds, matchmaker_kinds}
+use Rattle.cx_inv_run.proofs.Common.{replica_kinds, unbatcher_kinds, reader_kinds, leader_kinds, replacer_kinds, run_cluster}
 use Rattle.cx_base.specs.declared.role.Kind.TheVariants as kind
-use Rattle.cx_base.specs.declared.role.RoleId.{RoleId}
-use Rattle.cx_base.specs.declared.round.Round.{Round}
-use Rattle.cx_base.specs.Role.{role, same_role}
-use Rattle.cx_field.specs.declared.parts.Asking.{Asking}
-use Rattle.cx_letter.specs.Letter.{Letter, letter}
-use Rattle.cx_letter.specs.declared.input.Input.{Input}
 use Rattle.cx_letter.specs.declared.input.Input.TheVariants as input
-use Rattle.cx_letter.specs.declared.input.KeptRecord.{KeptRecord}
 use Rattle.cx_letter.specs.declared.message.Msg.TheVariants as msg
-use Rattle.cx_model.specs.Acceptor.{acceptor_rules, acceptor_row}
-use Rattle.cx_model.specs.Facts.{HasVoted}
-use Rattle.cx_model.specs.Leader.{leader_rules}
-use Rattle.cx_model.specs.Matchmaker.{matchmaker_rules}
-use Rattle.cx_model.specs.Member.{Member}
-use Rattle.cx_model.specs.Names.{names}
-use Rattle.cx_model.specs.Outcome.{Outcome, either_way}
-use Rattle.cx_model.specs.Reader.{reader_rules}
-use Rattle.cx_model.specs.Replacer.{replacer_rules}
-use Rattle.cx_model.specs.Replica.{replica_rules}
-use Rattle.cx_model.specs.Request.{request}
-use Rattle.cx_model.specs.World.{change, step, run}
-use Rattle.cx_inv_run.specs.Kinds.{IsSender, OfKind}
-use Rattle.cx_inv_run.specs.Laws.{Lands, Laws}
-use Rattle.cx_inv_run.specs.States.{State, durable_of, HoldsIn}
-use Rattle.cx_inv_run.proofs.Members.{Member-second}
-use Rattle.cx_inv_run.proofs.Senders.{batcher_kinds, proxy_kinds, matchmaker_kinds, replica_kinds, unbatcher_kinds, reader_kinds}
-use Rattle.cx_inv_run.proofs.LeaderSenders.{leader_kinds, replacer_kinds}
-use Rattle.cx_inv_run.proofs.Steps.{step_keeps, run_cluster}
+use Rattle.cx_model.specs.World.{step}
+use Rattle.cx_inv_run.proofs.Steps.{step_keeps}
 use Rattle.cx_inv_match.specs.Facts.{Facts}
 use Rattle.cx_inv_read.proofs.Fresh.{known_holds}
 use Rattle.cx_inv_read.proofs.Requests.{requested}

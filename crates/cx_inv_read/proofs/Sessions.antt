@@ -1,34 +1,14 @@
 -- A client's questions in a session: what is so of the number in each at its asking is so of all that are sent.
-use Rattle.std.proofs.Common.{◌≡◌, ℕ, List, [], ◌++◌, sym, subst, refl}
-use Rattle.cx_base.specs.declared.cluster.Cluster.{Cluster}
-use Rattle.cx_base.specs.declared.event.Event.{Event}
+use Rattle.cx_inv_run.proofs.Common.{◌≡◌, ℕ, List, [], ◌++◌, sym, subst, refl, Cluster, Event, Kind, RoleId, role, Token, Letter}
+use Rattle.cx_inv_run.proofs.Common.{KeptRecord, Msg, acceptor_rules, leader_rules, matchmaker_rules, Outcome, reader_rules, replacer_rules}
+use Rattle.cx_inv_run.proofs.Common.{replica_rules, request, run, IsSender, OfKind, Lands, Laws, AllAllowed, anything, State, durable_of}
+use Rattle.cx_inv_run.proofs.Common.{HoldsIn, Member-both, Member-one, batcher_kinds, proxy_kinds, acceptor_kinds, matchmaker_kinds}
+use Rattle.cx_inv_run.proofs.Common.{replica_kinds, unbatcher_kinds, reader_kinds, leader_kinds, replacer_kinds, run_keeps, run_from_keeps}
+use Rattle.cx_inv_run.proofs.Common.{run_append, run_cluster}
 use Rattle.cx_base.specs.declared.event.Event.TheVariants as event
-use Rattle.cx_base.specs.declared.role.Kind.{Kind}
 use Rattle.cx_base.specs.declared.role.Kind.TheVariants as kind
-use Rattle.cx_base.specs.declared.role.RoleId.{RoleId}
-use Rattle.cx_base.specs.Role.{role}
-use Rattle.cx_field.specs.declared.parts.Token.{Token}
-use Rattle.cx_letter.specs.Letter.{Letter}
-use Rattle.cx_letter.specs.declared.input.KeptRecord.{KeptRecord}
-use Rattle.cx_letter.specs.declared.message.Msg.{Msg}
 use Rattle.cx_letter.specs.declared.message.Msg.TheVariants as msg
-use Rattle.cx_model.specs.Acceptor.{acceptor_rules}
-use Rattle.cx_model.specs.Leader.{leader_rules}
-use Rattle.cx_model.specs.Matchmaker.{matchmaker_rules}
-use Rattle.cx_model.specs.Outcome.{Outcome}
-use Rattle.cx_model.specs.Reader.{reader_rules}
-use Rattle.cx_model.specs.Replacer.{replacer_rules}
-use Rattle.cx_model.specs.Replica.{replica_rules}
-use Rattle.cx_model.specs.Request.{request}
-use Rattle.cx_model.specs.World.{run}
-use Rattle.cx_inv_run.specs.Kinds.{IsSender, OfKind}
-use Rattle.cx_inv_run.specs.Laws.{Lands, Laws, AllAllowed, anything}
-use Rattle.cx_inv_run.specs.States.{State, durable_of, HoldsIn}
-use Rattle.cx_inv_run.proofs.Members.{Member-both, Member-one}
-use Rattle.cx_inv_run.proofs.Senders.{batcher_kinds, proxy_kinds, acceptor_kinds, matchmaker_kinds, replica_kinds, unbatcher_kinds}
-use Rattle.cx_inv_run.proofs.Senders.{reader_kinds}
-use Rattle.cx_inv_run.proofs.LeaderSenders.{leader_kinds, replacer_kinds}
-use Rattle.cx_inv_run.proofs.Steps.{run_keeps, run_from_keeps, run_append, run_cluster, along_anything}
+use Rattle.cx_inv_run.proofs.Steps.{along_anything}
 use Rattle.cx_inv_read.specs.Reads.{SessionSays, Sessions}
 use Rattle.cx_inv_read.proofs.Requests.{IsSessionFor}
 use Rattle.cx_inv_read.proofs.Rows.{Each}

@@ -1,61 +1,29 @@
 -- In every run each turn under which something is asked or answered was kept.
-use Rattle.std.proofs.Common.{◌≡◌, ℕ, ◌+◌, ◌≤◌, false, not, ◌&&◌, List, [], ◌∷◌, ◌++◌, length, Option, None, Some, inl, inr, sym, subst}
-use Rattle.std.proofs.Common.{refl, arith}
-use Rattle.std.specs.Prelude.{◌==◌, nat_lt, nat_le}
-use Rattle.std.proofs.lemmas.Bool.{cases_Bool}
-use Rattle.std.proofs.lemmas.Option.{none-some, same_Some}
-use Rattle.cx_base.specs.declared.cluster.Cluster.{Cluster}
-use Rattle.cx_base.specs.declared.event.Event.{Event}
-use Rattle.cx_base.specs.declared.role.Kind.{Kind}
+use Rattle.cx_inv_run.proofs.Common.{◌≡◌, ℕ, ◌+◌, ◌≤◌, false, not, ◌&&◌, List, [], ◌∷◌, ◌++◌, length, Option, None, Some, inl, inr, sym}
+use Rattle.cx_inv_run.proofs.Common.{subst, refl, arith, ◌==◌, nat_lt, nat_le, cases_Bool, none-some, same_Some, Cluster, Event, Kind}
+use Rattle.cx_inv_run.proofs.Common.{RoleId, Round, Why, Sent, is_in, role, same_role, same_round, is_above, Asking, Entry, Letter, Input}
+use Rattle.cx_inv_run.proofs.Common.{KeptRecord, Written, Record, Msg, AcceptorDurable, acceptor_rules, acceptor_row, leader_rules}
+use Rattle.cx_inv_run.proofs.Common.{is_counted, is_member_of, greatest_watermark, live_entries, members_of, rows_whole, MatchmakerDurable}
+use Rattle.cx_inv_run.proofs.Common.{matchmaker_rules, matchmaker_row, Member, names, Outcome, only_word, either_way, HasKept, HasTurn}
+use Rattle.cx_inv_run.proofs.Common.{Asked, ReaderDurable, ReaderVolatile, acked_by, ask_acceptors, ask_matchmakers, ask_replicas}
+use Rattle.cx_inv_run.proofs.Common.{asked_anew, asked_for, begin, begin_if, greatest_mark, has_acked, is_among, is_first, is_matched}
+use Rattle.cx_inv_run.proofs.Common.{is_of_batch, last_turn, match_ack_counted, match_ack_row, match_read_to, matched, pre_read_ack_row}
+use Rattle.cx_inv_run.proofs.Common.{pre_read_counted, pre_read_to, read_to, reader_row, reader_rules, reader_takes, reader_tick}
+use Rattle.cx_inv_run.proofs.Common.{request_over, request_row, make_token, asking_of, replacer_rules, replica_rules, request, run, Lands}
+use Rattle.cx_inv_run.proofs.Common.{Laws, anything, State, Down, BatcherIn, LeaderIn, ProxyIn, ReplicaIn, ReaderIn, ReplacerIn, plain}
+use Rattle.cx_inv_run.proofs.Common.{Given, durable_of, entry_by, snap_by, fresh_state, with_record, HoldsIn, durable_else, durable_other}
+use Rattle.cx_inv_run.proofs.Common.{durable_own, kept_cases, kept_longer, kept_other, no_snap, same_role-true, set_running, Member-both}
+use Rattle.cx_inv_run.proofs.Common.{batcher_kinds, proxy_kinds, replica_kinds, unbatcher_kinds, leader_kinds, replacer_kinds}
+use Rattle.cx_inv_run.proofs.Common.{batcher_sends, leader_sends, proxy_sends, replica_sends, unbatcher_sends, sends_only, run_keeps}
+use Rattle.cx_inv_run.proofs.Common.{all_allowed}
 use Rattle.cx_base.specs.declared.role.Kind.TheVariants as kind
-use Rattle.cx_base.specs.declared.role.RoleId.{RoleId}
-use Rattle.cx_base.specs.declared.round.Round.{Round}
-use Rattle.cx_base.specs.declared.why.Why.{Why}
-use Rattle.cx_base.specs.declared.why.Why.TheVariants.{Sent}
-use Rattle.cx_base.specs.Grid.{is_in}
-use Rattle.cx_base.specs.Role.{role, same_role}
-use Rattle.cx_base.specs.Round.{same_round}
-use Rattle.cx_base.specs.Sets.{is_above}
-use Rattle.cx_field.specs.declared.parts.Asking.{Asking}
-use Rattle.cx_field.specs.declared.parts.Entry.{Entry}
-use Rattle.cx_letter.specs.Letter.{Letter}
-use Rattle.cx_letter.specs.declared.input.Input.{Input}
 use Rattle.cx_letter.specs.declared.input.Input.TheVariants as input
-use Rattle.cx_letter.specs.declared.input.KeptRecord.{KeptRecord}
-use Rattle.cx_letter.specs.declared.input.Written.{Written}
 use Rattle.cx_letter.specs.declared.input.Written.TheVariants as written
-use Rattle.cx_letter.specs.declared.kept.Record.{Record}
 use Rattle.cx_letter.specs.declared.kept.Record.TheVariants as kept
-use Rattle.cx_letter.specs.declared.message.Msg.{Msg}
 use Rattle.cx_letter.specs.declared.message.Msg.TheVariants as msg
-use Rattle.cx_model.specs.Acceptor.{AcceptorDurable, acceptor_rules, acceptor_row}
-use Rattle.cx_model.specs.Leader.{leader_rules}
-use Rattle.cx_model.specs.Matched.{is_counted, is_member_of, greatest_watermark, live_entries, members_of, rows_whole}
-use Rattle.cx_model.specs.Matchmaker.{MatchmakerDurable, matchmaker_rules, matchmaker_row}
-use Rattle.cx_model.specs.Member.{Member}
-use Rattle.cx_model.specs.Names.{names}
-use Rattle.cx_model.specs.Outcome.{Outcome, only_word, either_way}
-use Rattle.cx_model.specs.Promises.{HasKept, HasTurn}
-use Rattle.cx_model.specs.Reader.{Asked, Batch, ReaderDurable, ReaderVolatile, acked_by, ask_acceptors, ask_matchmakers, ask_replicas}
-use Rattle.cx_model.specs.Reader.{asked_anew, asked_for, begin, begin_if, finish, greatest_mark, has_acked, is_among, is_first, is_matched}
-use Rattle.cx_model.specs.Reader.{is_of_batch, last_turn, match_ack_counted, match_ack_row, match_read_to, matched, new_batch}
-use Rattle.cx_model.specs.Reader.{pre_read_ack_row, pre_read_counted, pre_read_to, read_to, reader_after, reader_row, reader_rules}
-use Rattle.cx_model.specs.Reader.{reader_takes, reader_tick, request_over, request_row, make_token, asking_of}
-use Rattle.cx_model.specs.Replacer.{replacer_rules}
-use Rattle.cx_model.specs.Replica.{replica_rules}
-use Rattle.cx_model.specs.Request.{request}
-use Rattle.cx_model.specs.World.{run}
+use Rattle.cx_model.specs.Reader.{Batch, finish, new_batch, reader_after}
 use Rattle.cx_inv_run.specs.Kinds.{IsWriter}
-use Rattle.cx_inv_run.specs.Laws.{Lands, Laws, anything}
-use Rattle.cx_inv_run.specs.States.{State, Down, BatcherIn, LeaderIn, ProxyIn, ReplicaIn, ReaderIn, ReplacerIn, plain, Given, durable_of}
-use Rattle.cx_inv_run.specs.States.{entry_by, snap_by, fresh_state, with_record, HoldsIn}
-use Rattle.cx_inv_run.proofs.Histories.{durable_else, durable_other, durable_own, kept_cases, kept_longer, kept_other, no_snap}
-use Rattle.cx_inv_run.proofs.Histories.{same_role-true, set_running}
-use Rattle.cx_inv_run.proofs.Members.{Member-both}
-use Rattle.cx_inv_run.proofs.Senders.{batcher_kinds, proxy_kinds, replica_kinds, unbatcher_kinds}
-use Rattle.cx_inv_run.proofs.LeaderSenders.{leader_kinds, replacer_kinds}
-use Rattle.cx_inv_run.proofs.Sends.{batcher_sends, leader_sends, proxy_sends, replica_sends, unbatcher_sends, sends_only}
-use Rattle.cx_inv_run.proofs.Steps.{run_keeps, along_anything, all_allowed}
+use Rattle.cx_inv_run.proofs.Steps.{along_anything}
 use Rattle.cx_inv_read.specs.Reads.{Has, IsNew, TurnSays, BatchIsKept, TurnsKept}
 use Rattle.cx_inv_read.proofs.Requests.{requested}
 use Rattle.cx_inv_read.proofs.Rows.{IsPlain, Each, acceptor_tells, matchmaker_tells, replacer_sends, each_mapped}

@@ -1,31 +1,13 @@
 -- Of a read that no event asked for no datagram was sent, up to the question to a replica.
-use Rattle.std.proofs.Common.{ℕ, List, inl, inr, subst, refl}
-use Rattle.cx_base.specs.declared.cluster.Cluster.{Cluster}
-use Rattle.cx_base.specs.declared.event.Event.{Event}
+use Rattle.cx_inv_run.proofs.Common.{ℕ, List, inl, inr, subst, refl, Cluster, Event, RoleId, role, Token, Letter, Input, KeptRecord}
+use Rattle.cx_inv_run.proofs.Common.{acceptor_rules, ReaderWasTold, leader_rules, matchmaker_rules, Outcome, ReaderDurable, ReaderVolatile}
+use Rattle.cx_inv_run.proofs.Common.{reader_rules, reader_row, replacer_rules, replica_rules, request, Lands, Laws, State, durable_of}
+use Rattle.cx_inv_run.proofs.Common.{Member-cases, Member-one, batcher_kinds, proxy_kinds, acceptor_kinds, matchmaker_kinds, replica_kinds}
+use Rattle.cx_inv_run.proofs.Common.{unbatcher_kinds, leader_kinds, replacer_kinds, batcher_sends, leader_sends, proxy_sends, replica_sends}
+use Rattle.cx_inv_run.proofs.Common.{unbatcher_sends, sends_only}
 use Rattle.cx_base.specs.declared.event.Event.TheVariants as event
 use Rattle.cx_base.specs.declared.role.Kind.TheVariants as kind
-use Rattle.cx_base.specs.declared.role.RoleId.{RoleId}
-use Rattle.cx_base.specs.Role.{role}
-use Rattle.cx_field.specs.declared.parts.Token.{Token}
-use Rattle.cx_letter.specs.Letter.{Letter}
-use Rattle.cx_letter.specs.declared.input.Input.{Input}
-use Rattle.cx_letter.specs.declared.input.KeptRecord.{KeptRecord}
-use Rattle.cx_model.specs.Acceptor.{acceptor_rules}
-use Rattle.cx_model.specs.Facts.{ReaderWasTold}
-use Rattle.cx_model.specs.Leader.{leader_rules}
-use Rattle.cx_model.specs.Matchmaker.{matchmaker_rules}
-use Rattle.cx_model.specs.Outcome.{Outcome}
-use Rattle.cx_model.specs.Reader.{ReaderDurable, ReaderVolatile, reader_rules, reader_row}
-use Rattle.cx_model.specs.Replacer.{replacer_rules}
-use Rattle.cx_model.specs.Replica.{replica_rules}
-use Rattle.cx_model.specs.Request.{request}
-use Rattle.cx_inv_run.specs.Laws.{Lands, Laws}
-use Rattle.cx_inv_run.specs.States.{State, durable_of}
-use Rattle.cx_inv_run.proofs.Members.{Member-cases, Member-one}
-use Rattle.cx_inv_run.proofs.Senders.{batcher_kinds, proxy_kinds, acceptor_kinds, matchmaker_kinds, replica_kinds, unbatcher_kinds}
-use Rattle.cx_inv_run.proofs.LeaderSenders.{leader_kinds, replacer_kinds}
-use Rattle.cx_inv_run.proofs.Sends.{batcher_sends, leader_sends, proxy_sends, acceptor_sends, matchmaker_sends, replica_sends}
-use Rattle.cx_inv_run.proofs.Sends.{unbatcher_sends, sends_only}
+use Rattle.cx_inv_run.proofs.Sends.{acceptor_sends, matchmaker_sends}
 use Rattle.cx_inv_match.specs.Facts.{InState}
 use Rattle.cx_inv_read.specs.Reads.{IsElse, Unread}
 use Rattle.cx_inv_read.proofs.Requests.{IsReadFor}

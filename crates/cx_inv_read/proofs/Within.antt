@@ -1,59 +1,28 @@
 -- An answer reports no more values than some replica kept.
-use Rattle.std.proofs.Common.{◌≡◌, ◌⊎◌, ℕ, ◌+◌, ◌-◌, ◌≤◌, true, false, ◌&&◌, not, List, [], ◌∷◌, ◌++◌, map, filter, length, inl, inr, ap}
-use Rattle.std.proofs.Common.{sym, subst, refl, arith}
-use Rattle.std.specs.Prelude.{◌==◌, ◌%◌, nat_lt, nat_le, slice_get, Option, None, Some}
-use Rattle.std.specs.List.{list_any}
-use Rattle.std.proofs.lemmas.Bool.{cases_Bool}
-use Rattle.std.proofs.lemmas.List.{length-append}
-use Rattle.std.proofs.lemmas.Option.{same_Some}
-use Rattle.cx_base.specs.declared.cluster.Cluster.{Cluster}
-use Rattle.cx_base.specs.declared.command.Answered.{Answered}
-use Rattle.cx_base.specs.declared.command.Command.{Command}
-use Rattle.cx_base.specs.declared.command.Value.{Value}
-use Rattle.cx_base.specs.declared.event.Event.{Event}
+use Rattle.cx_inv_run.proofs.Common.{◌≡◌, ◌⊎◌, ℕ, ◌+◌, ◌-◌, ◌≤◌, true, false, ◌&&◌, not, List, [], ◌∷◌, ◌++◌, map, filter, length, inl, inr}
+use Rattle.cx_inv_run.proofs.Common.{ap, sym, subst, refl, arith, ◌==◌, ◌%◌, nat_lt, nat_le, slice_get, Option, None, Some, list_any}
+use Rattle.cx_inv_run.proofs.Common.{cases_Bool, length-append, same_Some, Cluster, Answered, Command, Value, Event, RoleId, commands_of}
+use Rattle.cx_inv_run.proofs.Common.{below, ready_values, comes_before, floor_of, is_answer_of, is_done, noted_for, with_note, role}
+use Rattle.cx_inv_run.proofs.Common.{same_role, Letter, letter, Input, KeptRecord, Record, Msg, Deferred, acceptor_rules, leader_rules}
+use Rattle.cx_inv_run.proofs.Common.{matchmaker_rules, Member, replacer_rules, names, Outcome, either_way, reader_rules, make_token, IsTied}
+use Rattle.cx_inv_run.proofs.Common.{ReplicaDurable, ReplicaVolatile, Machine, Executed, held, new_machine, execute_noted, execute}
+use Rattle.cx_inv_run.proofs.Common.{execute_all, execute_value, machine_from, machine_of, results_at, results_from, read_answer_to}
+use Rattle.cx_inv_run.proofs.Common.{read_answers, apply, fetched_by, fetch_found, read_row, held_to, fetch_to, replica_rules}
+use Rattle.cx_inv_run.proofs.Common.{replica_takes, replica_tick, replica_row, same_read, request, answer_to, unbatcher_row, run, values_in}
+use Rattle.cx_inv_run.proofs.Common.{Lands, Laws, State, Given, entry_by, snap_by, with_record, durable_of, log_in, HoldsIn, Ties}
+use Rattle.cx_inv_run.proofs.Common.{log_other, log_own, log_snap, same_role-true, Member-both, Member-filter, Member-map, Member-one}
+use Rattle.cx_inv_run.proofs.Common.{batcher_kinds, proxy_kinds, acceptor_kinds, matchmaker_kinds, reader_kinds, leader_kinds}
+use Rattle.cx_inv_run.proofs.Common.{replacer_kinds, batcher_sends, leader_sends, proxy_sends, sends_only, along, run_keeps, all_allowed}
+use Rattle.cx_inv_run.proofs.Common.{ties_hold, held_is}
 use Rattle.cx_base.specs.declared.role.Kind.TheVariants as kind
-use Rattle.cx_base.specs.declared.role.RoleId.{RoleId}
-use Rattle.cx_base.specs.Fold.{commands_of}
-use Rattle.cx_base.specs.Lists.{below}
-use Rattle.cx_base.specs.Log.{ready_values}
-use Rattle.cx_base.specs.Noted.{comes_before, floor_of, is_answer_of, is_done, is_answer_done, noted_for, still_noted, with_note}
-use Rattle.cx_base.specs.Role.{role, same_role}
-use Rattle.cx_letter.specs.Letter.{Letter, letter}
-use Rattle.cx_letter.specs.declared.input.Input.{Input}
+use Rattle.cx_base.specs.Noted.{is_answer_done, still_noted}
 use Rattle.cx_letter.specs.declared.input.Input.TheVariants as input
-use Rattle.cx_letter.specs.declared.input.KeptRecord.{KeptRecord}
 use Rattle.cx_letter.specs.declared.input.Written.TheVariants as written
-use Rattle.cx_letter.specs.declared.kept.Record.{Record}
 use Rattle.cx_letter.specs.declared.kept.Record.TheVariants as kept
-use Rattle.cx_letter.specs.declared.message.Msg.{Msg}
 use Rattle.cx_letter.specs.declared.message.Msg.TheVariants as msg
-use Rattle.cx_model.specs.declared.states.Deferred.{Deferred}
-use Rattle.cx_model.specs.Acceptor.{acceptor_rules}
-use Rattle.cx_model.specs.Leader.{leader_rules}
-use Rattle.cx_model.specs.Matchmaker.{matchmaker_rules}
-use Rattle.cx_model.specs.Member.{Member}
-use Rattle.cx_model.specs.Replacer.{replacer_rules}
-use Rattle.cx_model.specs.Names.{names}
-use Rattle.cx_model.specs.Outcome.{Outcome, either_way}
-use Rattle.cx_model.specs.Reader.{reader_rules, make_token}
-use Rattle.cx_model.specs.Replica.{IsTied, ReplicaDurable, ReplicaVolatile, Machine, Executed, held, new_machine, acting, execute_noted}
-use Rattle.cx_model.specs.Replica.{execute, execute_all, execute_value, machine_from, machine_of, results_at, results_from, read_answer_to}
-use Rattle.cx_model.specs.Replica.{read_answers, apply, fetched_by, fetch_found, read_row, held_to, fetch_to, replica_rules, replica_takes}
-use Rattle.cx_model.specs.Replica.{replica_tick, replica_row}
-use Rattle.cx_model.specs.Request.{same_read, request}
-use Rattle.cx_model.specs.Unbatcher.{answer_to, unbatcher_takes, unbatcher_row}
-use Rattle.cx_model.specs.World.{run, values_in}
-use Rattle.cx_inv_run.specs.Laws.{Lands, Laws}
-use Rattle.cx_inv_run.specs.States.{State, Given, entry_by, snap_by, with_record, durable_of, log_in, HoldsIn}
-use Rattle.cx_inv_run.specs.Ties.{Ties}
-use Rattle.cx_inv_run.proofs.Histories.{log_other, log_own, log_snap, same_role-true}
-use Rattle.cx_inv_run.proofs.Members.{Member-both, Member-filter, Member-map, Member-one}
-use Rattle.cx_inv_run.proofs.Senders.{batcher_kinds, proxy_kinds, acceptor_kinds, matchmaker_kinds, reader_kinds}
-use Rattle.cx_inv_run.proofs.LeaderSenders.{leader_kinds, replacer_kinds}
-use Rattle.cx_inv_run.proofs.Sends.{batcher_sends, leader_sends, proxy_sends, acceptor_sends, matchmaker_sends, reader_sends, sends_only}
-use Rattle.cx_inv_run.proofs.Steps.{along, run_keeps, all_allowed}
-use Rattle.cx_inv_run.proofs.TieLaws.{ties_hold}
-use Rattle.cx_inv_run.proofs.Tying.{held_is}
+use Rattle.cx_model.specs.Replica.{acting}
+use Rattle.cx_model.specs.Unbatcher.{unbatcher_takes}
+use Rattle.cx_inv_run.proofs.Sends.{acceptor_sends, matchmaker_sends, reader_sends}
 use Rattle.cx_inv_read.specs.Reads.{IsWithin, TellsWithin, Within}
 use Rattle.cx_inv_read.proofs.Requests.{requested}
 use Rattle.cx_inv_read.proofs.Rows.{Each, replacer_sends}

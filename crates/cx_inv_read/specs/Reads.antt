@@ -2,32 +2,13 @@
 -- that was not asked for; that turns were kept; what the datagrams of a session say; on which question to a replica an answer stands, and
 -- how many values some replica kept.
 use Rattle.std.specs.Prelude.{◌≡◌, ◌⊎◌, ℕ, ◌<◌, ◌≤◌, false, List, length, Option, None, Some}
-use Rattle.cx_base.specs.declared.cluster.Cluster.{Cluster}
-use Rattle.cx_base.specs.declared.command.Answered.{Answered}
-use Rattle.cx_base.specs.declared.command.Value.{Value}
+use Rattle.cx_model.specs.Prelude.{Cluster, Answered, Value, RoleId, Round, Shape, role, is_before, no_round, Asking, Entry, Token, Letter}
+use Rattle.cx_model.specs.Prelude.{letter, KeptRecord, Msg, HasVoted, IsReadOf, first_set, entry, Member, HasTurn, IsConfig, Asked, Batch}
+use Rattle.cx_model.specs.Prelude.{asking_of, is_matched, make_token, State, ReaderIn, HasRound}
+use Rattle.cx_inv_match.specs.Prelude.{Deferred, log_in, AreOnce, answering_matchmakers, HasGarbage, HasBoot, HasStopped, HasMark}
+use Rattle.cx_inv_match.specs.Prelude.{IsChosenIn, IsCollected, IsKnown, SetFacts}
 use Rattle.cx_base.specs.declared.role.Kind.TheVariants as kind
-use Rattle.cx_base.specs.declared.role.RoleId.{RoleId}
-use Rattle.cx_base.specs.declared.round.Round.{Round}
-use Rattle.cx_base.specs.Grid.{Shape}
-use Rattle.cx_base.specs.Role.{role}
-use Rattle.cx_base.specs.Round.{is_before, no_round}
-use Rattle.cx_field.specs.declared.parts.Asking.{Asking}
-use Rattle.cx_field.specs.declared.parts.Entry.{Entry}
-use Rattle.cx_field.specs.declared.parts.Token.{Token}
-use Rattle.cx_letter.specs.Letter.{Letter, letter}
-use Rattle.cx_letter.specs.declared.input.KeptRecord.{KeptRecord}
-use Rattle.cx_letter.specs.declared.message.Msg.{Msg}
 use Rattle.cx_letter.specs.declared.message.Msg.TheVariants as msg
-use Rattle.cx_model.specs.declared.states.Deferred.{Deferred}
-use Rattle.cx_model.specs.Facts.{HasVoted, IsReadOf}
-use Rattle.cx_model.specs.Matched.{first_set}
-use Rattle.cx_model.specs.Matchmaker.{entry}
-use Rattle.cx_model.specs.Member.{Member}
-use Rattle.cx_model.specs.Promises.{HasTurn, IsConfig}
-use Rattle.cx_model.specs.Reader.{Asked, Batch, asking_of, is_matched, make_token}
-use Rattle.cx_inv_run.specs.States.{State, ReaderIn, log_in}
-use Rattle.cx_inv_match.specs.Facts.{AreOnce, answering_matchmakers}
-use Rattle.cx_inv_match.specs.Words.{HasGarbage, HasRound, HasBoot, HasStopped, HasMark, IsChosenIn, IsCollected, IsKnown, SetFacts}
 
 -- the longer history has all of the shorter
 abbrev pub Has : List KeptRecord → List KeptRecord → Type 0

@@ -1,44 +1,22 @@
 -- The rows of a reader: a turn that is fresh asks only in grids of rounds that weren't retired before.
-use Rattle.std.proofs.Common.{◌≡◌, ℕ, ◌+◌, ◌<◌, Bool, true, false, not, ◌&&◌, map, List, [], ◌∷◌, ◌++◌, length, Option, Some, None, sym}
-use Rattle.std.proofs.Common.{subst, refl, arith}
-use Rattle.std.specs.Prelude.{◌==◌, nat_lt, nat_le}
-use Rattle.std.proofs.lemmas.Bool.{and_parts, not-false, leb-true}
-use Rattle.std.proofs.lemmas.Option.{none-some, same_Some}
-use Rattle.cx_base.specs.declared.cluster.Cluster.{Cluster}
+use Rattle.cx_inv_run.proofs.Common.{◌≡◌, ℕ, ◌+◌, ◌<◌, Bool, true, false, not, ◌&&◌, map, List, [], ◌∷◌, ◌++◌, length, Option, Some, None}
+use Rattle.cx_inv_run.proofs.Common.{sym, subst, refl, arith, ◌==◌, nat_lt, nat_le, and_parts, not-false, leb-true, none-some, same_Some}
+use Rattle.cx_inv_run.proofs.Common.{Cluster, RoleId, Round, Why, is_in, role, same_role, same_round, is_above, Asking, Entry, Token}
+use Rattle.cx_inv_run.proofs.Common.{Letter, letter, Input, KeptRecord, Msg, MatchAnswer, enough, is_counted, greatest_watermark}
+use Rattle.cx_inv_run.proofs.Common.{live_entries, is_member_of, members_of, rows_whole, Member, names, Outcome, only_word, replied}
+use Rattle.cx_inv_run.proofs.Common.{either_way, by_test, Asked, ReaderDurable, ReaderVolatile, acked_by, ask_acceptors, ask_matchmakers}
+use Rattle.cx_inv_run.proofs.Common.{ask_replicas, asked_anew, asked_for, begin, begin_if, greatest_mark, has_acked, is_among, is_first}
+use Rattle.cx_inv_run.proofs.Common.{is_matched, is_of_batch, last_turn, match_ack_counted, match_ack_row, match_read_to, matched}
+use Rattle.cx_inv_run.proofs.Common.{pre_read_ack_row, pre_read_to, read_to, reader_row, reader_rules, reader_takes, reader_tick}
+use Rattle.cx_inv_run.proofs.Common.{request_over, request_row, make_token, asking_of, Lands, State, ReaderIn, Given, durable_of, entry_by}
+use Rattle.cx_inv_run.proofs.Common.{is_in-Member, Member-both, Member-one}
+use Rattle.cx_inv_match.specs.Prelude.{answering_matchmakers, InState, IsKnown}
 use Rattle.cx_base.specs.declared.role.Kind.TheVariants as kind
-use Rattle.cx_base.specs.declared.role.RoleId.{RoleId}
-use Rattle.cx_base.specs.declared.round.Round.{Round}
-use Rattle.cx_base.specs.declared.why.Why.{Why}
 use Rattle.cx_base.specs.declared.why.Why.TheVariants as why
-use Rattle.cx_base.specs.Grid.{is_in}
-use Rattle.cx_base.specs.Role.{role, same_role}
-use Rattle.cx_base.specs.Round.{same_round}
-use Rattle.cx_base.specs.Sets.{is_above}
-use Rattle.cx_field.specs.declared.parts.Asking.{Asking}
-use Rattle.cx_field.specs.declared.parts.Entry.{Entry}
-use Rattle.cx_field.specs.declared.parts.Token.{Token}
-use Rattle.cx_letter.specs.Letter.{Letter, letter}
-use Rattle.cx_letter.specs.declared.input.Input.{Input}
 use Rattle.cx_letter.specs.declared.input.Input.TheVariants as input
-use Rattle.cx_letter.specs.declared.input.KeptRecord.{KeptRecord}
 use Rattle.cx_letter.specs.declared.kept.Record.TheVariants as kept
-use Rattle.cx_letter.specs.declared.message.Msg.{Msg}
 use Rattle.cx_letter.specs.declared.message.Msg.TheVariants as msg
-use Rattle.cx_model.specs.declared.states.MatchAnswer.{MatchAnswer}
-use Rattle.cx_model.specs.Matched.{enough, is_counted, greatest_watermark, live_entries, is_member_of, members_of, rows_whole}
-use Rattle.cx_model.specs.Member.{Member}
-use Rattle.cx_model.specs.Names.{names}
-use Rattle.cx_model.specs.Outcome.{Outcome, only_word, replied, either_way, by_test}
-use Rattle.cx_model.specs.Reader.{Asked, Batch, ReaderDurable, ReaderVolatile, acked_by, ask_acceptors, ask_matchmakers, ask_replicas}
-use Rattle.cx_model.specs.Reader.{asked_anew, asked_for, begin, begin_if, finish, greatest_mark, has_acked, is_among, is_first, is_matched}
-use Rattle.cx_model.specs.Reader.{is_of_batch, last_turn, match_ack_counted, match_ack_row, match_read_to, matched, pre_read_ack_row}
-use Rattle.cx_model.specs.Reader.{pre_read_to, read_to, reader_row, reader_rules, reader_takes, reader_tick, request_over, request_row}
-use Rattle.cx_model.specs.Reader.{make_token, asking_of}
-use Rattle.cx_inv_run.specs.Laws.{Lands}
-use Rattle.cx_inv_run.specs.States.{State, ReaderIn, Given, durable_of, entry_by}
-use Rattle.cx_inv_run.proofs.Members.{is_in-Member, Member-both, Member-one}
-use Rattle.cx_inv_match.specs.Facts.{answering_matchmakers, InState}
-use Rattle.cx_inv_match.specs.Words.{IsKnown}
+use Rattle.cx_model.specs.Reader.{Batch, finish}
 use Rattle.cx_inv_vote.proofs.Readers.{same_asking-true}
 use Rattle.cx_inv_vote.proofs.Rows.{is_role}
 use Rattle.cx_inv_read.specs.Reads.{HasBatch, InReader, IsBatch}

@@ -1,38 +1,15 @@
 -- The facts on retirement hold of every run; and any moment of a run is a past, from which on they hold.
-use Rattle.std.proofs.Common.{◌⊎◌, List, [], ◌∷◌, ◌++◌, reverse, inl, inr, sym, subst, refl}
-use Rattle.cx_base.specs.declared.cluster.Cluster.{Cluster}
-use Rattle.cx_base.specs.declared.event.Event.{Event}
-use Rattle.cx_base.specs.declared.role.Kind.{Kind}
+use Rattle.cx_inv_run.proofs.Common.{◌⊎◌, List, [], ◌∷◌, ◌++◌, reverse, inl, inr, sym, subst, refl, Cluster, Event, Kind, RoleId, Round}
+use Rattle.cx_inv_run.proofs.Common.{role, Asking, Entry, Letter, letter, KeptRecord, Msg, acceptor_rules, acceptor_row, batcher_row, entry}
+use Rattle.cx_inv_run.proofs.Common.{Member, IsConfig, proxy_row, replacer_rules, replacer_row, replica_rules, replica_row, unbatcher_row}
+use Rattle.cx_inv_run.proofs.Common.{World, change, run, run_from, Laws, HoldsAlong, State, Down, BatcherIn, ProxyIn, ReplicaIn, ReplacerIn}
+use Rattle.cx_inv_run.proofs.Common.{plain, fresh_state, snap_by, durable_of, HoldsIn, kinds_hold, Member-first, Member-reverse}
+use Rattle.cx_inv_run.proofs.Common.{Member-turned, acceptor_kinds, batcher_kinds, unbatcher_kinds, proxy_kinds, replica_kinds}
+use Rattle.cx_inv_run.proofs.Common.{replacer_kinds, run_from_keeps, always, run_append, run_cluster, all_allowed, HasRound}
+use Rattle.cx_inv_match.specs.Prelude.{Facts, HasLog, HasGarbage, SetFacts}
 use Rattle.cx_base.specs.declared.role.Kind.TheVariants as kind
-use Rattle.cx_base.specs.declared.role.RoleId.{RoleId}
-use Rattle.cx_base.specs.declared.round.Round.{Round}
-use Rattle.cx_base.specs.Role.{role}
-use Rattle.cx_field.specs.declared.parts.Asking.{Asking}
-use Rattle.cx_field.specs.declared.parts.Entry.{Entry}
-use Rattle.cx_letter.specs.Letter.{Letter, letter}
-use Rattle.cx_letter.specs.declared.input.KeptRecord.{KeptRecord}
-use Rattle.cx_letter.specs.declared.message.Msg.{Msg}
 use Rattle.cx_letter.specs.declared.message.Msg.TheVariants as msg
-use Rattle.cx_model.specs.Acceptor.{acceptor_rules, acceptor_row}
-use Rattle.cx_model.specs.Batcher.{batcher_row}
-use Rattle.cx_model.specs.Matchmaker.{entry}
-use Rattle.cx_model.specs.Member.{Member}
-use Rattle.cx_model.specs.Promises.{IsConfig}
-use Rattle.cx_model.specs.Proxy.{proxy_row}
-use Rattle.cx_model.specs.Replacer.{replacer_rules, replacer_row}
-use Rattle.cx_model.specs.Replica.{replica_rules, replica_row}
-use Rattle.cx_model.specs.Unbatcher.{unbatcher_row}
-use Rattle.cx_model.specs.World.{World, change, step, run, run_from}
-use Rattle.cx_inv_run.specs.Laws.{Laws, HoldsAlong}
-use Rattle.cx_inv_run.specs.States.{State, Down, BatcherIn, ProxyIn, ReplicaIn, ReplacerIn, plain, fresh_state, snap_by, durable_of}
-use Rattle.cx_inv_run.specs.States.{HoldsIn}
-use Rattle.cx_inv_run.proofs.KindLaws.{kinds_hold}
-use Rattle.cx_inv_run.proofs.Members.{Member-first, Member-reverse, Member-turned}
-use Rattle.cx_inv_run.proofs.Senders.{acceptor_kinds, batcher_kinds, unbatcher_kinds, proxy_kinds, replica_kinds}
-use Rattle.cx_inv_run.proofs.LeaderSenders.{replacer_kinds}
-use Rattle.cx_inv_run.proofs.Steps.{run_from_keeps, always, run_append, run_cluster, all_allowed}
-use Rattle.cx_inv_match.specs.Facts.{Facts}
-use Rattle.cx_inv_match.specs.Words.{HasLog, HasRound, HasGarbage, SetFacts}
+use Rattle.cx_model.specs.World.{step}
 use Rattle.cx_inv_vote.proofs.Steps.{facts_hold}
 use Rattle.cx_inv_read.proofs.Fresh.{reads_always}
 use Rattle.cx_inv_read.specs.Reads.{Has}

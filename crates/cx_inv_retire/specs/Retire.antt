@@ -1,30 +1,12 @@
 -- What is reported and sent once the rounds below some round are retired.
 use Rattle.std.specs.Prelude.{◌≡◌, ◌⊎◌, ℕ, ◌<◌, Bool, true, false, List, []}
-use Rattle.cx_base.specs.declared.cluster.Cluster.{Cluster}
+use Rattle.cx_model.specs.Prelude.{Cluster, RoleId, Round, Why, Shape, role, is_before, no_round, Asking, Entry, Token, Letter, KeptRecord}
+use Rattle.cx_model.specs.Prelude.{Msg, is_collecting, is_idle, first_set, Member, IsConfig, State, LeaderIn}
+use Rattle.cx_inv_match.specs.Prelude.{Kinds, AreOnce, Facts, how_many, HasGarbage, HasBoot, HasStopped, IsKnown, SetFacts}
 use Rattle.cx_base.specs.declared.role.Kind.TheVariants as kind
-use Rattle.cx_base.specs.declared.role.RoleId.{RoleId}
-use Rattle.cx_base.specs.declared.round.Round.{Round}
-use Rattle.cx_base.specs.declared.why.Why.{Why}
 use Rattle.cx_base.specs.declared.why.Why.TheVariants as why
-use Rattle.cx_base.specs.Grid.{Shape}
-use Rattle.cx_base.specs.Role.{role}
-use Rattle.cx_base.specs.Round.{is_before, no_round}
-use Rattle.cx_field.specs.declared.parts.Asking.{Asking}
-use Rattle.cx_field.specs.declared.parts.Entry.{Entry}
-use Rattle.cx_field.specs.declared.parts.Token.{Token}
-use Rattle.cx_letter.specs.Letter.{Letter}
-use Rattle.cx_letter.specs.declared.input.KeptRecord.{KeptRecord}
-use Rattle.cx_letter.specs.declared.message.Msg.{Msg}
 use Rattle.cx_letter.specs.declared.message.Msg.TheVariants as msg
-use Rattle.cx_model.specs.Collection.{is_collecting}
-use Rattle.cx_model.specs.Leader.{is_idle}
-use Rattle.cx_model.specs.Matched.{first_set}
-use Rattle.cx_model.specs.Member.{Member}
-use Rattle.cx_model.specs.Promises.{IsConfig, IsMemberFrom}
-use Rattle.cx_inv_run.specs.Kinds.{Kinds}
-use Rattle.cx_inv_run.specs.States.{State, LeaderIn}
-use Rattle.cx_inv_match.specs.Facts.{AreOnce, Facts}
-use Rattle.cx_inv_match.specs.Words.{how_many, HasGarbage, HasBoot, HasStopped, IsKnown, SetFacts}
+use Rattle.cx_model.specs.Promises.{IsMemberFrom}
 use Rattle.cx_inv_read.specs.Reads.{Has, InReader}
 
 -- no leader kept this round

@@ -1,28 +1,13 @@
 -- In every run each datagram and each change of a store is of its role's kind.
-use Rattle.std.proofs.Common.{◌≡◌, ℕ, List, [], ◌∷◌, ◌++◌, Option, None, Some, sym, subst, refl, inl, inr}
-use Rattle.cx_base.specs.declared.cluster.Cluster.{Cluster}
-use Rattle.cx_base.specs.declared.event.Event.{Event}
+use Rattle.std.proofs.Common.{sym, subst, inl, inr}
+use Rattle.cx_model.specs.Prelude.{◌≡◌, ℕ, List, [], ◌∷◌, ◌++◌, Option, None, Some, refl, Cluster, Event, RoleId, role, Letter, KeptRecord}
+use Rattle.cx_model.specs.Prelude.{Record, acceptor_rules, leader_rules, matchmaker_rules, Member, Outcome, reader_rules, replacer_rules}
+use Rattle.cx_model.specs.Prelude.{replica_rules, request, run, State, BatcherIn, LeaderIn, ProxyIn, ReplicaIn, ReaderIn, ReplacerIn, plain}
 use Rattle.cx_base.specs.declared.event.Event.TheVariants as event
 use Rattle.cx_base.specs.declared.role.Kind.TheVariants as kind
-use Rattle.cx_base.specs.declared.role.RoleId.{RoleId}
-use Rattle.cx_base.specs.Role.{role}
-use Rattle.cx_letter.specs.Letter.{Letter}
-use Rattle.cx_letter.specs.declared.input.KeptRecord.{KeptRecord}
-use Rattle.cx_letter.specs.declared.kept.Record.{Record}
-use Rattle.cx_model.specs.Acceptor.{acceptor_rules}
-use Rattle.cx_model.specs.Leader.{leader_rules}
-use Rattle.cx_model.specs.Matchmaker.{matchmaker_rules}
-use Rattle.cx_model.specs.Member.{Member}
-use Rattle.cx_model.specs.Outcome.{Outcome}
-use Rattle.cx_model.specs.Reader.{reader_rules}
-use Rattle.cx_model.specs.Replacer.{replacer_rules}
-use Rattle.cx_model.specs.Replica.{replica_rules}
-use Rattle.cx_model.specs.Request.{request}
-use Rattle.cx_model.specs.World.{run}
 use Rattle.cx_inv_run.specs.Kinds.{IsSender, IsWriter, IsKept, OfKind, Kinds, KindsLaw}
 use Rattle.cx_inv_run.specs.Laws.{Lands, Laws, anything}
-use Rattle.cx_inv_run.specs.States.{State, snap_by, BatcherIn, LeaderIn, ProxyIn, ReplicaIn, ReaderIn, ReplacerIn, plain, with_record}
-use Rattle.cx_inv_run.specs.States.{durable_of, HoldsIn}
+use Rattle.cx_inv_run.specs.States.{snap_by, with_record, durable_of, HoldsIn}
 use Rattle.cx_inv_run.proofs.Members.{Member-both, Member-one, Member-reverse}
 use Rattle.cx_inv_run.proofs.Senders.{acceptor_kinds, matchmaker_kinds, batcher_kinds, unbatcher_kinds, proxy_kinds, replica_kinds}
 use Rattle.cx_inv_run.proofs.Senders.{reader_kinds}

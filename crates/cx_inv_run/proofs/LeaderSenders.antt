@@ -1,45 +1,28 @@
 -- Which kinds of datagrams and records a leader and a replacer send and keep.
-use Rattle.std.proofs.Common.{◌≡◌, ℕ, List, [], ◌∷◌, ◌++◌, map, Option, None, Some, refl}
-use Rattle.std.specs.Prelude.{◌+◌, ◌-◌, not, ◌&&◌, ◌||◌, nat_lt, nat_le, length, bytes_eq, slice_index_or}
-use Rattle.cx_base.specs.Sets.{is_above}
-use Rattle.cx_base.specs.declared.cluster.Cluster.{Cluster}
-use Rattle.cx_base.specs.declared.command.Command.{Command}
-use Rattle.cx_base.specs.declared.command.Placed.{Placed}
+use Rattle.cx_model.specs.Prelude.{◌≡◌, ℕ, List, [], ◌∷◌, ◌++◌, map, Option, None, Some, refl, ◌+◌, ◌-◌, not, ◌&&◌, ◌||◌, nat_lt, nat_le}
+use Rattle.cx_model.specs.Prelude.{length, bytes_eq, slice_index_or, is_above, Cluster, Command, Placed, Lead, Collect, Replace, RoleId}
+use Rattle.cx_model.specs.Prelude.{Round, Shape, is_in, below, same_role, role, same_round, lead_after, change_after, Entry, with_mark}
+use Rattle.cx_model.specs.Prelude.{letter, Input, Take, Tick, Order, Msg, Collection, with_informed, is_off, is_informing, is_collecting}
+use Rattle.cx_model.specs.Prelude.{LeaderDurable, LeaderVolatile, is_idle, is_matching, is_promising, is_leading, is_own, round_of}
+use Rattle.cx_model.specs.Prelude.{match_a_to, phase1a_to, leads_to, propose_to, inform_to, garbage_a_to, begin_in, lead_with, is_changed}
+use Rattle.cx_model.specs.Prelude.{matched_by, match_counted, promise_counted, is_past_window, propose_in, is_settled, collect_in}
+use Rattle.cx_model.specs.Prelude.{informed_in, set_learnt, leader_takes, open_values, stage_sends, tick_in, order_row, leader_row}
+use Rattle.cx_model.specs.Prelude.{has_no_room, first_set, is_counted, live_entries, is_member_of, members_of, members_in, rows_whole}
+use Rattle.cx_model.specs.Prelude.{enough, names, names_grid, names_set, promised_by, has_promised, plan, placed_from, ReplacerDurable}
+use Rattle.cx_model.specs.Prelude.{ReplacerVolatile, is_resting, is_stopping, is_deciding, is_booting, has_halted, joined_entries}
+use Rattle.cx_model.specs.Prelude.{to_decide, stop_a_to, next_a_to, boot_a_to, sets_to, others, sets_to_all, halt_counted, replacer_takes}
+use Rattle.cx_model.specs.Prelude.{replacer_orders, replacer_row}
 use Rattle.cx_base.specs.declared.event.Order.{Order as OrderOf}
-use Rattle.cx_base.specs.declared.event.Order.TheVariants.{Lead, Change, Collect, Replace}
+use Rattle.cx_base.specs.declared.event.Order.TheVariants.{Change}
 use Rattle.cx_base.specs.declared.role.Kind.TheVariants as kind
-use Rattle.cx_base.specs.declared.role.RoleId.{RoleId}
-use Rattle.cx_base.specs.declared.round.Round.{Round}
-use Rattle.cx_base.specs.Grid.{Shape, is_in}
-use Rattle.cx_base.specs.Lists.{below}
-use Rattle.cx_base.specs.Role.{same_role, role}
-use Rattle.cx_base.specs.Round.{same_round, lead_after, change_after}
-use Rattle.cx_field.specs.declared.parts.Entry.{Entry}
-use Rattle.cx_grid.specs.Quorum.{with_mark}
-use Rattle.cx_letter.specs.Letter.{letter}
-use Rattle.cx_letter.specs.declared.input.Input.{Input}
-use Rattle.cx_letter.specs.declared.input.Input.TheVariants.{Take, Tick, Order}
-use Rattle.cx_letter.specs.declared.message.Msg.{Msg}
 use Rattle.cx_letter.specs.declared.message.Msg.TheVariants as msg
 use Rattle.cx_model.specs.declared.states.Mode.{Mode}
 use Rattle.cx_model.specs.declared.states.Mode.TheVariants.{Idle, Matching, Phase1, Leading}
 use Rattle.cx_model.specs.declared.states.Plan.{Plan}
 use Rattle.cx_model.specs.declared.states.Replacing.{Replacing}
 use Rattle.cx_model.specs.declared.states.Replacing.TheVariants as replacing
-use Rattle.cx_model.specs.Collection.{Collection, with_informed, is_off, is_informing, is_collecting}
-use Rattle.cx_model.specs.Leader.{LeaderDurable, LeaderVolatile, is_idle, is_matching, is_promising, is_leading, is_own, round_of}
-use Rattle.cx_model.specs.Leader.{match_a_to, phase1a_to, leads_to, propose_to, inform_to, garbage_a_to, begin_in, lead_with, is_changed}
-use Rattle.cx_model.specs.Leader.{matched_by, match_counted, promise_counted, is_past_window, propose_in, is_settled, collect_in}
-use Rattle.cx_model.specs.Leader.{informed_in, set_learnt, leader_takes, open_values, stage_sends, tick_in, order_row, leader_row}
-use Rattle.cx_model.specs.Leader.{has_no_room}
-use Rattle.cx_model.specs.Matched.{first_set, is_counted, live_entries, is_member_of, members_of, members_in, rows_whole, enough}
-use Rattle.cx_model.specs.Names.{names, names_grid, names_set}
 use Rattle.cx_model.specs.Outcome.{either_way}
-use Rattle.cx_model.specs.Plan.{promised_by, has_promised, plan, placed_from}
-use Rattle.cx_model.specs.Replacer.{ReplacerDurable, ReplacerVolatile, is_resting, is_stopping, is_deciding, is_booting, has_halted}
-use Rattle.cx_model.specs.Replacer.{joined_entries, to_decide, stop_a_to, next_a_to, boot_a_to, sets_to, others, sets_to_all}
-use Rattle.cx_model.specs.Replacer.{begin_in as ballot_begun, halt_counted, replacer_takes, tick_in as replacer_tick, replacer_orders}
-use Rattle.cx_model.specs.Replacer.{replacer_row}
+use Rattle.cx_model.specs.Replacer.{begin_in as ballot_begun, tick_in as replacer_tick}
 use Rattle.cx_inv_run.specs.Kinds.{OfKind}
 use Rattle.cx_inv_run.proofs.Senders.{AreOwn, none, one, both, mapped, quiet, replying, keeping, pick}
 

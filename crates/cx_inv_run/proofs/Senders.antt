@@ -1,52 +1,28 @@
 -- Which kinds of datagrams and records each kind of role sends and keeps: one walk over all rows, and what it gives of every run.
-use Rattle.std.proofs.Common.{◌≡◌, ℕ, Bool, List, [], ◌∷◌, ◌++◌, map, filter, Option, None, Some, sym, subst, refl, inl, inr}
-use Rattle.std.specs.Prelude.{◌+◌, ◌-◌, ◌%◌, not, ◌==◌, ◌&&◌, nat_lt, nat_le, length, bytes_eq, if◌then◌else◌, slice_get}
-use Rattle.std.specs.List.{list_any}
-use Rattle.cx_base.specs.Sets.{is_above}
-use Rattle.cx_base.specs.declared.cluster.Cluster.{Cluster}
-use Rattle.cx_base.specs.declared.command.Answered.{Answered}
-use Rattle.cx_base.specs.declared.command.Value.{Value}
+use Rattle.std.proofs.Common.{sym, subst, inl, inr}
+use Rattle.cx_model.specs.Prelude.{◌≡◌, ℕ, Bool, List, [], ◌∷◌, ◌++◌, map, filter, Option, None, Some, refl, ◌+◌, ◌-◌, ◌%◌, not, ◌==◌, ◌&&◌}
+use Rattle.cx_model.specs.Prelude.{nat_lt, nat_le, length, bytes_eq, if◌then◌else◌, slice_get, list_any, is_above, Cluster, Answered, Value}
+use Rattle.cx_model.specs.Prelude.{RoleId, Round, Why, is_in, below, numbers, ready_values, same_role, role, is_before, same_round, Asking}
+use Rattle.cx_model.specs.Prelude.{Entry, column_whole, with_mark, Letter, letter, Input, Take, Tick, Order, Record, Msg, AcceptorDurable}
+use Rattle.cx_model.specs.Prelude.{is_of_round, vote_at, acceptor_takes, acceptor_row, BatcherVolatile, batcher_takes, batcher_row}
+use Rattle.cx_model.specs.Prelude.{is_counted, greatest_watermark, live_entries, is_member_of, members_of, rows_whole, MatchmakerDurable}
+use Rattle.cx_model.specs.Prelude.{has_round, is_booted, is_stopped, set_of, in_set, at_work, boot_in, matchmaker_takes, matchmaker_row}
+use Rattle.cx_model.specs.Prelude.{Member, names, Outcome, only_word, replied, ProxyVolatile, raised_to, pending_of, pending_at, phase2a_to}
+use Rattle.cx_model.specs.Prelude.{column_for, members_for, chosen_to, chosen_in_to, announcement, ask, propose_over, vote_for, proxy_takes}
+use Rattle.cx_model.specs.Prelude.{again_for, again_at, proxy_tick, proxy_row, Asked, Batch, ReaderDurable, ReaderVolatile, acked_by}
+use Rattle.cx_model.specs.Prelude.{ask_acceptors, ask_matchmakers, ask_replicas, asked_anew, asked_for, asking_of, begin, begin_if, finish}
+use Rattle.cx_model.specs.Prelude.{greatest_mark, has_acked, is_among, is_first, is_matched, is_of_batch, last_turn, match_ack_counted}
+use Rattle.cx_model.specs.Prelude.{match_ack_row, match_read_to, pre_read_ack_row, pre_read_counted, pre_read_to, read_to, reader_row}
+use Rattle.cx_model.specs.Prelude.{reader_takes, reader_tick, request_over, make_token, ReplicaDurable, ReplicaVolatile, Machine, held}
+use Rattle.cx_model.specs.Prelude.{execute_value, machine_from, results_at, results_from, read_answer_to, read_answers, apply, read_row}
+use Rattle.cx_model.specs.Prelude.{fetched_by, fetch_found, held_to, fetch_to, replica_takes, replica_tick, replica_row, same_read}
+use Rattle.cx_model.specs.Prelude.{answer_to, unbatcher_takes, unbatcher_row}
 use Rattle.cx_base.specs.declared.role.Kind.TheVariants as kind
-use Rattle.cx_base.specs.declared.role.RoleId.{RoleId}
-use Rattle.cx_base.specs.declared.round.Round.{Round}
-use Rattle.cx_base.specs.declared.why.Why.{Why}
-use Rattle.cx_base.specs.Grid.{is_in}
-use Rattle.cx_base.specs.Lists.{below, numbers}
-use Rattle.cx_base.specs.Log.{ready_values}
-use Rattle.cx_base.specs.Role.{same_role, role}
-use Rattle.cx_base.specs.Round.{is_before, same_round}
-use Rattle.cx_field.specs.declared.parts.Asking.{Asking}
-use Rattle.cx_field.specs.declared.parts.Entry.{Entry}
-use Rattle.cx_grid.specs.Quorum.{column_whole, with_mark}
-use Rattle.cx_letter.specs.Letter.{Letter, letter}
-use Rattle.cx_letter.specs.declared.input.Input.{Input}
-use Rattle.cx_letter.specs.declared.input.Input.TheVariants.{Take, Tick, Order}
-use Rattle.cx_letter.specs.declared.kept.Record.{Record}
-use Rattle.cx_letter.specs.declared.message.Msg.{Msg}
 use Rattle.cx_letter.specs.declared.message.Msg.TheVariants as msg
 use Rattle.cx_model.specs.declared.states.Deferred.{Deferred}
 use Rattle.cx_model.specs.declared.states.Pending.{Pending}
-use Rattle.cx_model.specs.Acceptor.{AcceptorDurable, is_of_round, vote_at, acceptor_takes, acceptor_row}
-use Rattle.cx_model.specs.Batcher.{BatcherVolatile, batcher_takes, batcher_row}
-use Rattle.cx_model.specs.Matched.{is_counted, greatest_watermark, live_entries, is_member_of, members_of, rows_whole}
-use Rattle.cx_model.specs.Matchmaker.{MatchmakerDurable, has_round, is_booted, is_stopped, set_of, in_set, at_work, boot_in}
-use Rattle.cx_model.specs.Matchmaker.{matchmaker_takes, matchmaker_row}
-use Rattle.cx_model.specs.Member.{Member}
-use Rattle.cx_model.specs.Names.{names}
-use Rattle.cx_model.specs.Outcome.{Outcome, only_word, replied, either_way}
-use Rattle.cx_model.specs.Proxy.{ProxyVolatile, raised_to, pending_of, pending_at, phase2a_to, column_for, members_for, chosen_to}
-use Rattle.cx_model.specs.Proxy.{chosen_in_to, announcement, ask, propose_over, vote_for, proxy_takes, again_for, again_at, proxy_tick}
-use Rattle.cx_model.specs.Proxy.{proxy_row}
-use Rattle.cx_model.specs.Reader.{Asked, Batch, ReaderDurable, ReaderVolatile, acked_by, ask_acceptors, ask_matchmakers, ask_replicas}
-use Rattle.cx_model.specs.Reader.{asked_anew, asked_for, asking_of, begin, begin_if, finish, greatest_mark, has_acked, is_among, is_first}
-use Rattle.cx_model.specs.Reader.{is_matched, is_of_batch, last_turn, match_ack_counted, match_ack_row, match_read_to}
-use Rattle.cx_model.specs.Reader.{matched as batch_matched, pre_read_ack_row, pre_read_counted, pre_read_to, read_to, reader_row}
-use Rattle.cx_model.specs.Reader.{reader_takes, reader_tick, request_over, make_token}
-use Rattle.cx_model.specs.Replica.{ReplicaDurable, ReplicaVolatile, Machine, held, execute_value, machine_from, results_at, results_from}
-use Rattle.cx_model.specs.Replica.{read_answer_to, read_answers, apply, read_row, fetched_by, fetch_found, held_to, fetch_to, replica_takes}
-use Rattle.cx_model.specs.Replica.{replica_tick, replica_row}
-use Rattle.cx_model.specs.Request.{same_read}
-use Rattle.cx_model.specs.Unbatcher.{answer_to, unbatcher_takes, unbatcher_row}
+use Rattle.cx_model.specs.Outcome.{either_way}
+use Rattle.cx_model.specs.Reader.{matched as batch_matched}
 use Rattle.cx_inv_run.specs.Kinds.{IsSender, IsKeeper, OfKind}
 use Rattle.cx_inv_run.proofs.Members.{Member-both, Member-map, Member-one}
 

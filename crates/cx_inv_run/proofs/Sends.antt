@@ -1,28 +1,10 @@
 -- What is true of each message that a kind of role sends is true of all that its rows send; the same of records.
-use Rattle.std.proofs.Common.{◌≡◌, ℕ, List, Option, Some, sym, subst, refl, inl, inr}
-use Rattle.cx_base.specs.declared.command.Answered.{Answered}
-use Rattle.cx_base.specs.declared.command.Command.{Command}
-use Rattle.cx_base.specs.declared.command.Reply.{Reply}
-use Rattle.cx_base.specs.declared.command.Value.{Value}
-use Rattle.cx_base.specs.declared.role.Kind.{Kind}
+use Rattle.std.proofs.Common.{sym, subst, inl, inr}
+use Rattle.cx_model.specs.Prelude.{◌≡◌, ℕ, List, Option, Some, refl, Answered, Command, Reply, Value, Kind, RoleId, Round, Shape, role}
+use Rattle.cx_model.specs.Prelude.{Asking, Entry, NackReason, Token, Vote, Letter, letter, Record, Msg, role_from_parts, Member, Outcome}
 use Rattle.cx_base.specs.declared.role.Kind.TheVariants as kind
-use Rattle.cx_base.specs.declared.role.RoleId.{RoleId}
-use Rattle.cx_base.specs.declared.round.Round.{Round}
-use Rattle.cx_base.specs.Grid.{Shape}
-use Rattle.cx_base.specs.Role.{role}
-use Rattle.cx_field.specs.declared.parts.Asking.{Asking}
-use Rattle.cx_field.specs.declared.parts.Entry.{Entry}
-use Rattle.cx_field.specs.declared.parts.NackReason.{NackReason}
-use Rattle.cx_field.specs.declared.parts.Token.{Token}
-use Rattle.cx_field.specs.declared.parts.Vote.{Vote}
-use Rattle.cx_letter.specs.Letter.{Letter, letter}
-use Rattle.cx_letter.specs.declared.kept.Record.{Record}
 use Rattle.cx_letter.specs.declared.kept.Record.TheVariants as kept
-use Rattle.cx_letter.specs.declared.message.Msg.{Msg}
 use Rattle.cx_letter.specs.declared.message.Msg.TheVariants as msg
-use Rattle.cx_model.specs.Lists.{role_from_parts}
-use Rattle.cx_model.specs.Member.{Member}
-use Rattle.cx_model.specs.Outcome.{Outcome}
 use Rattle.cx_inv_run.specs.Kinds.{IsSender, IsKeeper, IsKept, OfKind}
 
 -- the messages of each kind of role

@@ -1,29 +1,15 @@
 -- A renewal is no record of anybody: what is said of records, of what those of other kinds than replicas leave, and of the values that
 -- replicas kept stays so.
-use Rattle.std.proofs.Common.{◌≡◌, ◌⊎◌, ℕ, Bool, true, false, List, [], ◌∷◌, ap, sym, ◌∙◌, subst, refl, inl, inr}
-use Rattle.std.specs.Prelude.{◌++◌, if◌then◌else◌}
-use Rattle.std.proofs.lemmas.List.{append-nil}
-use Rattle.cx_base.specs.declared.command.Value.{Value}
+use Rattle.cx_base.proofs.Common.{ap, sym, ◌∙◌, subst, inl, inr, append-nil}
+use Rattle.cx_model.specs.Prelude.{◌≡◌, ◌⊎◌, ℕ, Bool, true, false, List, [], ◌∷◌, refl, ◌++◌, if◌then◌else◌, Value, RoleId, role, same_role}
+use Rattle.cx_model.specs.Prelude.{KeptRecord, Written, Record, acceptor_rules, leader_rules, bool_cases, matchmaker_rules, Member, HasKept}
+use Rattle.cx_model.specs.Prelude.{replacer_rules, Rules, folded, written_after, values_in, by_role, same_role-true}
 use Rattle.cx_base.specs.declared.role.Kind.TheVariants as kind
-use Rattle.cx_base.specs.declared.role.RoleId.{RoleId}
-use Rattle.cx_base.specs.Role.{role, same_role}
-use Rattle.cx_letter.specs.declared.input.KeptRecord.{KeptRecord}
-use Rattle.cx_letter.specs.declared.input.Written.{Written}
 use Rattle.cx_letter.specs.declared.input.Written.TheVariants as written
-use Rattle.cx_letter.specs.declared.kept.Record.{Record}
 use Rattle.cx_letter.specs.declared.kept.Record.TheVariants as kept
-use Rattle.cx_model.specs.Acceptor.{acceptor_rules}
-use Rattle.cx_model.specs.Leader.{leader_rules}
-use Rattle.cx_model.specs.Lists.{bool_cases}
-use Rattle.cx_model.specs.Matchmaker.{matchmaker_rules}
-use Rattle.cx_model.specs.Member.{Member}
-use Rattle.cx_model.specs.Promises.{HasKept}
-use Rattle.cx_model.specs.Replacer.{replacer_rules}
-use Rattle.cx_model.specs.Rules.{Rules, folded, written_after}
-use Rattle.cx_model.specs.World.{values_in}
 use Rattle.cx_inv_run.specs.Kinds.{IsWriter}
 use Rattle.cx_inv_run.specs.States.{snap_by, entry_by, durable_of, log_in}
-use Rattle.cx_inv_run.proofs.Histories.{by_role, same_role-true, durable_snap, durable_else, log_snap, no_snap}
+use Rattle.cx_inv_run.proofs.Histories.{durable_snap, durable_else, log_snap, no_snap}
 
 -- every change is one that its role's kind makes
 abbrev pub AreKeepers : List KeptRecord → Type 0

@@ -1,50 +1,23 @@
 -- Each event keeps a property that has its laws, so it holds of every run.
-use Rattle.std.proofs.Common.{◌≡◌, ℕ, Bool, true, false, ◌⊎◌, List, [], ◌∷◌, ◌++◌, reverse, Option, None, Some, ap, sym, ◌∙◌, subst, refl}
-use Rattle.std.proofs.Common.{inl, inr, append-nil}
-use Rattle.std.specs.Prelude.{slice_get, if◌then◌else◌}
+use Rattle.std.proofs.Common.{ap, sym, ◌∙◌, subst, inl, inr, append-nil}
 use Rattle.std.proofs.lemmas.List.{reverse-append}
-use Rattle.cx_base.specs.declared.cluster.Cluster.{Cluster}
-use Rattle.cx_base.specs.declared.event.Cut.{Cut}
-use Rattle.cx_base.specs.declared.event.Cut.TheVariants.{Whole, Torn, Kept}
-use Rattle.cx_base.specs.declared.event.Event.{Event}
+use Rattle.cx_model.specs.Prelude.{◌≡◌, ℕ, Bool, true, false, ◌⊎◌, List, [], ◌∷◌, ◌++◌, reverse, Option, None, Some, refl, slice_get}
+use Rattle.cx_model.specs.Prelude.{if◌then◌else◌, Cluster, Cut, Whole, Torn, Kept, Event, Replace, Kind, RoleId, role, Letter, Act, Give}
+use Rattle.cx_model.specs.Prelude.{Snap, Stop, Wake, Input, KeptRecord, Written, Record, Token, acceptor_rules, acceptor_row, batcher_rules}
+use Rattle.cx_model.specs.Prelude.{batcher_row, heard_by, leader_rules, leader_row, role_from_parts, matchmaker_rules, matchmaker_row}
+use Rattle.cx_model.specs.Prelude.{names_role, Outcome, proxy_rules, proxy_row, reader_rules, reader_row, replacer_rules, replacer_row}
+use Rattle.cx_model.specs.Prelude.{replica_rules, replica_row, is_stale, request, token_of, Rules, Turn, turn, turn_with, whole_turn}
+use Rattle.cx_model.specs.Prelude.{snap_turn, still, unbatcher_rules, unbatcher_row, World, change, turned, nothing, come, act_at, act_of}
+use Rattle.cx_model.specs.Prelude.{durable_part, kept_by, start, run, run_from, State, Down, Plain, BatcherIn, LeaderIn, ProxyIn, ReplicaIn}
+use Rattle.cx_model.specs.Prelude.{ReaderIn, ReplacerIn, plain, state_of, plain_volatile, batcher_volatile, leader_volatile, proxy_volatile}
+use Rattle.cx_model.specs.Prelude.{replica_volatile, reader_volatile, replacer_volatile, fresh_state, set_state}
 use Rattle.cx_base.specs.declared.event.Event.TheVariants as event
-use Rattle.cx_base.specs.declared.event.Order.TheVariants.{Replace}
-use Rattle.cx_base.specs.declared.role.Kind.{Kind}
 use Rattle.cx_base.specs.declared.role.Kind.TheVariants as kind
-use Rattle.cx_base.specs.declared.role.RoleId.{RoleId}
 use Rattle.cx_base.specs.declared.why.Why.TheVariants as why
-use Rattle.cx_base.specs.Role.{role}
-use Rattle.cx_letter.specs.Letter.{Letter}
-use Rattle.cx_letter.specs.declared.input.Act.{Act}
-use Rattle.cx_letter.specs.declared.input.Act.TheVariants.{Give, Snap, Stop, Wake}
-use Rattle.cx_letter.specs.declared.input.Input.{Input}
 use Rattle.cx_letter.specs.declared.input.Input.TheVariants as input
-use Rattle.cx_letter.specs.declared.input.KeptRecord.{KeptRecord}
-use Rattle.cx_letter.specs.declared.input.Written.{Written}
-use Rattle.cx_letter.specs.declared.kept.Record.{Record}
-use Rattle.cx_field.specs.declared.parts.Token.{Token}
-use Rattle.cx_model.specs.Acceptor.{acceptor_rules, acceptor_row}
-use Rattle.cx_model.specs.Batcher.{batcher_rules, batcher_row}
-use Rattle.cx_model.specs.Heard.{heard_by}
-use Rattle.cx_model.specs.Leader.{leader_rules, leader_row}
-use Rattle.cx_model.specs.Lists.{role_from_parts}
-use Rattle.cx_model.specs.Matchmaker.{matchmaker_rules, matchmaker_row}
-use Rattle.cx_model.specs.Names.{names_role}
-use Rattle.cx_model.specs.Outcome.{Outcome, either_way}
-use Rattle.cx_model.specs.Proxy.{proxy_rules, proxy_row}
-use Rattle.cx_model.specs.Reader.{reader_rules, reader_row}
-use Rattle.cx_model.specs.Replacer.{replacer_rules, replacer_row}
-use Rattle.cx_model.specs.Replica.{replica_rules, replica_row}
-use Rattle.cx_model.specs.Request.{is_stale, request, token_of}
-use Rattle.cx_model.specs.Rules.{Rules}
-use Rattle.cx_model.specs.Turn.{Turn, turn, turn_with, whole_turn, snap_turn, still}
-use Rattle.cx_model.specs.Unbatcher.{unbatcher_rules, unbatcher_row}
-use Rattle.cx_model.specs.World.{World, Change, change, turned, nothing, come, act_at, act_of, durable_part, kept_by, start, step, run}
-use Rattle.cx_model.specs.World.{run_from}
-use Rattle.cx_inv_run.specs.States.{State, Down, Plain, BatcherIn, LeaderIn, ProxyIn, ReplicaIn, ReaderIn, ReplacerIn, plain, state_of}
-use Rattle.cx_inv_run.specs.States.{plain_volatile, batcher_volatile, leader_volatile, proxy_volatile, replica_volatile, reader_volatile}
-use Rattle.cx_inv_run.specs.States.{replacer_volatile, fresh_state, set_state, entry_by, snap_by, with_written, durable_of, Given, Property}
-use Rattle.cx_inv_run.specs.States.{HoldsIn}
+use Rattle.cx_model.specs.Outcome.{either_way}
+use Rattle.cx_model.specs.World.{Change, step}
+use Rattle.cx_inv_run.specs.States.{entry_by, snap_by, with_written, durable_of, Given, Property, HoldsIn}
 use Rattle.cx_inv_run.specs.Laws.{Lands, Laws, anything, heard_of, AllAllowed, HoldsAlong, StepLaw, RunFromLaw, RunLaw}
 use Rattle.cx_inv_run.proofs.Members.{Member-at}
 use Rattle.cx_inv_run.proofs.Histories.{durable_by_time, record_written, set_same, set_twice, state_own}

@@ -1,25 +1,16 @@
 -- In every run each replica's durable part is tied to all values that it kept.
-use Rattle.std.proofs.Common.{◌≡◌, ◌⊎◌, ℕ, true, false, List, [], ◌∷◌, Option, None, Some, refl, sym, subst, ap, inl, inr}
-use Rattle.std.proofs.lemmas.Bool.{cases_Bool}
-use Rattle.cx_base.specs.declared.cluster.Cluster.{Cluster}
-use Rattle.cx_base.specs.declared.command.Value.{Value}
-use Rattle.cx_base.specs.declared.event.Event.{Event}
+use Rattle.cx_base.proofs.Common.{sym, subst, ap, inl, inr, cases_Bool}
+use Rattle.cx_model.specs.Prelude.{◌≡◌, ◌⊎◌, ℕ, true, false, List, [], ◌∷◌, Option, None, Some, refl, Cluster, Value, Event, RoleId, role}
+use Rattle.cx_model.specs.Prelude.{same_role, Letter, KeptRecord, Record, Outcome, IsTied, ReplicaDurable, ReplicaVolatile, replica_rules}
+use Rattle.cx_model.specs.Prelude.{durable_part, log_of, run, State, BatcherIn, LeaderIn, ProxyIn, ReplicaIn, ReaderIn, ReplacerIn, plain}
+use Rattle.cx_model.specs.Prelude.{same_role-true}
 use Rattle.cx_base.specs.declared.role.Kind.TheVariants as kind
-use Rattle.cx_base.specs.declared.role.RoleId.{RoleId}
-use Rattle.cx_base.specs.Role.{role, same_role}
-use Rattle.cx_letter.specs.Letter.{Letter}
-use Rattle.cx_letter.specs.declared.input.KeptRecord.{KeptRecord}
-use Rattle.cx_letter.specs.declared.kept.Record.{Record}
-use Rattle.cx_model.specs.Outcome.{Outcome}
-use Rattle.cx_model.specs.Replica.{IsTied, ReplicaDurable, ReplicaVolatile, replica_rules}
-use Rattle.cx_model.specs.World.{durable_part, log_of, run}
 use Rattle.cx_inv_run.specs.Kinds.{IsKeeper, IsKept, OfKind}
 use Rattle.cx_inv_run.specs.Laws.{Lands, Laws, anything}
-use Rattle.cx_inv_run.specs.States.{State, BatcherIn, LeaderIn, ProxyIn, ReplicaIn, ReaderIn, ReplacerIn, plain, entry_by, snap_by}
-use Rattle.cx_inv_run.specs.States.{with_record, durable_of, log_in, HoldsIn}
+use Rattle.cx_inv_run.specs.States.{entry_by, snap_by, with_record, durable_of, log_in, HoldsIn}
 use Rattle.cx_inv_run.specs.Ties.{Ties}
 use Rattle.cx_inv_run.proofs.Histories.{durable_by_time, durable_else, durable_none, durable_other, durable_own, durable_snap, log_by_time}
-use Rattle.cx_inv_run.proofs.Histories.{log_none, log_other, log_own, log_snap, same_role-true}
+use Rattle.cx_inv_run.proofs.Histories.{log_none, log_other, log_own, log_snap}
 use Rattle.cx_inv_run.proofs.Senders.{replica_kinds}
 use Rattle.cx_inv_run.proofs.Sends.{keeps_only, replica_keeps}
 use Rattle.cx_inv_run.proofs.Steps.{run_keeps, along_anything, all_allowed}

@@ -1,19 +1,12 @@
 -- A durable part stays tied to all values that its replica kept: with more values, and without those below a slot.
-use Rattle.std.proofs.Common.{◌≡◌, ◌≤◌, ◌<◌, ℕ, ◌+◌, ◌-◌, ◌||◌, Bool, true, false, List, [], ◌∷◌, ◌++◌, length, drop, Some, refl, sym, ◌∙◌}
-use Rattle.std.proofs.Common.{ap, subst, arith, length-append, length-drop}
-use Rattle.std.specs.Prelude.{◌==◌, nat_le, min, if◌then◌else◌, None}
-use Rattle.std.proofs.lemmas.Bool.Decides.{nat_tests}
-use Rattle.std.proofs.lemmas.List.{drop-append-le, drop-drop}
-use Rattle.cx_base.specs.declared.cluster.Cluster.{Cluster}
-use Rattle.cx_base.specs.declared.command.Value.{Value}
-use Rattle.cx_base.specs.declared.role.RoleId.{RoleId}
+use Rattle.cx_base.proofs.Common.{sym, ◌∙◌, ap, subst, arith, length-append, length-drop, nat_tests, drop-append-le, drop-drop}
+use Rattle.cx_model.specs.Prelude.{◌≡◌, ◌≤◌, ◌<◌, ℕ, ◌+◌, ◌-◌, ◌||◌, Bool, true, false, List, [], ◌∷◌, ◌++◌, length, drop, Some, refl, ◌==◌}
+use Rattle.cx_model.specs.Prelude.{nat_le, min, if◌then◌else◌, None, Cluster, Value, RoleId, machine_ordered, IsOrdered, renewed_folds}
+use Rattle.cx_model.specs.Prelude.{IsTied, Machine, ReplicaDurable, ReplicaVolatile, execute_value, held, machine_from, machine_of}
+use Rattle.cx_model.specs.Prelude.{new_machine, replica_after, replica_renewed, replica_rules, replica_snap, folded}
 use Rattle.cx_letter.specs.declared.kept.Record.TheVariants as kept
-use Rattle.cx_model.specs.Ordered.{machine_ordered}
-use Rattle.cx_model.specs.Renewed.{IsOrdered, forgets}
-use Rattle.cx_model.specs.RenewedLaws.{renewed_folds}
-use Rattle.cx_model.specs.Replica.{IsTied, Machine, ReplicaDurable, ReplicaVolatile, execute_value, held, machine_from, machine_of}
-use Rattle.cx_model.specs.Replica.{new_machine, replica_after, replica_renewed, replica_rules, replica_snap, snap_limit}
-use Rattle.cx_model.specs.Rules.{folded}
+use Rattle.cx_model.specs.Renewed.{forgets}
+use Rattle.cx_model.specs.Replica.{snap_limit}
 
 -- how many slots are held is how many values were kept
 pub held_is : (d : ReplicaDurable) (values : List Value) → IsTied d values → held d ≡ length values

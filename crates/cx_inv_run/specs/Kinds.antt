@@ -1,22 +1,10 @@
 -- Which kind of role sends each kind of datagram, and makes each kind of change in its store.
 use Rattle.std.specs.Prelude.{◌≡◌, true, false, ◌⊎◌, List, Option, None, Some}
-use Rattle.cx_base.specs.declared.cluster.Cluster.{Cluster}
-use Rattle.cx_base.specs.declared.event.Event.{Event}
-use Rattle.cx_base.specs.declared.role.Kind.{Kind}
+use Rattle.cx_model.specs.Prelude.{Cluster, Event, Kind, RoleId, Letter, KeptRecord, Written, Record, Msg, Member, Outcome, run, State}
 use Rattle.cx_base.specs.declared.role.Kind.TheVariants as kind
-use Rattle.cx_base.specs.declared.role.RoleId.{RoleId}
-use Rattle.cx_letter.specs.Letter.{Letter}
-use Rattle.cx_letter.specs.declared.input.KeptRecord.{KeptRecord}
-use Rattle.cx_letter.specs.declared.input.Written.{Written}
 use Rattle.cx_letter.specs.declared.input.Written.TheVariants as written
-use Rattle.cx_letter.specs.declared.kept.Record.{Record}
 use Rattle.cx_letter.specs.declared.kept.Record.TheVariants as kept
-use Rattle.cx_letter.specs.declared.message.Msg.{Msg}
 use Rattle.cx_letter.specs.declared.message.Msg.TheVariants as msg
-use Rattle.cx_model.specs.Member.{Member}
-use Rattle.cx_model.specs.Outcome.{Outcome}
-use Rattle.cx_model.specs.World.{run}
-use Rattle.cx_inv_run.specs.States.{State}
 
 abbrev pub IsSender : Kind → Msg → Type 0
 IsSender k (msg.Submit command) = k ≡ kind.Client

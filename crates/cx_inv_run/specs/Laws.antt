@@ -1,32 +1,15 @@
 -- What a property of moments needs, so that every step keeps it: one law for each kind of step, one for each kind of role's rows, and one
 -- for a replica that forgets values.
 use Rattle.std.specs.Prelude.{◌≡◌, ◌⊎◌, ℕ, List, [], ◌∷◌, ◌++◌, Option, None, Some}
-use Rattle.cx_base.specs.declared.cluster.Cluster.{Cluster}
-use Rattle.cx_base.specs.declared.event.Event.{Event}
+use Rattle.cx_model.specs.Prelude.{Cluster, Event, RoleId, role, Token, Letter, Input, KeptRecord, Record, acceptor_rules, acceptor_row}
+use Rattle.cx_model.specs.Prelude.{BatcherVolatile, batcher_row, heard_by, LeaderVolatile, leader_rules, leader_row, matchmaker_rules}
+use Rattle.cx_model.specs.Prelude.{matchmaker_row, Outcome, ProxyVolatile, proxy_row, ReaderVolatile, reader_rules, reader_row}
+use Rattle.cx_model.specs.Prelude.{ReplacerVolatile, replacer_rules, replacer_row, ReplicaVolatile, replica_rules, replica_row, request}
+use Rattle.cx_model.specs.Prelude.{token_of, unbatcher_row, World, change, step, run, run_from, State, Down, Plain, BatcherIn, LeaderIn}
+use Rattle.cx_model.specs.Prelude.{ProxyIn, ReplicaIn, ReaderIn, ReplacerIn, plain, fresh_state, set_state}
 use Rattle.cx_base.specs.declared.role.Kind.TheVariants as kind
-use Rattle.cx_base.specs.declared.role.RoleId.{RoleId}
 use Rattle.cx_base.specs.declared.why.Why.TheVariants as why
-use Rattle.cx_base.specs.Role.{role}
-use Rattle.cx_field.specs.declared.parts.Token.{Token}
-use Rattle.cx_letter.specs.Letter.{Letter}
-use Rattle.cx_letter.specs.declared.input.Input.{Input}
-use Rattle.cx_letter.specs.declared.input.KeptRecord.{KeptRecord}
-use Rattle.cx_letter.specs.declared.kept.Record.{Record}
-use Rattle.cx_model.specs.Acceptor.{acceptor_rules, acceptor_row}
-use Rattle.cx_model.specs.Batcher.{BatcherVolatile, batcher_row}
-use Rattle.cx_model.specs.Heard.{heard_by}
-use Rattle.cx_model.specs.Leader.{LeaderVolatile, leader_rules, leader_row}
-use Rattle.cx_model.specs.Matchmaker.{matchmaker_rules, matchmaker_row}
-use Rattle.cx_model.specs.Outcome.{Outcome}
-use Rattle.cx_model.specs.Proxy.{ProxyVolatile, proxy_row}
-use Rattle.cx_model.specs.Reader.{ReaderVolatile, reader_rules, reader_row}
-use Rattle.cx_model.specs.Replacer.{ReplacerVolatile, replacer_rules, replacer_row}
-use Rattle.cx_model.specs.Replica.{ReplicaVolatile, replica_rules, replica_row}
-use Rattle.cx_model.specs.Request.{request, token_of}
-use Rattle.cx_model.specs.Unbatcher.{unbatcher_row}
-use Rattle.cx_model.specs.World.{World, change, step, run, run_from}
-use Rattle.cx_inv_run.specs.States.{State, Down, Plain, BatcherIn, LeaderIn, ProxyIn, ReplicaIn, ReaderIn, ReplacerIn, plain, fresh_state}
-use Rattle.cx_inv_run.specs.States.{set_state, entry_by, snap_by, with_record, durable_of, Given, Property, HoldsIn}
+use Rattle.cx_inv_run.specs.States.{entry_by, snap_by, with_record, durable_of, Given, Property, HoldsIn}
 
 -- The outcome of a row keeps a property: the whole step, and the step that is cut after its record was kept. (A step that is cut before is
 -- a stop.)

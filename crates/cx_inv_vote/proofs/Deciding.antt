@@ -1,44 +1,25 @@
 -- What an event's word `decided` says: a replacer lets a set begin in the place of the one that it knows, and by this word alone. So
 -- whoever is asked to begin in a set, and whoever begins in it, was so after an event that decided this set.
-use Rattle.std.proofs.Common.{◌≡◌, ℕ, not, ◌&&◌, ◌||◌, map, ◌⊎◌, List, [], ◌++◌, length, Option, Some, None, inl, inr, ap, sym, ◌∙◌, refl}
-use Rattle.std.specs.Prelude.{nat_lt, nat_le, bytes_eq, if◌then◌else◌}
-use Rattle.std.specs.List.{list_any}
-use Rattle.std.proofs.lemmas.Option.{same_Some}
-use Rattle.cx_base.specs.declared.cluster.Cluster.{Cluster}
+use Rattle.cx_inv_run.proofs.Common.{◌≡◌, ℕ, not, ◌&&◌, ◌||◌, map, ◌⊎◌, List, [], ◌++◌, length, Option, Some, None, inl, inr, ap, sym, ◌∙◌}
+use Rattle.cx_inv_run.proofs.Common.{refl, nat_lt, nat_le, bytes_eq, if◌then◌else◌, list_any, same_Some, Cluster, Lead, Collect, Replace}
+use Rattle.cx_inv_run.proofs.Common.{RoleId, Round, Why, Shape, is_in, below, role, same_role, is_before, same_round, lead_after, is_above}
+use Rattle.cx_inv_run.proofs.Common.{Entry, with_mark, Letter, Input, Record, Msg, Replacing, Stopping, Deciding, Booting, enough}
+use Rattle.cx_inv_run.proofs.Common.{first_set, MatchmakerDurable, matchmaker_takes, match_a_row, garbage_a_row, match_read_row, stop_a_row}
+use Rattle.cx_inv_run.proofs.Common.{next_a_row, boot_in, in_set, at_work, set_of, is_booted, is_stopped, has_round, Member, names}
+use Rattle.cx_inv_run.proofs.Common.{names_set, Outcome, only_word, replied, by_test, ReplacerDurable, ReplacerVolatile, is_stopping}
+use Rattle.cx_inv_run.proofs.Common.{is_deciding, is_booting, is_resting, has_halted, joined_entries, to_decide, decide, halt_counted}
+use Rattle.cx_inv_run.proofs.Common.{replacer_takes, replacer_orders, replacer_row, Member-both}
 use Rattle.cx_base.specs.declared.event.Order.{Order as OrderOf}
-use Rattle.cx_base.specs.declared.event.Order.TheVariants.{Lead, Change as ChangeGrid, Collect, Replace}
+use Rattle.cx_base.specs.declared.event.Order.TheVariants.{Change as ChangeGrid}
 use Rattle.cx_base.specs.declared.role.Kind.TheVariants as kind
-use Rattle.cx_base.specs.declared.role.RoleId.{RoleId}
-use Rattle.cx_base.specs.declared.round.Round.{Round}
-use Rattle.cx_base.specs.declared.why.Why.{Why}
 use Rattle.cx_base.specs.declared.why.Why.TheVariants as why
-use Rattle.cx_base.specs.Grid.{Shape, is_in}
-use Rattle.cx_base.specs.Lists.{below}
-use Rattle.cx_base.specs.Role.{role, same_role}
-use Rattle.cx_base.specs.Round.{is_before, same_round, lead_after}
-use Rattle.cx_base.specs.Sets.{is_above}
-use Rattle.cx_field.specs.declared.parts.Entry.{Entry}
-use Rattle.cx_grid.specs.Quorum.{with_mark}
-use Rattle.cx_letter.specs.Letter.{Letter}
-use Rattle.cx_letter.specs.declared.input.Input.{Input}
 use Rattle.cx_letter.specs.declared.input.Input.TheVariants as input
-use Rattle.cx_letter.specs.declared.kept.Record.{Record}
 use Rattle.cx_letter.specs.declared.kept.Record.TheVariants as kept
-use Rattle.cx_letter.specs.declared.message.Msg.{Msg}
 use Rattle.cx_letter.specs.declared.message.Msg.TheVariants as msg
-use Rattle.cx_model.specs.declared.states.Replacing.{Replacing}
-use Rattle.cx_model.specs.declared.states.Replacing.TheVariants.{Idle, Stopping, Deciding, Booting}
-use Rattle.cx_model.specs.Matched.{enough, first_set}
-use Rattle.cx_model.specs.Matchmaker.{MatchmakerDurable, matchmaker_takes, match_a_row, garbage_a_row, match_read_row, stop_a_row}
-use Rattle.cx_model.specs.Matchmaker.{next_a_row, boot_in, boot_a_row, in_set, at_work, set_of, is_booted, is_stopped, has_round}
-use Rattle.cx_model.specs.Member.{Member}
-use Rattle.cx_model.specs.Names.{names, names_set}
-use Rattle.cx_model.specs.Outcome.{Outcome, only_word, replied, by_test}
-use Rattle.cx_model.specs.Replacer.{ReplacerDurable, ReplacerVolatile, is_stopping, is_deciding, is_booting, is_resting, has_halted}
-use Rattle.cx_model.specs.Replacer.{joined_entries, to_decide, stop_a_to, next_a_to, boot_a_to, sets_to, others, sets_to_all, begin_in}
-use Rattle.cx_model.specs.Replacer.{decide, halt_counted, stop_b_row, next_b_row, boot_b_row, with_seen, stop_nack_row, sets_row}
-use Rattle.cx_model.specs.Replacer.{replacer_takes, tick_in, replacer_orders, replacer_row}
-use Rattle.cx_inv_run.proofs.Members.{Member-both}
+use Rattle.cx_model.specs.declared.states.Replacing.TheVariants.{Idle}
+use Rattle.cx_model.specs.Matchmaker.{boot_a_row}
+use Rattle.cx_model.specs.Replacer.{stop_a_to, next_a_to, boot_a_to, sets_to, others, sets_to_all, begin_in, stop_b_row, next_b_row}
+use Rattle.cx_model.specs.Replacer.{boot_b_row, with_seen, stop_nack_row, sets_row, tick_in}
 use Rattle.cx_inv_vote.proofs.Leading.{each}
 
 -- nobody is asked to begin by these

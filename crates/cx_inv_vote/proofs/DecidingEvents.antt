@@ -1,62 +1,26 @@
 -- What an event does, by what its role's row says of sets.
-use Rattle.std.proofs.Common.{◌≡◌, ℕ, ◌&&◌, ◌⊎◌, List, [], Option, Some, None, inl, inr, ap, sym, subst, ◌∙◌, refl, ⊎_elim}
-use Rattle.std.specs.Prelude.{slice_get}
-use Rattle.std.specs.Option.{option_map}
-use Rattle.std.proofs.lemmas.Option.{same_Some}
-use Rattle.cx_base.specs.declared.event.Cut.{Cut}
-use Rattle.cx_base.specs.declared.event.Cut.TheVariants.{Whole, Torn, Kept}
-use Rattle.cx_base.specs.declared.event.Event.{Event}
+use Rattle.cx_inv_run.proofs.Common.{◌≡◌, ℕ, ◌&&◌, ◌⊎◌, List, [], Option, Some, None, inl, inr, ap, sym, subst, ◌∙◌, refl, ⊎_elim}
+use Rattle.cx_inv_run.proofs.Common.{slice_get, option_map, same_Some, Cut, Whole, Torn, Kept, Event, Replace, Kind, RoleId, Round, Why}
+use Rattle.cx_inv_run.proofs.Common.{role, same_role, Entry, Token, Letter, Act, Give, Snap, Stop, Wake, Input, KeptRecord, Written, Record}
+use Rattle.cx_inv_run.proofs.Common.{Booting, acceptor_rules, batcher_rules, heard_by, leader_rules, bool_cases, differ_role}
+use Rattle.cx_inv_run.proofs.Common.{same_role-true, MatchmakerDurable, matchmaker_rules, matchmaker_row, Member, names, names_role}
+use Rattle.cx_inv_run.proofs.Common.{Outcome, by_test, either_way, HasKept, proxy_rules, reader_rules, ReplacerDurable, ReplacerVolatile}
+use Rattle.cx_inv_run.proofs.Common.{replacer_rules, replacer_row, replica_rules, is_stale, request, Rules, Turn, turn, turn_with}
+use Rattle.cx_inv_run.proofs.Common.{whole_turn, snap_turn, unbatcher_rules, World, change, changed, nothing, come, ask, act_at, act_of}
+use Rattle.cx_inv_run.proofs.Common.{durable_part, kept_by, IsSender, IsKept, OfKind, State, BatcherIn, LeaderIn, ProxyIn, ReplicaIn}
+use Rattle.cx_inv_run.proofs.Common.{ReaderIn, ReplacerIn, plain, replacer_volatile, state_of, Given, state_own, state_other, Member-at}
+use Rattle.cx_inv_run.proofs.Common.{Member-one, acceptor_kinds, matchmaker_kinds, batcher_kinds, unbatcher_kinds, proxy_kinds}
+use Rattle.cx_inv_run.proofs.Common.{replica_kinds, reader_kinds, leader_kinds, replacer_kinds}
 use Rattle.cx_base.specs.declared.event.Event.TheVariants as event
-use Rattle.cx_base.specs.declared.event.Order.TheVariants.{Replace}
-use Rattle.cx_base.specs.declared.role.Kind.{Kind}
 use Rattle.cx_base.specs.declared.role.Kind.TheVariants as kind
-use Rattle.cx_base.specs.declared.role.RoleId.{RoleId}
-use Rattle.cx_base.specs.declared.round.Round.{Round}
-use Rattle.cx_base.specs.declared.why.Why.{Why}
 use Rattle.cx_base.specs.declared.why.Why.TheVariants as why
-use Rattle.cx_base.specs.Role.{role, same_role}
-use Rattle.cx_field.specs.declared.parts.Entry.{Entry}
-use Rattle.cx_field.specs.declared.parts.Token.{Token}
-use Rattle.cx_letter.specs.Letter.{Letter}
-use Rattle.cx_letter.specs.declared.input.Act.{Act}
-use Rattle.cx_letter.specs.declared.input.Act.TheVariants.{Give, Snap, Stop, Wake}
-use Rattle.cx_letter.specs.declared.input.Input.{Input}
 use Rattle.cx_letter.specs.declared.input.Input.TheVariants as input
-use Rattle.cx_letter.specs.declared.input.KeptRecord.{KeptRecord}
-use Rattle.cx_letter.specs.declared.input.Written.{Written}
 use Rattle.cx_letter.specs.declared.input.Written.TheVariants as written
-use Rattle.cx_letter.specs.declared.kept.Record.{Record}
 use Rattle.cx_letter.specs.declared.kept.Record.TheVariants as kept
 use Rattle.cx_letter.specs.declared.message.Msg.TheVariants as msg
-use Rattle.cx_model.specs.declared.states.Replacing.TheVariants.{Idle, Booting}
-use Rattle.cx_model.specs.Acceptor.{acceptor_rules}
-use Rattle.cx_model.specs.Batcher.{batcher_rules}
-use Rattle.cx_model.specs.Heard.{heard_by}
-use Rattle.cx_model.specs.Leader.{leader_rules}
-use Rattle.cx_model.specs.Lists.{bool_cases, differ_role, same_role-true}
-use Rattle.cx_model.specs.Matchmaker.{MatchmakerDurable, matchmaker_rules, matchmaker_row}
-use Rattle.cx_model.specs.Member.{Member}
-use Rattle.cx_model.specs.Names.{names, names_role}
-use Rattle.cx_model.specs.Outcome.{Outcome, by_test, either_way}
-use Rattle.cx_model.specs.Promises.{HasKept}
-use Rattle.cx_model.specs.Proxy.{proxy_rules}
-use Rattle.cx_model.specs.Reader.{reader_rules}
-use Rattle.cx_model.specs.Replacer.{ReplacerDurable, ReplacerVolatile, replacer_rules, replacer_row}
-use Rattle.cx_model.specs.Replica.{replica_rules}
-use Rattle.cx_model.specs.Request.{is_stale, request}
-use Rattle.cx_model.specs.Rules.{Rules}
-use Rattle.cx_model.specs.Turn.{Turn, turn, turn_with, whole_turn, snap_turn}
+use Rattle.cx_model.specs.declared.states.Replacing.TheVariants.{Idle}
 use Rattle.cx_model.specs.Turn.{still as still_turn}
-use Rattle.cx_model.specs.Unbatcher.{unbatcher_rules}
-use Rattle.cx_model.specs.World.{World, Change, change, changed, nothing, come, ask, act_at, act_of, durable_part, kept_by}
-use Rattle.cx_inv_run.specs.Kinds.{IsSender, IsKept, OfKind}
-use Rattle.cx_inv_run.specs.States.{State, BatcherIn, LeaderIn, ProxyIn, ReplicaIn, ReaderIn, ReplacerIn, plain, replacer_volatile}
-use Rattle.cx_inv_run.specs.States.{state_of, Given}
-use Rattle.cx_inv_run.proofs.Histories.{state_own, state_other}
-use Rattle.cx_inv_run.proofs.Members.{Member-at, Member-one}
-use Rattle.cx_inv_run.proofs.Senders.{acceptor_kinds, matchmaker_kinds, batcher_kinds, unbatcher_kinds, proxy_kinds, replica_kinds}
-use Rattle.cx_inv_run.proofs.Senders.{reader_kinds}
-use Rattle.cx_inv_run.proofs.LeaderSenders.{leader_kinds, replacer_kinds}
+use Rattle.cx_model.specs.World.{Change}
 use Rattle.cx_inv_run.proofs.Steps.{only_replacer}
 use Rattle.cx_inv_vote.proofs.Rows.{is_role}
 use Rattle.cx_inv_vote.proofs.Deciding.{NoBoot, Begins, row_says, boot_asked}

@@ -1,19 +1,9 @@
 -- Roles that keep nothing but a reader's turns, and whose datagrams say nothing of what was kept: of their rows only the new state matters.
-use Rattle.std.proofs.Common.{◌≡◌, ℕ, List, ◌∷◌, inl, inr, sym, ◌∙◌, subst}
-use Rattle.cx_base.specs.declared.cluster.Cluster.{Cluster}
-use Rattle.cx_base.specs.declared.role.Kind.{Kind}
+use Rattle.cx_inv_run.proofs.Common.{◌≡◌, ℕ, List, ◌∷◌, inl, inr, sym, ◌∙◌, subst, Cluster, Kind, RoleId, Letter, KeptRecord, Record, Msg}
+use Rattle.cx_inv_run.proofs.Common.{Outcome, IsSender, IsKeeper, IsKept, OfKind, Lands, State, Down, entry_by, set_state, with_record}
 use Rattle.cx_base.specs.declared.role.Kind.TheVariants as kind
-use Rattle.cx_base.specs.declared.role.RoleId.{RoleId}
-use Rattle.cx_letter.specs.Letter.{Letter}
-use Rattle.cx_letter.specs.declared.input.KeptRecord.{KeptRecord}
-use Rattle.cx_letter.specs.declared.kept.Record.{Record}
 use Rattle.cx_letter.specs.declared.kept.Record.TheVariants as kept
-use Rattle.cx_letter.specs.declared.message.Msg.{Msg}
 use Rattle.cx_letter.specs.declared.message.Msg.TheVariants as msg
-use Rattle.cx_model.specs.Outcome.{Outcome}
-use Rattle.cx_inv_run.specs.Kinds.{IsSender, IsKeeper, IsKept, OfKind}
-use Rattle.cx_inv_run.specs.Laws.{Lands}
-use Rattle.cx_inv_run.specs.States.{State, Down, entry_by, set_state, with_record}
 use Rattle.cx_inv_match.specs.Facts.{Says, InState, Facts}
 use Rattle.cx_inv_match.proofs.OtherRecords.{keep_turn}
 use Rattle.cx_inv_vote.proofs.Rows.{lands, quiet_kind}

@@ -1,28 +1,15 @@
 -- In place of each set of matchmakers at most one next one is decided, over the whole run, and a set begins only after that.
-use Rattle.std.proofs.Common.{◌≡◌, ◌⊎◌, ℕ, suc, List, [], ◌∷◌, ◌++◌, reverse, inl, inr, ap, sym, subst, ◌∙◌, refl, append-nil, append_assoc}
-use Rattle.cx_base.specs.declared.cluster.Cluster.{Cluster}
-use Rattle.cx_base.specs.declared.event.Event.{Event}
+use Rattle.cx_inv_run.proofs.Common.{◌≡◌, ◌⊎◌, ℕ, suc, List, [], ◌∷◌, ◌++◌, reverse, inl, inr, ap, sym, subst, ◌∙◌, refl, append-nil}
+use Rattle.cx_inv_run.proofs.Common.{append_assoc, Cluster, Event, RoleId, Round, role, Entry, Letter, KeptRecord, Booting, Member}
+use Rattle.cx_inv_run.proofs.Common.{names_role, either_way, HasKept, OfEveryRun, ReplacerVolatile, replacer_rules, World, change, run_from}
+use Rattle.cx_inv_run.proofs.Common.{run, State, Down, ReplacerIn, durable_of, Member-cases, Member-first, Member-reverse, Member-turned}
+use Rattle.cx_inv_run.proofs.Common.{run_append}
+use Rattle.cx_inv_match.specs.Prelude.{IsKnown, IsDecided, InState, InWork}
 use Rattle.cx_base.specs.declared.role.Kind.TheVariants as kind
-use Rattle.cx_base.specs.declared.role.RoleId.{RoleId}
-use Rattle.cx_base.specs.declared.round.Round.{Round}
-use Rattle.cx_base.specs.Role.{role}
-use Rattle.cx_field.specs.declared.parts.Entry.{Entry}
-use Rattle.cx_letter.specs.Letter.{Letter}
-use Rattle.cx_letter.specs.declared.input.KeptRecord.{KeptRecord}
 use Rattle.cx_letter.specs.declared.kept.Record.TheVariants as kept
 use Rattle.cx_letter.specs.declared.message.Msg.TheVariants as msg
-use Rattle.cx_model.specs.declared.states.Replacing.TheVariants.{Booting}
-use Rattle.cx_model.specs.Member.{Member}
-use Rattle.cx_model.specs.Names.{names_role}
-use Rattle.cx_model.specs.Outcome.{either_way}
-use Rattle.cx_model.specs.Promises.{HasKept, OfEveryRun, Decides, OneNextSet, SetsAreDecided}
-use Rattle.cx_model.specs.Replacer.{ReplacerVolatile, replacer_rules}
-use Rattle.cx_model.specs.World.{World, change, step, run_from, run}
-use Rattle.cx_inv_run.specs.States.{State, Down, ReplacerIn, durable_of}
-use Rattle.cx_inv_run.proofs.Members.{Member-cases, Member-first, Member-reverse, Member-turned}
-use Rattle.cx_inv_run.proofs.Steps.{run_append}
-use Rattle.cx_inv_match.specs.Words.{IsKnown, IsDecided}
-use Rattle.cx_inv_match.specs.Facts.{InState, InWork}
+use Rattle.cx_model.specs.Promises.{Decides, OneNextSet, SetsAreDecided}
+use Rattle.cx_model.specs.World.{step}
 use Rattle.cx_inv_match.proofs.Chains.{decided_once, nth_once}
 use Rattle.cx_inv_match.proofs.Grow.{more_nth}
 use Rattle.cx_inv_vote.specs.Laws.{Boots, OneBegins}

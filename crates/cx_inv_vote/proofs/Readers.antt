@@ -1,48 +1,20 @@
 -- Each row of a reader keeps the facts.
-use Rattle.std.proofs.Common.{◌≡◌, ℕ, ◌==◌, true, false, not, ◌&&◌, ◌⊎◌, List, [], ◌∷◌, ◌++◌, length, Option, Some, None, inl, inr, sym}
-use Rattle.std.proofs.Common.{◌∙◌, subst, refl}
-use Rattle.std.specs.Prelude.{◌+◌, nat_le, nat_lt}
-use Rattle.std.proofs.lemmas.Bool.{and_parts, not-false, not-true, true≢false}
-use Rattle.std.proofs.lemmas.Option.{none-some, same_Some}
-use Rattle.cx_base.specs.declared.cluster.Cluster.{Cluster}
+use Rattle.cx_inv_run.proofs.Common.{◌≡◌, ℕ, ◌==◌, true, false, not, ◌&&◌, ◌⊎◌, List, [], ◌∷◌, ◌++◌, length, Option, Some, None, inl, inr}
+use Rattle.cx_inv_run.proofs.Common.{sym, ◌∙◌, subst, refl, ◌+◌, nat_le, nat_lt, and_parts, not-false, not-true, true≢false, none-some}
+use Rattle.cx_inv_run.proofs.Common.{same_Some, Cluster, RoleId, Round, Why, Sent, is_in, role, same_role, same_round, is_above, Asking}
+use Rattle.cx_inv_run.proofs.Common.{Entry, Letter, letter, Input, KeptRecord, Msg, Acked, MatchAnswer, ReaderWasTold, same_number}
+use Rattle.cx_inv_run.proofs.Common.{is_counted, is_member_of, greatest_watermark, live_entries, rows_whole, Member, names, Outcome}
+use Rattle.cx_inv_run.proofs.Common.{by_test, either_way, Asked, ReaderDurable, ReaderVolatile, acked_by, ask_replicas, asked_anew}
+use Rattle.cx_inv_run.proofs.Common.{asked_for, asking_of, begin, begin_if, greatest_mark, has_acked, is_among, is_first, is_matched}
+use Rattle.cx_inv_run.proofs.Common.{is_of_batch, last_turn, match_ack_counted, match_ack_row, matched, pre_read_ack_row, pre_read_counted}
+use Rattle.cx_inv_run.proofs.Common.{reader_row, reader_rules, reader_takes, reader_tick, request_over, request_row, make_token, same_read}
+use Rattle.cx_inv_run.proofs.Common.{Kinds, Lands, State, ReaderIn, Given, durable_of, with_record, kept_longer, Member-both, Member-one}
+use Rattle.cx_inv_run.proofs.Common.{same_round-true, reader_kinds}
 use Rattle.cx_base.specs.declared.role.Kind.TheVariants as kind
-use Rattle.cx_base.specs.declared.role.RoleId.{RoleId}
-use Rattle.cx_base.specs.declared.round.Round.{Round}
-use Rattle.cx_base.specs.declared.why.Why.{Why}
-use Rattle.cx_base.specs.declared.why.Why.TheVariants.{Sent}
-use Rattle.cx_base.specs.Grid.{is_in}
-use Rattle.cx_base.specs.Role.{role, same_role}
-use Rattle.cx_base.specs.Round.{same_round}
-use Rattle.cx_base.specs.Sets.{is_above}
-use Rattle.cx_field.specs.declared.parts.Asking.{Asking}
-use Rattle.cx_field.specs.declared.parts.Entry.{Entry}
-use Rattle.cx_letter.specs.Letter.{Letter, letter}
-use Rattle.cx_letter.specs.declared.input.Input.{Input}
 use Rattle.cx_letter.specs.declared.input.Input.TheVariants as input
-use Rattle.cx_letter.specs.declared.input.KeptRecord.{KeptRecord}
-use Rattle.cx_letter.specs.declared.message.Msg.{Msg}
 use Rattle.cx_letter.specs.declared.message.Msg.TheVariants as msg
-use Rattle.cx_model.specs.declared.states.Acked.{Acked}
-use Rattle.cx_model.specs.declared.states.MatchAnswer.{MatchAnswer}
-use Rattle.cx_model.specs.Facts.{BatchWasTold, ReaderWasTold}
-use Rattle.cx_model.specs.Lists.{same_number}
-use Rattle.cx_model.specs.Matched.{is_counted, is_member_of, greatest_watermark, live_entries, rows_whole}
-use Rattle.cx_model.specs.Member.{Member}
-use Rattle.cx_model.specs.Names.{names}
-use Rattle.cx_model.specs.Outcome.{Outcome, by_test, either_way}
-use Rattle.cx_model.specs.Reader.{Asked, Batch, ReaderDurable, ReaderVolatile, acked_by, ask_replicas, asked_anew, asked_for, asking_of}
-use Rattle.cx_model.specs.Reader.{begin, begin_if, finish, greatest_mark, has_acked, is_among, is_first, is_matched, is_of_batch, last_turn}
-use Rattle.cx_model.specs.Reader.{match_ack_counted, match_ack_row, matched, new_batch, pre_read_ack_row, pre_read_counted, reader_row}
-use Rattle.cx_model.specs.Reader.{reader_rules, reader_takes, reader_tick, request_over, request_row, same_asking, sets_row, make_token}
-use Rattle.cx_model.specs.Reader.{with_asked, with_batch}
-use Rattle.cx_model.specs.Request.{same_read}
-use Rattle.cx_inv_run.specs.Kinds.{Kinds}
-use Rattle.cx_inv_run.specs.Laws.{Lands}
-use Rattle.cx_inv_run.specs.States.{State, ReaderIn, Given, durable_of, with_record}
-use Rattle.cx_inv_run.proofs.Histories.{kept_longer}
-use Rattle.cx_inv_run.proofs.Members.{Member-both, Member-one}
-use Rattle.cx_inv_run.proofs.Rounds.{same_round-true}
-use Rattle.cx_inv_run.proofs.Senders.{reader_kinds}
+use Rattle.cx_model.specs.Facts.{BatchWasTold}
+use Rattle.cx_model.specs.Reader.{Batch, finish, new_batch, same_asking, sets_row, with_asked, with_batch}
 use Rattle.cx_inv_match.specs.Words.{IsKnown as IsKnownSet}
 use Rattle.cx_inv_match.specs.Facts.{InState, AreAsking, Facts}
 use Rattle.cx_inv_match.proofs.Grow.{more_nth}

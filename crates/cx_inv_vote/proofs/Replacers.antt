@@ -1,57 +1,26 @@
 -- Each row of a replacer keeps the facts.
-use Rattle.std.proofs.Common.{◌≡◌, ℕ, suc, ◌+◌, ◌<◌, ◌≤◌, Bool, true, false, not, ◌&&◌, ◌||◌, map, ◌⊎◌, List, [], ◌∷◌, ◌++◌, length, Option}
-use Rattle.std.proofs.Common.{Some, None, inl, inr, ap, sym, subst, ◌∙◌, refl, arith, max, ◌==◌}
-use Rattle.std.specs.Prelude.{nat_lt, bytes_eq, if◌then◌else◌}
-use Rattle.std.proofs.lemmas.Option.{same_Some}
 use Rattle.std.proofs.lemmas.Slice.Eq.{bytes_eq-Decides}
-use Rattle.std.proofs.lemmas.Bool.{true≢false, and_parts, not-false, ltb-false, cond_both}
-use Rattle.cx_base.specs.declared.cluster.Cluster.{Cluster}
-use Rattle.cx_base.specs.declared.command.Value.{Value}
+use Rattle.cx_inv_run.proofs.Common.{◌≡◌, ℕ, suc, ◌+◌, ◌<◌, ◌≤◌, Bool, true, false, not, ◌&&◌, ◌||◌, map, ◌⊎◌, List, [], ◌∷◌, ◌++◌, length}
+use Rattle.cx_inv_run.proofs.Common.{Option, Some, None, inl, inr, ap, sym, subst, ◌∙◌, refl, arith, max, ◌==◌, nat_lt, bytes_eq}
+use Rattle.cx_inv_run.proofs.Common.{if◌then◌else◌, same_Some, true≢false, and_parts, not-false, ltb-false, cond_both, Cluster, Value, Lead}
+use Rattle.cx_inv_run.proofs.Common.{Collect, Replace, Kind, RoleId, Round, Why, is_in, below, role, same_role, is_before, same_round}
+use Rattle.cx_inv_run.proofs.Common.{no_round, lead_after, is_above, Entry, with_mark, Letter, letter, Input, Take, Tick, Order, KeptRecord}
+use Rattle.cx_inv_run.proofs.Common.{Msg, Halt, Replacing, Stopping, Deciding, Booting, IsProposed, IsRetiring, number_itself, enough}
+use Rattle.cx_inv_run.proofs.Common.{greatest_watermark, first_set, Member, names, names_set, Outcome, only_word, replied, by_test, HasKept}
+use Rattle.cx_inv_run.proofs.Common.{ReplacerDurable, ReplacerVolatile, replacer_rules, is_stopping, is_deciding, is_booting, is_resting}
+use Rattle.cx_inv_run.proofs.Common.{has_halted, joined_entries, to_decide, decide, halt_counted, next_counted, replacer_takes}
+use Rattle.cx_inv_run.proofs.Common.{replacer_orders, replacer_row, Kinds, Lands, State, ReplacerIn, entry_by, durable_of, Given}
+use Rattle.cx_inv_run.proofs.Common.{durable_own, Member-map, Member-cases, Member-first, Member-both, Member-any, any-Member, is_in-Member}
+use Rattle.cx_inv_run.proofs.Common.{Member-is_in, once_count, before-from_at_most, before-higher, before-itself, least, same_round-true}
 use Rattle.cx_base.specs.declared.event.Order.{Order as OrderOf}
-use Rattle.cx_base.specs.declared.event.Order.TheVariants.{Lead, Change, Collect, Replace}
-use Rattle.cx_base.specs.declared.role.Kind.{Kind}
+use Rattle.cx_base.specs.declared.event.Order.TheVariants.{Change}
 use Rattle.cx_base.specs.declared.role.Kind.TheVariants as kind
-use Rattle.cx_base.specs.declared.role.RoleId.{RoleId}
-use Rattle.cx_base.specs.declared.round.Round.{Round}
-use Rattle.cx_base.specs.declared.why.Why.{Why}
 use Rattle.cx_base.specs.declared.why.Why.TheVariants as why
-use Rattle.cx_base.specs.Grid.{is_in}
-use Rattle.cx_base.specs.Lists.{below}
-use Rattle.cx_base.specs.Role.{role, same_role}
-use Rattle.cx_base.specs.Round.{is_before, same_round, no_round, lead_after}
-use Rattle.cx_base.specs.Sets.{is_above}
-use Rattle.cx_field.specs.declared.parts.Entry.{Entry}
-use Rattle.cx_grid.specs.Quorum.{with_mark}
-use Rattle.cx_letter.specs.Letter.{Letter, letter}
-use Rattle.cx_letter.specs.declared.input.Input.{Input}
-use Rattle.cx_letter.specs.declared.input.Input.TheVariants.{Take, Tick, Order}
-use Rattle.cx_letter.specs.declared.input.KeptRecord.{KeptRecord}
 use Rattle.cx_letter.specs.declared.kept.Record.TheVariants as kept
-use Rattle.cx_letter.specs.declared.message.Msg.{Msg}
 use Rattle.cx_letter.specs.declared.message.Msg.TheVariants as msg
-use Rattle.cx_model.specs.declared.states.Halt.{Halt}
-use Rattle.cx_model.specs.declared.states.Replacing.{Replacing}
-use Rattle.cx_model.specs.declared.states.Replacing.TheVariants.{Idle, Stopping, Deciding, Booting}
-use Rattle.cx_model.specs.Facts.{IsProposed, IsRetiring}
-use Rattle.cx_model.specs.Lists.{number_itself}
-use Rattle.cx_model.specs.Matched.{enough, greatest_watermark, first_set}
-use Rattle.cx_model.specs.Member.{Member}
-use Rattle.cx_model.specs.Names.{names, names_set}
-use Rattle.cx_model.specs.Outcome.{Outcome, only_word, replied, by_test}
-use Rattle.cx_model.specs.Promises.{HasKept}
-use Rattle.cx_model.specs.Replacer.{ReplacerDurable, ReplacerVolatile, replacer_rules, is_stopping, is_deciding, is_booting, is_resting}
-use Rattle.cx_model.specs.Replacer.{answers_of, has_halted, joined_entries, latest, next_of, to_decide, stop_a_to, next_a_to, boot_a_to}
-use Rattle.cx_model.specs.Replacer.{sets_to, others, sets_to_all, begin_in, replace_row, decide, halt_counted, stop_b_row, next_counted}
-use Rattle.cx_model.specs.Replacer.{next_b_row, boot_b_row, with_seen, stop_nack_row, sets_row, replacer_takes, tick_in, replacer_orders}
-use Rattle.cx_model.specs.Replacer.{replacer_row}
-use Rattle.cx_inv_run.specs.Kinds.{Kinds}
-use Rattle.cx_inv_run.specs.Laws.{Lands}
-use Rattle.cx_inv_run.specs.States.{State, ReplacerIn, entry_by, durable_of, Given}
-use Rattle.cx_inv_run.proofs.Histories.{durable_own}
-use Rattle.cx_inv_run.proofs.Members.{Member-map, Member-cases, Member-first, Member-both, Member-any, any-Member, is_in-Member}
-use Rattle.cx_inv_run.proofs.Members.{Member-is_in}
-use Rattle.cx_inv_run.proofs.Quorums.{once_count}
-use Rattle.cx_inv_run.proofs.Rounds.{before-from_at_most, before-higher, before-itself, least, same_round-true}
+use Rattle.cx_model.specs.declared.states.Replacing.TheVariants.{Idle}
+use Rattle.cx_model.specs.Replacer.{answers_of, latest, next_of, stop_a_to, next_a_to, boot_a_to, sets_to, others, sets_to_all, begin_in}
+use Rattle.cx_model.specs.Replacer.{replace_row, stop_b_row, next_b_row, boot_b_row, with_seen, stop_nack_row, sets_row, tick_in}
 use Rattle.cx_inv_match.specs.Words.{how_many, HasNext, IsKnown, IsNth, IsDecided, IsNextSet, IsBoot, IsHalt}
 use Rattle.cx_inv_match.specs.Facts.{Facts, Says, InState, InWork, IsStopping, IsDeciding, IsBooting, AreOnce, halted_by}
 use Rattle.cx_inv_match.proofs.Chains.{nth_meet}

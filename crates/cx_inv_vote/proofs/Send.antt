@@ -1,42 +1,20 @@
 -- The facts after a role has sent datagrams and gone on.
-use Rattle.std.proofs.Common.{◌≡◌, ℕ, true, false, ◌⊎◌, List, ◌++◌, Option, Some, None, inl, inr, sym, subst, ◌∙◌, refl}
-use Rattle.cx_base.specs.declared.cluster.Cluster.{Cluster}
-use Rattle.cx_base.specs.declared.command.Value.{Value}
+use Rattle.cx_inv_run.proofs.Common.{◌≡◌, ℕ, true, false, ◌⊎◌, List, ◌++◌, Option, Some, None, inl, inr, sym, subst, ◌∙◌, refl, Cluster}
+use Rattle.cx_inv_run.proofs.Common.{Value, RoleId, Round, role, same_role, is_before, no_round, Entry, Letter, letter, KeptRecord, Mode}
+use Rattle.cx_inv_run.proofs.Common.{Idle, Matching, Phase1, Leading, Pending, Replacing, BatcherVolatile, IsProposed, IsRetiring}
+use Rattle.cx_inv_run.proofs.Common.{LeaderWasTold, ReplicaWasTold, ReaderWasTold, LeaderVolatile, leader_rules, round_of, by_role}
+use Rattle.cx_inv_run.proofs.Common.{other_role, MatchmakerDurable, matchmaker_rules, Member, HasKept, ProxyVolatile, ReaderVolatile}
+use Rattle.cx_inv_run.proofs.Common.{ReplacerVolatile, replacer_rules, ReplicaVolatile, State, Down, Plain, BatcherIn, LeaderIn, ProxyIn}
+use Rattle.cx_inv_run.proofs.Common.{ReplicaIn, ReaderIn, ReplacerIn, set_state, durable_of, Member-cases, Member-first, state_own}
+use Rattle.cx_inv_run.proofs.Common.{state_other, before-itself}
+use Rattle.cx_inv_match.specs.Prelude.{Says, InState, InMode, InWork, IsMatching, IsLeading, IsLastRound, IsMatchmaker, IsPending}
+use Rattle.cx_inv_match.specs.Prelude.{IsNextAsked, Facts, IsLeft, IsNextSet}
 use Rattle.cx_base.specs.declared.role.Kind.TheVariants as kind
-use Rattle.cx_base.specs.declared.role.RoleId.{RoleId}
-use Rattle.cx_base.specs.declared.round.Round.{Round}
-use Rattle.cx_base.specs.Role.{role, same_role}
-use Rattle.cx_base.specs.Round.{is_before, no_round}
-use Rattle.cx_field.specs.declared.parts.Entry.{Entry}
-use Rattle.cx_letter.specs.Letter.{Letter, letter}
-use Rattle.cx_letter.specs.declared.input.KeptRecord.{KeptRecord}
 use Rattle.cx_letter.specs.declared.kept.Record.TheVariants as kept
 use Rattle.cx_letter.specs.declared.message.Msg.TheVariants as msg
-use Rattle.cx_model.specs.declared.states.Mode.{Mode}
-use Rattle.cx_model.specs.declared.states.Mode.TheVariants.{Idle, Matching, Phase1, Leading}
-use Rattle.cx_model.specs.declared.states.Pending.{Pending}
-use Rattle.cx_model.specs.declared.states.Replacing.{Replacing}
 use Rattle.cx_model.specs.declared.states.Replacing.TheVariants as replacing
-use Rattle.cx_model.specs.Batcher.{BatcherVolatile}
-use Rattle.cx_model.specs.Facts.{IsProposed, IsRetiring, LeaderWasTold, ProxyWasTold, BatcherWasTold, ReplicaWasTold, ReaderWasTold}
-use Rattle.cx_model.specs.Facts.{BatchWasTold}
-use Rattle.cx_model.specs.Leader.{LeaderVolatile, leader_rules, round_of}
-use Rattle.cx_model.specs.Lists.{by_role, other_role}
-use Rattle.cx_model.specs.Matchmaker.{MatchmakerDurable, matchmaker_rules}
-use Rattle.cx_model.specs.Member.{Member}
-use Rattle.cx_model.specs.Promises.{HasKept}
-use Rattle.cx_model.specs.Proxy.{ProxyVolatile}
-use Rattle.cx_model.specs.Reader.{Batch, ReaderVolatile}
-use Rattle.cx_model.specs.Replacer.{ReplacerVolatile, replacer_rules}
-use Rattle.cx_model.specs.Replica.{ReplicaVolatile}
-use Rattle.cx_inv_run.specs.States.{State, Down, Plain, BatcherIn, LeaderIn, ProxyIn, ReplicaIn, ReaderIn, ReplacerIn, set_state}
-use Rattle.cx_inv_run.specs.States.{durable_of}
-use Rattle.cx_inv_run.proofs.Members.{Member-cases, Member-first}
-use Rattle.cx_inv_run.proofs.Histories.{state_own, state_other}
-use Rattle.cx_inv_run.proofs.Rounds.{before-itself}
-use Rattle.cx_inv_match.specs.Facts.{Says, InState, InMode, InWork, IsMatching, IsLeading, IsLastRound, IsMatchmaker, IsPending}
-use Rattle.cx_inv_match.specs.Facts.{IsNextAsked, Facts}
-use Rattle.cx_inv_match.specs.Words.{IsLeft, IsNextSet}
+use Rattle.cx_model.specs.Facts.{ProxyWasTold, BatcherWasTold, BatchWasTold}
+use Rattle.cx_model.specs.Reader.{Batch}
 use Rattle.cx_inv_match.proofs.Grow.{Grows, grown_says, grown_safe, grown_stage, grown_ready, grown_join, grown_collected}
 use Rattle.cx_inv_match.proofs.Keep.{same_log}
 use Rattle.cx_inv_match.proofs.SetLaws.{grown_sets}

@@ -1,31 +1,14 @@
 -- The facts of a moment in which nothing has happened, a role that was just opened, and a request that goes out.
-use Rattle.std.proofs.Common.{◌≡◌, ℕ, zero, suc, ◌⊎◌, List, [], ◌∷◌, ◌++◌, map, Some, inl, inr, sym, subst, refl}
-use Rattle.std.specs.Prelude.{slice_get}
-use Rattle.std.proofs.lemmas.Option.{none-some, same_Some}
-use Rattle.cx_base.specs.declared.cluster.Cluster.{Cluster}
-use Rattle.cx_base.specs.declared.command.Value.{Value}
-use Rattle.cx_base.specs.declared.event.Event.{Event}
+use Rattle.cx_inv_run.proofs.Common.{◌≡◌, ℕ, zero, suc, ◌⊎◌, List, [], ◌∷◌, ◌++◌, map, Some, inl, inr, sym, subst, refl, slice_get}
+use Rattle.cx_inv_run.proofs.Common.{none-some, same_Some, Cluster, Value, Event, Kind, RoleId, Round, below, role, no_round, Letter}
+use Rattle.cx_inv_run.proofs.Common.{letter, KeptRecord, acceptor_rules, leader_rules, matchmaker_rules, Member, replacer_rules, request}
+use Rattle.cx_inv_run.proofs.Common.{State, Down, fresh_state, set_state, set_running, Member-one, before-both, least}
 use Rattle.cx_base.specs.declared.event.Event.TheVariants as event
-use Rattle.cx_base.specs.declared.role.Kind.{Kind}
 use Rattle.cx_base.specs.declared.role.Kind.TheVariants as kind
-use Rattle.cx_base.specs.declared.role.RoleId.{RoleId}
-use Rattle.cx_base.specs.declared.round.Round.{Round}
-use Rattle.cx_base.specs.Lists.{below}
-use Rattle.cx_base.specs.Role.{role}
-use Rattle.cx_base.specs.Round.{no_round}
-use Rattle.cx_letter.specs.Letter.{Letter, letter}
-use Rattle.cx_letter.specs.declared.input.KeptRecord.{KeptRecord}
 use Rattle.cx_letter.specs.declared.message.Msg.TheVariants as msg
-use Rattle.cx_model.specs.Acceptor.{acceptor_rules}
-use Rattle.cx_model.specs.Leader.{leader_rules, idle_leader}
-use Rattle.cx_model.specs.Matchmaker.{matchmaker_rules}
-use Rattle.cx_model.specs.Member.{Member}
-use Rattle.cx_model.specs.Replacer.{replacer_rules}
-use Rattle.cx_model.specs.Request.{request}
-use Rattle.cx_inv_run.specs.States.{State, Down, fresh_state, set_state, durable_of, log_in}
-use Rattle.cx_inv_run.proofs.Histories.{set_running, set_same}
-use Rattle.cx_inv_run.proofs.Members.{Member-one}
-use Rattle.cx_inv_run.proofs.Rounds.{before-both, least}
+use Rattle.cx_model.specs.Leader.{idle_leader}
+use Rattle.cx_inv_run.specs.States.{durable_of, log_in}
+use Rattle.cx_inv_run.proofs.Histories.{set_same}
 use Rattle.cx_inv_match.specs.Facts.{IsLastBallot, Says, InState, IsLastRound, IsMatchmaker, IsAcceptor, Facts}
 use Rattle.cx_inv_match.specs.Words.{HasMark, IsChosen, IsUsed, SetFacts}
 use Rattle.cx_inv_match.proofs.Keep.{stop, same_states}

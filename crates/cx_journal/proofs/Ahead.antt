@@ -1,11 +1,8 @@
 -- Two disks that were prepared, with the records that were read of the live one, are a pair.
-use Rattle.std.proofs.Common.{◌≡◌, ◌<◌, ℕ, zero, suc, ◌+◌, ◌==◌, Bool, true, false, List, [], ◌∷◌, Option, Some, None, Ok, Err, Result}
-use Rattle.std.proofs.Common.{refl, sym, ◌∙◌, ap, subst, arith}
-use Rattle.std.specs.Prelude.{◌%◌, nat_lt, if◌then◌else◌}
-use Rattle.std.proofs.lemmas.Bool.Decides.{nat_tests}
-use Rattle.cx_journal.specs.Generation.{generation, second_is_live, IsBehind}
-use Rattle.cx_journal.specs.Pair.{StandsAfter, front_of, begins_with, IsTwin}
-use Rattle.cx_journal.specs.Blank.{IsBlank}
+use Rattle.cx_journal.proofs.Common.{◌≡◌, ◌<◌, ℕ, zero, suc, ◌+◌, ◌==◌, Bool, true, false, List, [], ◌∷◌, Option, Some, None, Ok, Err}
+use Rattle.cx_journal.proofs.Common.{Result, refl, sym, ◌∙◌, ap, subst, arith, ◌%◌, nat_lt, if◌then◌else◌, nat_tests, generation}
+use Rattle.cx_journal.proofs.Common.{second_is_live, IsBehind, StandsAfter, front_of, IsTwin, IsBlank}
+use Rattle.cx_journal.specs.Pair.{begins_with}
 
 -- of three generations in turn
 other_turn : (g h : ℕ) → g < 3 → h < 3 → (g == h) ≡ false → (h == (g + 1) % 3) ≡ false → g ≡ (h + 1) % 3

@@ -1,14 +1,9 @@
 -- What a crash leaves of two disks while a record is appended to the live one.
-use Rattle.std.proofs.Common.{◌≡◌, ◌<◌, ◌≤◌, ◌⊎◌, inl, inr, ℕ, ◌+◌, ◌/◌, ◌%◌, ◌==◌, Bool, false, List, [], ◌∷◌, ◌++◌, length, drop, Option}
-use Rattle.std.proofs.Common.{Some, None, refl, sym, ◌∙◌, ap, subst, arith, append_assoc}
-use Rattle.std.proofs.lemmas.Bool.{cases_Bool, cases_eq}
-use Rattle.std.proofs.lemmas.Option.{same_Some}
-use borrow.Author.Tests.{eqb-true}
-use Rattle.byteorder.specs.Endian.{big_bytes}
-use Rattle.cx_disk.specs.Disk.{written, Torn}
-use Rattle.cx_journal.specs.Generation.{generation, IsBehind}
-use Rattle.cx_journal.specs.Pair.{StandsAfter, front_of, begins_with, IsTwin}
-use Rattle.cx_journal.specs.Journal.{append_body, frames}
+use Rattle.std.proofs.lemmas.Bool.{cases_eq}
+use Rattle.cx_journal.proofs.Common.{◌≡◌, ◌<◌, ◌≤◌, ◌⊎◌, inl, inr, ℕ, ◌+◌, ◌/◌, ◌%◌, ◌==◌, Bool, false, List, [], ◌∷◌, ◌++◌, length, drop}
+use Rattle.cx_journal.proofs.Common.{Option, Some, None, refl, sym, ◌∙◌, ap, subst, arith, append_assoc, cases_Bool, same_Some, eqb-true}
+use Rattle.cx_journal.proofs.Common.{big_bytes, written, Torn, generation, IsBehind, StandsAfter, front_of, IsTwin, append_body, frames}
+use Rattle.cx_journal.specs.Pair.{begins_with}
 use Rattle.cx_journal.proofs.Clearing.{other_first}
 use Rattle.cx_journal.proofs.Fronts.{written-behind, gate_stays, some_gate, body_there, opened}
 

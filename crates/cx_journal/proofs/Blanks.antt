@@ -1,9 +1,6 @@
 -- What a clearing may leave of a disk without records.
-use Rattle.std.proofs.Common.{◌≡◌, ◌≤◌, ℕ, List, [], ◌∷◌, length, None, refl, ◌∙◌, ap, arith}
-use Rattle.std.specs.Prelude.{get_or}
-use Rattle.cx_disk.specs.Disk.{Torn, TornCut}
-use Rattle.cx_journal.specs.Generation.{generation}
-use Rattle.cx_journal.specs.Blank.{IsBlank}
+use Rattle.cx_journal.proofs.Common.{◌≡◌, ◌≤◌, ℕ, List, [], ◌∷◌, length, None, refl, ◌∙◌, ap, arith, get_or, Torn, generation, IsBlank}
+use Rattle.cx_disk.specs.Disk.{TornCut}
 use Rattle.cx_journal.proofs.Clearing.{few_have_none}
 
 pub short_blank : (c : List ℕ) → length c ≤ 1 → IsBlank c

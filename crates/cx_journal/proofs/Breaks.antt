@@ -1,7 +1,5 @@
 -- What a break further on says of the whole.
-use Rattle.std.proofs.Common.{◌≡◌, ℕ, List, [], Result, ◌∙◌, ap}
-use Rattle.cx_letter.specs.declared.kept.Record.{Record}
-use Rattle.cx_journal.specs.Image.{Image, with_first}
+use Rattle.cx_journal.proofs.Common.{◌≡◌, ℕ, List, [], Result, ◌∙◌, ap, Record, Image, with_first}
 use Rattle.cx_journal.specs.Found.{Breaks, IsStopAt}
 use Rattle.cx_journal.specs.declared.split.ImageFault.{ImageFault}
 use Rattle.cx_journal.specs.declared.split.ImageFault.TheVariants as stop

@@ -1,19 +1,13 @@
 -- The records of a pair.
-use Rattle.std.proofs.Common.{◌≡◌, inl, inr, ℕ, ◌+◌, Bool, true, false, List, [], ◌∷◌, ◌++◌, length, Option, Some, None, Result, Ok, Err}
-use Rattle.std.proofs.Common.{refl, sym, ◌∙◌, ap, subst, arith}
-use Rattle.cx_base.specs.declared.role.Kind.{Kind}
-use Rattle.cx_letter.specs.declared.kept.Record.{Record}
-use Rattle.cx_journal.specs.Blank.{IsBlank, IsSame}
-use Rattle.std.specs.Prelude.{IfOk}
-use Rattle.cx_keep.specs.declared.keeper.OpenFault.{OpenFault}
+use Rattle.cx_journal.proofs.Common.{◌≡◌, inl, inr, ℕ, ◌+◌, Bool, true, false, List, [], ◌∷◌, ◌++◌, length, Option, Some, None, Result, Ok}
+use Rattle.cx_journal.proofs.Common.{Err, refl, sym, ◌∙◌, ap, subst, arith, Kind, Record, IsBlank, IfOk, OpenFault, gates-count, generation}
+use Rattle.cx_journal.proofs.Common.{second_is_live, image, frames, gates_from, StandsAfter, live_of, IsTwin, payloads, all_kept_by}
+use Rattle.cx_journal.proofs.Common.{file_image, image_chosen, pair_image, IsPairImageOf, SamePair}
+use Rattle.cx_journal.specs.Blank.{IsSame}
 use Rattle.cx_journal.specs.Found.{IsFound, IsFoundFrom}
-use Rattle.cx_journal.proofs.Gates.{gates-count}
-use Rattle.cx_journal.specs.Generation.{generation, second_is_live}
-use Rattle.cx_journal.specs.Image.{image, image_from}
-use Rattle.cx_journal.specs.Journal.{frames, gates_from}
-use Rattle.cx_journal.specs.Pair.{StandsAfter, LiveStands, live_of, PairStands, IsTwin, first_file, second_file}
-use Rattle.cx_journal.specs.Payload.{payloads, all_kept_by}
-use Rattle.cx_journal.specs.Twin.{image_in, file_image, image_chosen, pair_image, IsPairImageOf, SamePair, IsFoundLive}
+use Rattle.cx_journal.specs.Image.{image_from}
+use Rattle.cx_journal.specs.Pair.{LiveStands, PairStands, first_file, second_file}
+use Rattle.cx_journal.specs.Twin.{image_in, IsFoundLive}
 use Rattle.cx_journal.specs.declared.image.Found.{Found}
 use Rattle.cx_journal.proofs.Blanks.{blank_none}
 use Rattle.cx_journal.proofs.Choice.{opens}

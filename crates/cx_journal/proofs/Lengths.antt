@@ -1,16 +1,9 @@
 -- An append of a record over two disks.
-use Rattle.std.proofs.Common.{◌≡◌, ◌⊎◌, inl, inr, ⊎_elim, ℕ, ◌+◌, Bool, true, false, List, [], ◌∷◌, ◌++◌, length, Option, None, refl, sym}
-use Rattle.std.proofs.Common.{◌∙◌, ap, subst, arith, length-append}
-use Rattle.cx_letter.specs.declared.kept.Record.{Record}
-use Rattle.cx_letter.specs.Records.{fits}
-use Rattle.cx_msg.specs.RecordBytes.{spelling}
-use Rattle.cx_disk.specs.Disk.{LeavesOnly}
-use Rattle.cx_journal.specs.Generation.{generation}
-use Rattle.cx_journal.specs.Pair.{front_of, IsTwin, IsLive}
-use Rattle.cx_journal.specs.Payload.{payloads, is_kept_by, all_kept_by}
-use Rattle.cx_journal.specs.Journal.{frames}
-use Rattle.cx_journal.specs.Twin.{IsPairImageOf, IsAppended, IsEitherLive, TwoRest, LeavesTwo}
-use Rattle.cx_journal.proofs.Gates.{payloads-push, all_kept-push}
+use Rattle.cx_journal.proofs.Common.{◌≡◌, ◌⊎◌, inl, inr, ⊎_elim, ℕ, ◌+◌, Bool, true, false, List, [], ◌∷◌, ◌++◌, length, Option, None, refl}
+use Rattle.cx_journal.proofs.Common.{sym, ◌∙◌, ap, subst, arith, length-append, Record, fits, spelling, LeavesOnly, generation, front_of}
+use Rattle.cx_journal.proofs.Common.{IsTwin, IsLive, payloads, is_kept_by, all_kept_by, frames, IsPairImageOf, TwoRest, LeavesTwo}
+use Rattle.cx_journal.proofs.Common.{payloads-push, all_kept-push}
+use Rattle.cx_journal.specs.Twin.{IsAppended, IsEitherLive}
 use Rattle.cx_journal.proofs.Crash.{length-frames-more}
 use Rattle.cx_journal.proofs.Images.{twin_image}
 

@@ -1,6 +1,7 @@
 pub mod Append
 pub mod Appends
 pub mod Breaks
+pub mod Common
 pub mod Crash
 pub mod Gates
 pub mod Moments

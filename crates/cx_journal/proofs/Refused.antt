@@ -1,8 +1,6 @@
 -- A change that nothing is done for.
-use Rattle.std.proofs.Common.{◌≡◌, ℕ, List, Option, Err, refl, ap}
+use Rattle.cx_journal.proofs.Common.{◌≡◌, ℕ, List, Option, Err, refl, ap, Failed, JournalState, told_records, IsJournalReady}
 use Rattle.cx_base.specs.Faults.{one_more}
-use Rattle.cx_keep.specs.declared.keeper.KeepFault.TheVariants.{Failed}
-use Rattle.cx_journal.specs.State.{JournalState, told_records, IsJournalReady}
 use Rattle.cx_journal.specs.Store.{IsRefused}
 use Rattle.cx_journal.proofs.Moments.{started}
 use Rattle.cx_journal.proofs.Ready.{lasts_of}

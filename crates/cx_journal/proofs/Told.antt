@@ -1,13 +1,8 @@
 -- What two disks at rest tell.
-use Rattle.std.proofs.Common.{◌≡◌, ◌<◌, ℕ, Bool, true, false, not, List, [], ◌∷◌, Option, Some, None, Ok, refl, ◌∙◌, ap}
-use Rattle.std.specs.Prelude.{if◌then◌else◌}
-use Rattle.cx_letter.specs.Records.{fits}
-use Rattle.cx_keep.specs.Keeper.{all_fit}
-use Rattle.cx_journal.proofs.Payloads.{both_so}
-use Rattle.cx_letter.specs.declared.kept.Record.{Record}
-use Rattle.cx_journal.specs.Payload.{all_kept_by}
-use Rattle.cx_journal.specs.State.{records_or_none}
-use Rattle.cx_journal.specs.Twin.{seen_pair_records, pair_records, pair_image, TwoRest}
+use Rattle.cx_journal.proofs.Common.{◌≡◌, ◌<◌, ℕ, Bool, true, false, not, List, [], ◌∷◌, Option, Some, None, Ok, refl, ◌∙◌, ap}
+use Rattle.cx_journal.proofs.Common.{if◌then◌else◌, fits, all_fit, both_so, Record, all_kept_by, records_or_none, seen_pair_records}
+use Rattle.cx_journal.proofs.Common.{pair_image, TwoRest}
+use Rattle.cx_journal.specs.Twin.{pair_records}
 use Rattle.cx_journal.proofs.Images.{twin_image}
 
 -- two files that tell these records

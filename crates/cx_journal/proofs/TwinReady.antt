@@ -1,26 +1,19 @@
 -- When a twin is ready.
-use Rattle.std.proofs.Common.{◌≡◌, ◌<◌, ◌≤◌, ◌⊎◌, inl, inr, ⊎_elim, ℕ, ◌+◌, ◌==◌, not, Bool, true, false, List, [], ◌∷◌, ◌++◌, length}
-use Rattle.std.proofs.Common.{Option, Some, None, Result, Ok, Err, refl, sym, ◌∙◌, ap, subst, take, length-append}
-use Rattle.std.specs.Prelude.{IfOk, IfErr, is_some, slice_index, if◌then◌else◌}
-use Rattle.std.proofs.lemmas.Option.{same_Some}
-use Rattle.cx_base.specs.declared.role.Kind.{Kind}
-use Rattle.cx_letter.specs.declared.kept.Record.{Record}
-use Rattle.cx_msg.specs.RecordBytes.{spelling}
-use Rattle.cx_disk.specs.Disk.{LeavesOnly}
-use Rattle.cx_keep.specs.declared.keeper.OpenFault.{OpenFault}
+use Rattle.cx_journal.proofs.Common.{◌≡◌, ◌<◌, ◌≤◌, ◌⊎◌, inl, inr, ⊎_elim, ℕ, ◌+◌, ◌==◌, not, Bool, true, false, List, [], ◌∷◌, ◌++◌}
+use Rattle.cx_journal.proofs.Common.{length, Option, Some, None, Result, Ok, Err, refl, sym, ◌∙◌, ap, subst, take, length-append, IfOk}
+use Rattle.cx_journal.proofs.Common.{IfErr, is_some, slice_index, if◌then◌else◌, same_Some, Kind, Record, spelling, LeavesOnly, OpenFault}
+use Rattle.cx_journal.proofs.Common.{generation, second_is_live, frames, gates_from, front_of, IsLive, payloads, all_kept_by, has_some}
+use Rattle.cx_journal.proofs.Common.{records_or_none, BothTell, seen_pair_records, pair_image, image_chosen, TwoRest, LeavesTwo, SamePair}
+use Rattle.cx_journal.proofs.Common.{gates-push, payloads-push}
 use Rattle.cx_keep.specs.declared.keeper.OpenFault.TheVariants as fault
 use Rattle.cx_journal.specs.Blank.{IsLeftOr, IsSame}
 use Rattle.cx_journal.specs.Found.{IsOutside}
-use Rattle.cx_journal.specs.Generation.{IsGeneration, generation, second_is_live}
-use Rattle.cx_journal.specs.Journal.{frames, gates_from}
-use Rattle.cx_journal.specs.Pair.{front_of, IsLive}
-use Rattle.cx_journal.specs.Payload.{payloads, all_kept_by}
-use Rattle.cx_journal.specs.State.{has_some, records_or_none, IsUnwritten}
-use Rattle.cx_journal.specs.Twin.{TwinState, BothTell, seen_pair_records, pair_records, pair_image, image_chosen, IsPairFault}
-use Rattle.cx_journal.specs.Twin.{IsFaultOfPair, PairRests, TwoRest, LeavesSame, LeavesTwo, SamePair, IsTwinReady}
+use Rattle.cx_journal.specs.Generation.{IsGeneration}
+use Rattle.cx_journal.specs.State.{IsUnwritten}
+use Rattle.cx_journal.specs.Twin.{TwinState, pair_records, IsPairFault, IsFaultOfPair, PairRests, LeavesSame, IsTwinReady}
 use Rattle.cx_journal.specs.declared.image.Found.{Found}
 use Rattle.cx_journal.specs.declared.opening.Live.{Live}
-use Rattle.cx_journal.proofs.Gates.{gates-push, gate_at, is_single, payloads-push}
+use Rattle.cx_journal.proofs.Gates.{gate_at, is_single}
 use Rattle.cx_journal.proofs.Images.{same_pair, twin_image}
 use Rattle.cx_journal.proofs.Ready.{told_of}
 use Rattle.cx_journal.proofs.Told.{told_pair, told_two}

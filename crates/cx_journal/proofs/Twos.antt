@@ -1,8 +1,7 @@
 -- A renewal over two disks, whichever of them is live.
-use Rattle.std.proofs.Common.{◌⊎◌, inl, ℕ, Bool, true, false, List, Option, Some, sym, subst, arith}
-use Rattle.cx_letter.specs.declared.kept.Record.{Record}
-use Rattle.cx_disk.specs.Disk.{LeavesOnly}
-use Rattle.cx_journal.specs.Twin.{IsPairImageOf, IsEitherPair, IsRenewed, TwoRest, LeavesTwo}
+use Rattle.cx_journal.proofs.Common.{◌⊎◌, inl, ℕ, Bool, true, false, List, Option, Some, sym, subst, arith, Record, LeavesOnly}
+use Rattle.cx_journal.proofs.Common.{IsPairImageOf, TwoRest, LeavesTwo}
+use Rattle.cx_journal.specs.Twin.{IsEitherPair, IsRenewed}
 use Rattle.cx_journal.specs.declared.anew.Renewed.{Renewed}
 use Rattle.cx_journal.proofs.Images.{twin_image}
 

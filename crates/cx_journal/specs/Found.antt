@@ -1,6 +1,5 @@
 -- What was read of the bytes of a journal.
-use Rattle.std.specs.Prelude.{◌≡◌, ℕ, ◌+◌, true, List, length, drop, Option, Result, Ok, Err}
-use Rattle.std.specs.List.{slice_get}
+use Rattle.std.specs.Prelude.{◌≡◌, ℕ, ◌+◌, true, List, length, drop, Option, Result, Ok, Err, slice_get}
 use Rattle.cx_base.specs.declared.role.Kind.{Kind}
 use Rattle.cx_letter.specs.declared.kept.Record.{Record}
 use Rattle.cx_journal.specs.Payload.{payloads, all_kept_by}

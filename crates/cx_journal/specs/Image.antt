@@ -1,7 +1,6 @@
 -- The records that the bytes of a journal are, or the first place at which they are none.
 use Rattle.std.specs.Prelude.{◌≡◌, ℕ, zero, suc, ◌+◌, ◌==◌, ◌||◌, nat_lt, List, [], ◌∷◌, length, take, drop, Option, Result, Ok, Err}
-use Rattle.std.specs.Prelude.{if◌then◌else◌}
-use Rattle.std.specs.List.{slice_get}
+use Rattle.std.specs.Prelude.{if◌then◌else◌, slice_get}
 use Rattle.byteorder.specs.Endian.{big_number}
 use Rattle.cx_base.specs.declared.role.Kind.{Kind}
 use Rattle.cx_letter.specs.declared.kept.Record.{Record}

@@ -1,9 +1,7 @@
 -- What a change does to the list of records and to the count of faults.
 use Rattle.std.specs.Prelude.{◌≡◌, ◌⊎◌, ◌≤◌, ℕ, Bool, true, List, [], ◌∷◌, ◌++◌, Result, Ok, Err}
-use Rattle.std.specs.List.{list_all}
-use Rattle.cx_base.specs.Faults.{Rises}
+use Rattle.cx_letter.specs.Prelude.{list_all, Rises, fits}
 use Rattle.cx_letter.specs.declared.kept.Record.{Record}
-use Rattle.cx_letter.specs.Records.{fits}
 use Rattle.cx_keep.specs.declared.keeper.KeepFault.{KeepFault}
 use Rattle.cx_keep.specs.declared.keeper.KeepFault.TheVariants.{Failed, NoMemory}
 

@@ -1,9 +1,8 @@
 -- Pieces stay what they are when bytes are added, and spell what was put.
-use Rattle.std.proofs.Common.{◌≡◌, ◌≤◌, ◌+◌, ◌-◌, ◌∙◌, ℕ, zero, suc, true, List, [], ◌∷◌, ◌++◌, Some, Ok, length, take, drop, ap, sym, refl}
-use Rattle.std.proofs.Common.{arith}
-use Rattle.std.specs.List.{slice_get}
-use Rattle.std.proofs.lemmas.List.{drop-append-le, take-append-le, length-append, length-drop, map-append}
-use Rattle.std.proofs.Math.Seq.{drop-append_seam, take-length}
+use Rattle.std.proofs.Math.Seq.{take-length}
+use Rattle.cx_base.proofs.Common.{◌≡◌, ◌≤◌, ◌+◌, ◌-◌, ◌∙◌, ℕ, zero, suc, true, List, [], ◌∷◌, ◌++◌, Some, Ok, length, take, drop, ap, sym}
+use Rattle.cx_base.proofs.Common.{refl, arith, slice_get, drop-append-le, take-append-le, length-append, length-drop, map-append}
+use Rattle.cx_base.proofs.Common.{drop-append_seam}
 use Rattle.cx_letter.specs.Records.{fits}
 use Rattle.cx_msg.specs.RecordBytes.{record_of_bytes, spelling}
 use Rattle.cx_letter.specs.declared.kept.Record.{Record}

@@ -1,9 +1,6 @@
 -- The record that was kept last.
-use Rattle.std.proofs.Common.{◌≡◌, ◌≤◌, ◌+◌, ℕ, zero, suc, true, List, [], ◌∷◌, Option, Result, Ok, Err, length, drop, option_to_list, refl}
-use Rattle.std.proofs.Common.{arith}
-use Rattle.std.specs.Prelude.{IfOk}
-use Rattle.std.specs.List.{slice_get}
-use Rattle.std.proofs.lemmas.Bool.{and_parts}
+use Rattle.cx_base.proofs.Common.{◌≡◌, ◌≤◌, ◌+◌, ℕ, zero, suc, true, List, [], ◌∷◌, Option, Result, Ok, Err, length, drop, option_to_list}
+use Rattle.cx_base.proofs.Common.{refl, arith, IfOk, slice_get, and_parts}
 use Rattle.cx_letter.specs.Records.{fits}
 use Rattle.cx_letter.specs.declared.kept.Record.{Record}
 use Rattle.cx_keep.specs.Keeper.{all_fit}

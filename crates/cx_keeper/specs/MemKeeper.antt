@@ -1,10 +1,9 @@
 -- What a keeper in memory does.
-use Rattle.std.specs.Prelude.{◌≡◌, ℕ, Bool, true, List, [], ◌∷◌, ◌++◌, Result, Ok, Err}
-use Rattle.std.proofs.Common.{refl, inl, inr, arith, ap}
-use Rattle.cx_base.specs.Faults.{one_more, one_more_rises, one_more_later}
+use Rattle.std.specs.Prelude.{◌≡◌, ℕ, Bool, true, List, [], ◌∷◌, ◌++◌, Result, Ok, Err, refl}
+use Rattle.std.proofs.Common.{inl, inr, arith, ap}
+use Rattle.cx_letter.specs.Prelude.{one_more, Cut, Whole, Torn, Kept}
+use Rattle.cx_base.specs.Faults.{one_more_rises, one_more_later}
 use Rattle.cx_letter.specs.declared.kept.Record.{Record}
-use Rattle.cx_base.specs.declared.event.Cut.{Cut}
-use Rattle.cx_base.specs.declared.event.Cut.TheVariants.{Whole, Torn, Kept}
 use Rattle.cx_keep.specs.declared.keeper.KeepFault.{KeepFault}
 use Rattle.cx_keep.specs.declared.keeper.KeepFault.TheVariants.{Failed, NoMemory}
 use Rattle.cx_keep.specs.Keeper.{KeeperChange, Append, Renewal, IsAppend, IsKeeperChange, list_after}

@@ -1,12 +1,8 @@
 -- Maps with rising keys, cut at a place.
-use Rattle.std.proofs.Common.{◌≡◌, ℕ, zero, suc, ◌+◌, ◌<◌, ◌≤◌, ◌⊎◌, inl, inr, true, false, nat_lt, List, [], ◌∷◌}
-use Rattle.std.proofs.Common.{length, get_or, drop, set, refl, ap, sym, subst, ◌∙◌, arith, Some, None}
-use Rattle.std.specs.Str.{bytes_eq}
-use Rattle.std.specs.List.{AllWithin, insert, remove}
-use Rattle.std.specs.List.Sorted.{IsPartitionedBy}
-use Rattle.std.proofs.lemmas.Bool.{cases_Bool, cases_eq}
-use Rattle.std.proofs.lemmas.Bool.Decides.{nat_tests}
-use Rattle.cx_base.specs.Fold.{is_less, map_appended, text_at, with_text, without_key}
+use Rattle.cx_base.specs.Prelude.{AllWithin, map_appended, without_key}
+use Rattle.cx_base.proofs.Common.{◌≡◌, ℕ, zero, suc, ◌+◌, ◌<◌, ◌≤◌, ◌⊎◌, inl, inr, true, false, nat_lt, List, [], ◌∷◌, length, get_or, drop}
+use Rattle.cx_base.proofs.Common.{set, refl, ap, sym, subst, ◌∙◌, arith, Some, None, bytes_eq, insert, remove, IsPartitionedBy, cases_Bool}
+use Rattle.cx_base.proofs.Common.{cases_eq, nat_tests, is_less, text_at, with_text}
 use Rattle.cx_base.specs.declared.command.Pair.{Pair}
 use Rattle.cx_kv.specs.Rising.{IsBeforeAll, IsRising}
 use Rattle.cx_kv.proofs.Keys.{is_less-back, is_less-ne, is_less-trans, is_less-other, same_bytes, bytes_ne}

@@ -1,10 +1,6 @@
 -- Texts that are joined.
-use Rattle.std.proofs.Common.{ℕ, ◌+◌, ◌≤◌, List, ◌++◌, length, arith, ◌∙◌}
-use Rattle.std.specs.List.{list_all}
-use Rattle.std.proofs.lemmas.Bool.{and_from}
-use Rattle.std.proofs.lemmas.List.{length-append}
-use Rattle.std.proofs.lemmas.List.Folds.{list_all-append}
-use Rattle.cx_base.specs.Name.{IsName, is_name_byte}
+use Rattle.cx_base.proofs.Common.{ℕ, ◌+◌, ◌≤◌, List, ◌++◌, length, arith, ◌∙◌, list_all, and_from, length-append, list_all-append, IsName}
+use Rattle.cx_base.proofs.Common.{is_name_byte}
 
 pub IsName-append : (limit : ℕ) (one other : List ℕ) → IsName limit one → IsName limit other
     → length one + length other ≤ limit → IsName limit (one ++ other)

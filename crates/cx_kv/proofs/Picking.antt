@@ -1,15 +1,11 @@
 -- Pairs that are picked by their places.
-use Rattle.std.proofs.Common.{◌≡◌, ℕ, zero, suc, ◌+◌, ◌-◌, ◌<◌, ◌≤◌, ◌==◌, inl, inr, true, false, List, [], ◌∷◌, ◌++◌}
-use Rattle.std.proofs.Common.{length, map, get_or, take, drop, set, refl, ap, sym, subst, ◌∙◌, arith}
-use Rattle.std.specs.Prelude.{slice_get}
-use Rattle.std.specs.List.{insert, remove}
-use Rattle.std.specs.List.Sorted.{IsPartitionedBy, IsPartitionPoint}
-use Rattle.std.proofs.lemmas.Bool.{cases_Bool, eqb-true, eqb-false}
-use Rattle.std.proofs.lemmas.List.{get_or-map, get_or_push, get_or_append_left, get_or_default, length-set, length_push}
-use Rattle.std.proofs.lemmas.List.{get_or-set_same, get_or-set_other, length-map, map-append, append-nil, take-map}
-use Rattle.std.proofs.lemmas.List.{drop-map}
+use Rattle.std.specs.List.Sorted.{IsPartitionPoint}
+use Rattle.std.proofs.lemmas.List.{get_or-map, get_or_push, get_or_append_left, get_or_default, drop-map}
 use Rattle.std.proofs.lemmas.Option.{slice_get-get_or}
-use Rattle.cx_base.specs.Fold.{is_less, with_text}
+use Rattle.cx_base.proofs.Common.{◌≡◌, ℕ, zero, suc, ◌+◌, ◌-◌, ◌<◌, ◌≤◌, ◌==◌, inl, inr, true, false, List, [], ◌∷◌, ◌++◌, length, map}
+use Rattle.cx_base.proofs.Common.{get_or, take, drop, set, refl, ap, sym, subst, ◌∙◌, arith, slice_get, insert, remove, IsPartitionedBy}
+use Rattle.cx_base.proofs.Common.{cases_Bool, eqb-true, eqb-false, length-set, length_push, get_or-set_same, get_or-set_other, length-map}
+use Rattle.cx_base.proofs.Common.{map-append, append-nil, take-map, is_less, with_text}
 use Rattle.cx_base.specs.declared.command.Pair.{Pair}
 use Rattle.cx_kv.specs.Picked.{AreBelow, IsKeyOrder, is_pair_before, pair_at, picked, renamed}
 use Rattle.cx_kv.specs.Place.{IsFreeAt, IsHeldAt, IsPlace}

@@ -1,11 +1,6 @@
 -- Pairs behind all others.
-use Rattle.std.proofs.Common.{◌≡◌, ℕ, suc, ◌+◌, ◌<◌, add-one, drop-cons, true, ◌&&◌, List, [], ◌∷◌, ◌++◌, length, drop, get_or, refl, ap}
-use Rattle.std.proofs.Common.{sym, ◌∙◌, append_assoc}
-use Rattle.std.specs.List.{list_all}
-use Rattle.std.proofs.lemmas.Bool.{and_from, and_parts}
-use Rattle.std.proofs.lemmas.List.Folds.{list_all-append}
-use Rattle.cx_base.specs.Fold.{with_text}
-use Rattle.cx_base.specs.Lists.{rises}
+use Rattle.cx_base.proofs.Common.{◌≡◌, ℕ, suc, ◌+◌, ◌<◌, add-one, drop-cons, true, ◌&&◌, List, [], ◌∷◌, ◌++◌, length, drop, get_or, refl}
+use Rattle.cx_base.proofs.Common.{ap, sym, ◌∙◌, append_assoc, list_all, and_from, and_parts, list_all-append, with_text, rises}
 use Rattle.cx_base.specs.declared.command.Pair.{Pair}
 use Rattle.cx_kv.specs.Rising.{IsBeforeAll, IsRising, has_lower_key}
 use Rattle.cx_kv.proofs.Keys.{is_less-back, is_less-ne}

@@ -1,8 +1,6 @@
 -- What a client table says of commands in their order.
 use Rattle.std.specs.Prelude.{◌≡◌, ℕ, true, List}
-use Rattle.std.specs.List.{list_any}
-use Rattle.cx_base.specs.Fold.{overtakes}
-use Rattle.cx_base.specs.Noted.{Table, are_rising, is_used}
+use Rattle.cx_base.specs.Prelude.{list_any, overtakes, Table, are_rising, is_used}
 use Rattle.cx_base.specs.declared.command.Command.{Command}
 
 -- the table, whose floors rise, decides for each number whether the list overtakes it

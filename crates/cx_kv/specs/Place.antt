@@ -1,8 +1,6 @@
 -- Where a key is in a map, or would be.
-use Rattle.std.specs.Prelude.{◌≡◌, ℕ, ◌<◌, ◌≤◌, true, false, List, length, drop, slice_index_or}
-use Rattle.std.specs.List.{AllWithin}
-use Rattle.std.specs.Str.{bytes_eq}
-use Rattle.cx_base.specs.Fold.{is_less}
+use Rattle.std.specs.Prelude.{◌≡◌, ℕ, ◌<◌, ◌≤◌, true, false, List, length, drop, slice_index_or, bytes_eq}
+use Rattle.cx_base.specs.Prelude.{AllWithin, is_less}
 use Rattle.cx_base.specs.declared.command.Pair.{Pair}
 use Rattle.cx_kv.specs.Rising.{IsBeforeAll}
 

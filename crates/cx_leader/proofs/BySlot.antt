@@ -1,8 +1,7 @@
 -- Values at rising slots, found by their slots.
-use Rattle.cx_role.proofs.Common.{◌≡◌, ◌≤◌, ◌<◌, ◌+◌, ◌-◌, ℕ, zero, suc, Bool, max, nat_le, map, filter, List}
-use Rattle.cx_role.proofs.Common.{[], ◌∷◌, ◌++◌, drop, Some, All, refl, ap, arith, ◌∙◌, inl, inr, append_assoc}
-use Rattle.cx_role.proofs.Common.{cases_Bool, nat_tests, All-head, All-tail, filter-append, Placed, numbers}
-use Rattle.std.proofs.lemmas.List.{append-nil, map-append}
+use Rattle.cx_role.proofs.Common.{◌≡◌, ◌≤◌, ◌<◌, ◌+◌, ◌-◌, ℕ, zero, suc, Bool, max, nat_le, map, filter, List, [], ◌∷◌, ◌++◌, drop, Some}
+use Rattle.cx_role.proofs.Common.{All, refl, ap, arith, ◌∙◌, inl, inr, append_assoc, cases_Bool, nat_tests, All-head, All-tail}
+use Rattle.cx_role.proofs.Common.{filter-append, Placed, numbers, append-nil, map-append}
 use Rattle.cx_ring.specs.Ring.{value_at, with_value, values_from_slot}
 use Rattle.cx_leader.specs.Proposing.{placed_list}
 

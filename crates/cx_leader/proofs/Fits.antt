@@ -1,15 +1,13 @@
 -- What a leader takes, it keeps no record of.
-use Rattle.cx_role.proofs.Common.{◌≡◌, ◌&&◌, List, [], ◌∷◌, ◌++◌, Option, None, Some, refl, arith, subst, sym, Cluster}
-use Rattle.cx_role.proofs.Common.{Command, RoleId, same_role, Letter, Record, Entry, Msg, live_entries, names, Outcome}
-use Rattle.cx_role.proofs.Common.{either_way, IsFit}
+use Rattle.cx_role.proofs.Common.{◌≡◌, ◌&&◌, List, [], ◌∷◌, ◌++◌, Option, None, Some, refl, arith, subst, sym, Cluster, Command, RoleId}
+use Rattle.cx_role.proofs.Common.{same_role, Letter, Record, Entry, Msg, live_entries, names, Outcome, either_way, IsFit, is_above}
+use Rattle.cx_role.proofs.Common.{LeaderDurable, LeaderVolatile, leader_rules}
 use Rattle.cx_role.proofs.Common.msg
-use Rattle.cx_base.specs.Sets.{is_above}
 use Rattle.cx_letter.specs.declared.input.Input.TheVariants as input
 use Rattle.cx_model.specs.declared.states.Mode.{Mode}
 use Rattle.cx_model.specs.declared.states.Mode.TheVariants as mode
 use Rattle.cx_model.specs.Collection.{is_collecting}
-use Rattle.cx_model.specs.Leader.{LeaderDurable, LeaderVolatile, matched_by, match_counted, promise_counted, propose_in, informed_in}
-use Rattle.cx_model.specs.Leader.{set_learnt, leader_takes, leader_row, leader_rules}
+use Rattle.cx_model.specs.Leader.{matched_by, match_counted, promise_counted, propose_in, informed_in, set_learnt, leader_takes, leader_row}
 
 abbrev KeepsNone : Outcome LeaderVolatile → Type 0
 KeepsNone o = o.kept ≡ None

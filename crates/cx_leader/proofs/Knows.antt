@@ -1,8 +1,8 @@
 -- Slots in a ring and in the list of those that were noted.
-use Rattle.cx_role.proofs.Common.{◌≡◌, ◌==◌, ℕ, ◌&&◌, ◌||◌, nat_le, is_some, filter, List, [], ◌∷◌, ◌++◌, refl, ap}
-use Rattle.cx_role.proofs.Common.{arith, sym, ◌∙◌, Bor, Option, Some, None, option_copied, inl, inr, cases_Bool, eqb-true, nat_tests}
-use Rattle.cx_role.proofs.Common.{list_any-append, is_in}
+use Rattle.std.proofs.Common.{Bor, option_copied}
 use Rattle.std.proofs.lemmas.Map.Views.{any-filter_same}
+use Rattle.cx_role.proofs.Common.{◌≡◌, ◌==◌, ℕ, ◌&&◌, ◌||◌, nat_le, is_some, filter, List, [], ◌∷◌, ◌++◌, refl, ap, arith, sym, ◌∙◌, Option}
+use Rattle.cx_role.proofs.Common.{Some, None, inl, inr, cases_Bool, eqb-true, nat_tests, list_any-append, is_in}
 use Rattle.cx_base.proofs.Used.{or_false}
 use Rattle.cx_ring.specs.Ring.{value_at, with_value, values_from_slot}
 use Rattle.cx_leader.specs.Knowing.{AreSame}

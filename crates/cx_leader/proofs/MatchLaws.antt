@@ -1,12 +1,10 @@
 -- What matchmakers reported, one answer after the other.
-use Rattle.cx_role.proofs.Common.{◌≡◌, ◌≤◌, ℕ, Bool, true, ◌&&◌, nat_lt, nat_le, filter, List, [], nat_tests}
-use Rattle.cx_role.proofs.Common.{◌∷◌, ◌++◌, All, refl, list_all, ap, append_assoc, arith, ◌∙◌}
-use Rattle.cx_role.proofs.Common.{and_from, list_all-append, filter-append, All-filter, All-head}
-use Rattle.cx_role.proofs.Common.{All-tail, Cluster, Round, Entry, MatchAnswer, entries_told, live_entries, names_entry}
-use Rattle.std.proofs.lemmas.List.{append-nil}
-use Rattle.std.proofs.lemmas.Grind.{common_steps}
+use Rattle.cx_role.proofs.Common.{◌≡◌, ◌≤◌, ℕ, Bool, true, ◌&&◌, nat_lt, nat_le, filter, List, [], nat_tests, ◌∷◌, ◌++◌, All, refl}
+use Rattle.cx_role.proofs.Common.{list_all, ap, append_assoc, arith, ◌∙◌, and_from, list_all-append, filter-append, All-filter, All-head}
+use Rattle.cx_role.proofs.Common.{All-tail, Cluster, Round, Entry, MatchAnswer, entries_told, live_entries, append-nil, common_steps}
+use Rattle.cx_role.proofs.Common.{entries_since}
+use Rattle.cx_model.specs.Names.{names_entry}
 use Rattle.cx_model.specs.Leader.{count_reaching, greatest_of, held_by}
-use Rattle.cx_model.specs.Matchmaker.{entries_since}
 use Rattle.cx_phase1.specs.Counting.{are_ids}
 use Rattle.cx_leader.specs.State.{is_named}
 

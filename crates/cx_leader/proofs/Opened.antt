@@ -1,7 +1,7 @@
 -- A leader that was just opened.
-use Rattle.cx_role.proofs.Common.{◌≡◌, ◌<◌, ◌≤◌, ◌+◌, ◌^◌, ℕ, zero, suc, true, nat_lt, map, length, All, IsTrue, refl}
-use Rattle.cx_role.proofs.Common.{ap, arith, sym, ltb-true, All-nil, All-cons, Cluster, Kind, RoleId, numbers, below}
-use Rattle.cx_role.proofs.Common.{role, names_role}
+use Rattle.std.proofs.lemmas.List.Elements.{All-nil, All-cons}
+use Rattle.cx_role.proofs.Common.{◌≡◌, ◌<◌, ◌≤◌, ◌+◌, ◌^◌, ℕ, zero, suc, true, nat_lt, map, length, All, IsTrue, refl, ap, arith, sym}
+use Rattle.cx_role.proofs.Common.{ltb-true, Cluster, Kind, RoleId, numbers, below, role, names_role}
 use Rattle.cx_role.proofs.Common.kind
 use Rattle.cx_leader.specs.State.{AreHeldNumbers}
 

@@ -1,7 +1,7 @@
 -- The row of an acceptor's answer, by what the answer comes to.
-use Rattle.cx_role.proofs.Common.{◌≡◌, ◌&&◌, ℕ, Bool, true, false, List, [], ◌∷◌, ◌++◌, Some, refl, Cluster, RoleId}
-use Rattle.cx_role.proofs.Common.{Round, Entry, Vote, Promised, live_entries, is_member_of, rows_whole}
-use Rattle.cx_model.specs.Leader.{LeaderDurable, LeaderVolatile, is_promising, is_own, phase1b_row}
+use Rattle.cx_role.specs.Prelude.{◌≡◌, ◌&&◌, ℕ, Bool, true, false, List, [], ◌∷◌, ◌++◌, Some, refl, Cluster, RoleId, Round, Entry, Vote}
+use Rattle.cx_role.specs.Prelude.{Promised, live_entries, is_member_of, rows_whole, LeaderDurable, LeaderVolatile, is_promising, is_own}
+use Rattle.cx_model.specs.Leader.{phase1b_row}
 use Rattle.cx_model.specs.Plan.{has_promised, promised_by}
 use Rattle.cx_phase1.specs.Counting.{Phase1State, count_promise, counted_by}
 use Rattle.cx_phase1.specs.declared.told.Told.TheVariants.{Same, Unasked, Whole}

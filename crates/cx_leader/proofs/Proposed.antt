@@ -1,12 +1,11 @@
 -- What a leader proposed stays one value a slot.
-use Rattle.cx_role.proofs.Common.{◌≡◌, ◌≢◌, ◌≤◌, ◌<◌, ◌+◌, ◌-◌, ◌^◌, ◌==◌, ℕ, Bool, true, false, max, map, List, []}
-use Rattle.cx_role.proofs.Common.{◌∷◌, ◌++◌, length, None, Some, All, IsTrue, refl, if◌then◌else◌, ap, arith, ◌∙◌}
-use Rattle.cx_role.proofs.Common.{All-nil, All-cons, All-push, All-filter, All-head, All-tail, Placed, Value, numbers}
-use Rattle.cx_role.proofs.Common.{Plan}
+use Rattle.std.proofs.Common.{◌≢◌, ◌^◌, ◌==◌, if◌then◌else◌, ap, arith, ◌∙◌}
+use Rattle.std.proofs.lemmas.List.Elements.{All-nil, All-cons, All-push, All-filter, All-head, All-tail}
 use Rattle.std.proofs.lemmas.Bool.{or_parts, eqb-false}
+use Rattle.cx_role.specs.Prelude.{◌≡◌, ◌≤◌, ◌<◌, ◌+◌, ◌-◌, ℕ, Bool, true, false, max, map, List, [], ◌∷◌, ◌++◌, length, None, Some, All}
+use Rattle.cx_role.specs.Prelude.{IsTrue, refl, Placed, Value, numbers, without_known, placed_from}
+use Rattle.cx_model.specs.declared.states.Plan.{Plan}
 use Rattle.cx_field.specs.Fields as field
-use Rattle.cx_model.specs.Leader.{without_known}
-use Rattle.cx_model.specs.Plan.{placed_from}
 use Rattle.cx_phase1.specs.Planned.{IsPlan}
 use Rattle.cx_phase1.specs.Window.{Window, IsWindow, is_used_up, free_slot}
 use Rattle.cx_ring.specs.Ring.{RingState, raise_ring, value_at, with_value}

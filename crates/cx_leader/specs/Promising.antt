@@ -1,11 +1,10 @@
 -- What a leader knows of its first phase.
-use Rattle.std.specs.Prelude.{◌∷◌, ◌++◌}
-use Rattle.cx_role.specs.Prelude.{List, [], Option, map, option_map, Cluster, RoleId, Entry, MatchAnswer}
-use Rattle.cx_role.specs.Prelude.{Promised, live_entries, members_of, Outcome, only_word, replied}
+use Rattle.std.specs.Prelude.{◌∷◌, ◌++◌, List, [], Option, map, option_map}
+use Rattle.cx_role.specs.Prelude.{Cluster, RoleId, Entry, MatchAnswer, Promised, live_entries, members_of, Outcome, only_word, replied}
+use Rattle.cx_role.specs.Prelude.{option_map_or, LeaderVolatile, phase1a_to}
 use Rattle.cx_role.specs.Prelude.why
 use Rattle.cx_role.specs.Prelude.mode
-use Rattle.std.specs.Option.{option_map_or}
-use Rattle.cx_model.specs.Leader.{LeaderVolatile, finish, phase1a_to}
+use Rattle.cx_model.specs.Leader.{finish}
 use Rattle.cx_phase1.specs.Counting.{Phase1State, count_promise}
 use Rattle.cx_phase1.specs.declared.told.Told.{Told}
 use Rattle.cx_phase1.specs.declared.told.Told.TheVariants as told

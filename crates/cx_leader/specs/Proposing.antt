@@ -1,9 +1,8 @@
 -- What a leader proposed, as contracts see it.
-use Rattle.std.specs.Prelude.{◌≡◌, ◌≤◌, ◌<◌, ◌+◌, ◌-◌, ◌^◌, ◌∷◌, ◌++◌}
-use Rattle.cx_role.specs.Prelude.{ℕ, Bool, true, false, nat_le, max, map, filter, List, [], All, Option, None, Some}
-use Rattle.cx_role.specs.Prelude.{IsTrue, Placed, Value, Cluster, Leader, numbers, role, Plan, Entry, Letter}
-use Rattle.cx_model.specs.Leader.{are_known, propose_to}
-use Rattle.cx_model.specs.Plan.{placed_from}
+use Rattle.std.specs.Prelude.{◌≡◌, ◌≤◌, ◌<◌, ◌+◌, ◌-◌, ◌^◌, ◌∷◌, ◌++◌, ℕ, Bool, true, false, nat_le, max, map, filter, List, [], All}
+use Rattle.std.specs.Prelude.{Option, None, Some, IsTrue}
+use Rattle.cx_role.specs.Prelude.{Placed, Value, Cluster, Leader, numbers, role, Entry, Letter, are_known, propose_to, placed_from}
+use Rattle.cx_model.specs.declared.states.Plan.{Plan}
 use Rattle.cx_field.specs.Fields as field
 use Rattle.cx_phase1.specs.Window.{IsWindow, is_used_up}
 use Rattle.cx_ring.specs.Ring.{RingState}

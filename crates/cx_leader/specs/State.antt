@@ -1,14 +1,13 @@
 -- What the parts of a leader owe one another.
-use Rattle.std.specs.Prelude.{◌≡◌, ◌≤◌, ◌<◌, ◌+◌, ◌^◌, ◌==◌, ◌&&◌, ◌||◌}
-use Rattle.cx_role.specs.Prelude.{ℕ, Bool, true, not, is_some, length}
-use Rattle.cx_role.specs.Prelude.{Option, None, Some, IsTrue, List, All, list_all, option_map, Cluster, Round, role}
-use Rattle.cx_role.specs.Prelude.{Entry, MatchAnswer, live_entries, names_entry, Running}
+use Rattle.std.specs.Prelude.{◌≡◌, ◌≤◌, ◌<◌, ◌+◌, ◌^◌, ◌==◌, ◌&&◌, ◌||◌, ℕ, Bool, true, not, is_some, length, Option, None, Some, IsTrue}
+use Rattle.std.specs.Prelude.{List, All, option_map}
+use Rattle.cx_model.specs.Prelude.{list_all, Cluster, Round, role, Entry, live_entries, names_entry, Running, is_off, LeaderDurable}
+use Rattle.cx_model.specs.Prelude.{LeaderVolatile, is_idle, is_matching, is_promising}
+use Rattle.cx_model.specs.declared.states.MatchAnswer.{MatchAnswer}
 use Rattle.cx_role.specs.Prelude.kind
 use Rattle.cx_collect.specs.Collecting.{CollectorState}
 use Rattle.cx_field.specs.Fields as field
 use Rattle.cx_model.specs.declared.states.Mode.{Mode}
-use Rattle.cx_model.specs.Collection.{is_off}
-use Rattle.cx_model.specs.Leader.{LeaderDurable, LeaderVolatile, is_idle, is_matching, is_promising}
 use Rattle.cx_phase1.specs.Counting.{Phase1State}
 use Rattle.cx_leader.specs.Promising.{asked_entries, promises_of}
 use Rattle.cx_leader.specs.Proposing.{ProposalsState}

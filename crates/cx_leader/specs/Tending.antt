@@ -1,9 +1,7 @@
 -- What a node that tends its roles asks of a leader.
-use Rattle.std.specs.Prelude.{◌&&◌}
-use Rattle.cx_role.specs.Prelude.{Bool, not, nat_lt, nat_le, filter, length, is_some, Cluster}
-use Rattle.cx_model.specs.Collection.{is_off, is_retired}
-use Rattle.cx_model.specs.Leader.{LeaderDurable, LeaderVolatile, are_known, is_leading, is_settled}
-use Rattle.cx_model.specs.Matched.{enough}
+use Rattle.std.specs.Prelude.{◌&&◌, Bool, not, nat_lt, nat_le, filter, length, is_some}
+use Rattle.cx_model.specs.Prelude.{Cluster, is_off, is_retired, LeaderDurable, LeaderVolatile, is_leading, is_settled, enough}
+use Rattle.cx_model.specs.Leader.{are_known}
 
 -- whether it never began a round
 abbrev pub is_new_leader : LeaderDurable → Bool

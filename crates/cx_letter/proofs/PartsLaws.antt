@@ -1,19 +1,14 @@
 -- The parts of a datagram that fit.
-use Rattle.std.proofs.Common.{◌≡◌, ℕ, Bool, true, false, ◌&&◌, ◌||◌, eqb, refl, sym, ap, ◌∙◌, IsTrue}
-use Rattle.std.proofs.lemmas.Bool.{eqb-true}
-use Rattle.cx_base.specs.Role.{role, code_of, kind_of}
-use Rattle.cx_base.specs.declared.role.Kind.{Kind}
-use Rattle.cx_base.specs.declared.role.Kind.TheVariants.{Client}
-use Rattle.cx_base.specs.declared.role.RoleId.{RoleId}
-use Rattle.cx_wire.specs.Format.{u16}
+use Rattle.cx_base.proofs.Common.{sym, ap, ◌∙◌, eqb-true}
+use Rattle.cx_letter.specs.Prelude.{◌≡◌, ℕ, Bool, true, false, ◌&&◌, ◌||◌, eqb, refl, IsTrue, role, code_of, kind_of, Kind, Client, RoleId}
+use Rattle.cx_letter.specs.Prelude.{u16, slot, mark, at, seq, round, round0, grid, name, reply, in_window, entries, joined, set}
+use Rattle.cx_letter.specs.Prelude.{accepted_set, answers, found, reason, token, body_shape, Letter, letter, senders, receivers, is_listed}
+use Rattle.cx_letter.specs.Prelude.{PartsFit}
 use Rattle.cx_wire.proofs.Laws.{both}
-use Rattle.cx_field.specs.Fields.{slot, mark, at, seq, round, round0, grid, name, command, commands, value, reply, in_window, entries}
-use Rattle.cx_field.specs.Fields.{joined, set, accepted_set, votes, answers, found, reason, token, asking}
-use Rattle.cx_letter.specs.Messages.{body_shape, answer, match_b, match_nack, match_read_ack, nack, phase1b, phase2a, pre_read}
-use Rattle.cx_letter.specs.Messages.{pre_read_ack, propose, read_answer, read_key, read_req, results, round_slot, sess_read, slot_value}
-use Rattle.cx_letter.specs.Messages.{stop_b}
-use Rattle.cx_letter.specs.Letter.{Letter, letter, senders, receivers, is_listed, fits}
-use Rattle.cx_letter.specs.LetterParts.{PartsFit}
+use Rattle.cx_field.specs.Fields.{command, commands, value, votes, asking}
+use Rattle.cx_letter.specs.Messages.{answer, match_b, match_nack, match_read_ack, nack, phase1b, phase2a, pre_read, pre_read_ack, propose}
+use Rattle.cx_letter.specs.Messages.{read_answer, read_key, read_req, results, round_slot, sess_read, slot_value, stop_b}
+use Rattle.cx_letter.specs.Letter.{fits}
 use Rattle.cx_letter.specs.declared.message.Msg.{Msg}
 use Rattle.cx_letter.specs.declared.message.Msg.TheVariants.{Submit, Batch, Leads, MatchA, MatchB, MatchNack, Phase1A, Phase1B, Nack}
 use Rattle.cx_letter.specs.declared.message.Msg.TheVariants.{Propose, Phase2A, Phase2B, Chosen, ChosenIn, Results, Answer, Held, Fetch}

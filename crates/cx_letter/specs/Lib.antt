@@ -3,4 +3,5 @@ pub mod Letter
 pub mod LetterParts
 pub mod Messages
 pub mod Names
+pub mod Prelude
 pub mod Records

@@ -1,11 +1,10 @@
 -- Entries in rising order.
-use Rattle.cx_role.proofs.Common.{◌≡◌, ◌≤◌, ◌<◌, ◌+◌, not, Bool, true, false, filter, List, [], ◌∷◌, length}
-use Rattle.cx_role.proofs.Common.{refl, list_all, list_any, arith, nat_tests, Round, Shape, is_before}
-use Rattle.cx_role.proofs.Common.{same_round, Entry, entries_filter, by_test}
+use Rattle.cx_role.proofs.Common.{◌≡◌, ◌≤◌, ◌<◌, ◌+◌, not, Bool, true, false, filter, List, [], ◌∷◌, length, refl, list_all, list_any}
+use Rattle.cx_role.proofs.Common.{arith, nat_tests, Round, Shape, is_before, same_round, Entry, by_test, entries_since, has_round}
+use Rattle.cx_field.proofs.ListLaws.{entries_filter, entries_apart, entries_cons}
 use Rattle.cx_field.specs.Fields.{round, entries}
 use Rattle.cx_field.specs.Ranges.{entry_in_range}
-use Rattle.cx_field.proofs.ListLaws.{entries_apart, entries_cons}
-use Rattle.cx_model.specs.Matchmaker.{entry, entries_since, has_round, greatest, with_own}
+use Rattle.cx_model.specs.Matchmaker.{entry, greatest, with_own}
 
 -- entries that a datagram may have are at most 255
 pub at_most_255 : (es : List Entry) → entries.fits es ≡ true → length es ≤ 255

@@ -1,14 +1,12 @@
 -- A matchmaker keeps what it may keep.
-use Rattle.std.specs.Prelude.{bytes_eq}
-use Rattle.cx_role.proofs.Common.{◌≡◌, ℕ, ◌&&◌, true, false, nat_le, nat_lt, length, refl, list_all, list_any, arith, and_parts}
+use Rattle.cx_role.proofs.Common.{bytes_eq, ◌≡◌, ℕ, ◌&&◌, true, false, nat_le, nat_lt, length, refl, list_all, list_any, arith, and_parts}
 use Rattle.cx_role.proofs.Common.{List, Option, None, Some, nat_tests, Cluster, RoleId, Round, Shape, same_role, same_round, is_before}
-use Rattle.cx_role.proofs.Common.{is_in, Letter, Take, Entry, Msg, names, names_ballot, names_body, names_entry, names_grid}
-use Rattle.cx_role.proofs.Common.{names_round, names_set, Outcome, by_test, IsFit}
+use Rattle.cx_role.proofs.Common.{is_in, Letter, Take, Entry, Msg, names, names_round, Outcome, by_test, IsFit, matchmaker_rules, has_round}
+use Rattle.cx_model.specs.Names.{names_ballot, names_body, names_entry, names_grid, names_set}
 use Rattle.cx_role.proofs.Common.msg
 use Rattle.cx_role.proofs.Named.{body_named}
-use Rattle.cx_model.specs.Matchmaker.{MatchmakerDurable, matchmaker_rules, matchmaker_row, matchmaker_takes, at_work, in_set, is_booted}
-use Rattle.cx_model.specs.Matchmaker.{is_stopped, set_of}
-use Rattle.cx_model.specs.Matchmaker.{garbage_a_row, match_a_row, has_round, stop_a_row, next_a_row, boot_in, boot_a_row}
+use Rattle.cx_model.specs.Matchmaker.{MatchmakerDurable, matchmaker_row, matchmaker_takes, at_work, in_set, is_booted, is_stopped, set_of}
+use Rattle.cx_model.specs.Matchmaker.{garbage_a_row, match_a_row, stop_a_row, next_a_row, boot_in, boot_a_row}
 use Rattle.cx_match.proofs.EntryLaws.{all_before, behind}
 
 abbrev Fits : Cluster → RoleId → MatchmakerDurable → Outcome (Unit {0}) → Type 0

@@ -1,15 +1,15 @@
 -- A matchmaker stays sound.
-use Rattle.cx_role.proofs.Common.{◌≡◌, ◌≤◌, ◌<◌, ℕ, not, ◌&&◌, ◌||◌, Bool, true, false, nat_le, nat_lt, [], ◌∷◌, ◌++◌}
-use Rattle.cx_role.proofs.Common.{length, refl, list_all, arith, length-append, and_parts, nat_tests, Cluster}
-use Rattle.cx_role.proofs.Common.{Matchmaker, RoleId, Round, Shape, role, is_before, no_round, Record, Entry}
-use Rattle.cx_role.proofs.Common.{List, None, same_round, names_set}
+use Rattle.cx_role.specs.Prelude.{Matchmaker, names_set, MatchmakerDurable}
+use Rattle.cx_role.proofs.Common.{◌≡◌, ◌≤◌, ◌<◌, ℕ, not, ◌&&◌, ◌||◌, Bool, true, false, nat_le, nat_lt, [], ◌∷◌, ◌++◌, length, refl}
+use Rattle.cx_role.proofs.Common.{list_all, arith, length-append, and_parts, nat_tests, Cluster, RoleId, Round, Shape, role, is_before}
+use Rattle.cx_role.proofs.Common.{no_round, Record, Entry, List, None, same_round, fits, entries_since, has_round}
 use Rattle.cx_role.proofs.Common.kept
 use Rattle.cx_role.proofs.Ranges.{real_or_none}
 use Rattle.cx_wire.specs.Format.{u16, u32}
 use Rattle.cx_field.specs.Fields.{goes_with, entries, grid, joined, round, round0, set}
-use Rattle.cx_letter.specs.Records.{fits, kept_record}
+use Rattle.cx_letter.specs.Records.{kept_record}
 use Rattle.cx_field.proofs.ListLaws.{entries_fit, entries_snoc}
-use Rattle.cx_model.specs.Matchmaker.{MatchmakerDurable, matchmaker_after, matchmaker_fits, entry, entries_since, has_round}
+use Rattle.cx_model.specs.Matchmaker.{matchmaker_after, matchmaker_fits, entry}
 use Rattle.cx_match.specs.Sound.{IsSound, matchmaker_durable}
 use Rattle.cx_match.proofs.EntryLaws.{at_most_255, with_own_fits, own_round, from_fewer, filter_fewer}
 

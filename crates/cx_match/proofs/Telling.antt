@@ -1,8 +1,7 @@
 -- What a matchmaker sends to a leader whose round it has recorded.
-use Rattle.cx_role.proofs.Common.{◌≡◌, List, [], ◌∷◌, ◌++◌, ap, sym, ◌∙◌, role, Entry, Leader, Letter, Matchmaker, RoleId, Round}
+use Rattle.std.proofs.Common.{ap, sym, ◌∙◌}
+use Rattle.cx_role.specs.Prelude.{◌≡◌, List, [], ◌∷◌, ◌++◌, role, Entry, Leader, Letter, Matchmaker, RoleId, Round, letter, entries_before}
 use Rattle.cx_role.proofs.Common.msg
-use Rattle.cx_letter.specs.Letter.{letter}
-use Rattle.cx_model.specs.Matchmaker.{entries_before}
 
 -- its answer alone, with the earlier entries
 pub one_told : (me from : RoleId) (round w : Round) (es seen told : List Entry) (begun before after : List Letter) (d : Letter)

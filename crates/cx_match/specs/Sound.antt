@@ -1,8 +1,7 @@
 -- What is so of every matchmaker.
-use Rattle.std.specs.Prelude.{◌≡◌, ◌||◌}
-use Rattle.cx_role.specs.Prelude.{ℕ, nat_le, length, IsTrue, List, Option, Entry, Matchmaker, RoleId, Round, role}
-use Rattle.cx_field.specs.Fields.{goes_with, round0, entries}
-use Rattle.cx_model.specs.Matchmaker.{MatchmakerDurable, has_round}
+use Rattle.std.specs.Prelude.{◌≡◌, ◌||◌, ℕ, nat_le, length, IsTrue, List, Option}
+use Rattle.cx_role.specs.Prelude.{Entry, Matchmaker, RoleId, Round, role, round0, entries, MatchmakerDurable, has_round}
+use Rattle.cx_field.specs.Fields.{goes_with}
 
 -- what a matchmaker's records left, by the parts that it holds
 abbrev pub matchmaker_durable : Round → List Entry → Option (List ℕ) → Round → Round → List ℕ → MatchmakerDurable

@@ -1,20 +1,11 @@
 -- The acceptor's rows: it promises rounds and votes for values (VLDB 2021, with the chosen watermark of this project).
 use Rattle.std.specs.Prelude.{ℕ, ◌+◌, ◌==◌, Bool, false, not, ◌&&◌, ◌||◌, nat_lt, nat_le, max, filter, if◌then◌else◌, List, [], ◌∷◌, Option}
 use Rattle.std.specs.Prelude.{None, Some, true}
-use Rattle.cx_base.specs.declared.cluster.Cluster.{Cluster}
-use Rattle.cx_base.specs.declared.command.Value.{Value}
-use Rattle.cx_base.specs.declared.role.RoleId.{RoleId}
-use Rattle.cx_base.specs.declared.role.Kind.TheVariants.{Acceptor, Leader}
-use Rattle.cx_base.specs.declared.round.Round.{Round}
-use Rattle.cx_base.specs.declared.why.Why.TheVariants.{Asked, Idle, Informed, Nack, Past, Promised, Same, Stranger, Voted}
-use Rattle.cx_base.specs.Role.{same_role, role}
-use Rattle.cx_base.specs.Round.{is_before, same_round, no_round}
-use Rattle.cx_letter.specs.Letter.{Letter, letter}
-use Rattle.cx_field.specs.Fields.{in_window}
+use Rattle.cx_letter.specs.Prelude.{Cluster, Value, RoleId, Acceptor, Leader, Round, Idle, Past, Same, Stranger, same_role, role, is_before}
+use Rattle.cx_letter.specs.Prelude.{same_round, no_round, Letter, letter, in_window, Asking, Vote}
+use Rattle.cx_base.specs.declared.why.Why.TheVariants.{Asked, Informed, Nack, Promised, Voted}
 use Rattle.cx_letter.specs.declared.input.Input.{Input}
 use Rattle.cx_letter.specs.declared.input.Input.TheVariants.{Take, Tick, Order}
-use Rattle.cx_field.specs.declared.parts.Asking.{Asking}
-use Rattle.cx_field.specs.declared.parts.Vote.{Vote}
 use Rattle.cx_letter.specs.declared.message.Msg.{Msg}
 use Rattle.cx_letter.specs.declared.message.Msg.TheVariants as msg
 use Rattle.cx_letter.specs.declared.kept.Record.{Record}

@@ -1,10 +1,8 @@
 -- A leader goes on with another grid while a value has no answer yet: the next round asks no acceptor, and proposes the same value to the
 -- new grid. The vote of the earlier round comes late and counts no more.
 use Rattle.std.specs.Prelude.{◌++◌, true, List, [], ◌∷◌}
-use Rattle.cx_base.specs.declared.round.Round.{Round}
+use Rattle.cx_letter.specs.Prelude.{Round, no_round, letter}
 use Rattle.cx_base.specs.declared.why.Why.TheVariants as why
-use Rattle.cx_base.specs.Round.{no_round}
-use Rattle.cx_letter.specs.Letter.{letter}
 use Rattle.cx_letter.specs.declared.kept.Record.TheVariants as kept
 use Rattle.cx_letter.specs.declared.message.Msg.TheVariants as msg
 use Rattle.cx_model.specs.Examples.{Line, IsRun, two_acceptors, batcher, leader, proxy, acceptor, matchmaker, replica, make_round, first}

@@ -1,10 +1,8 @@
 -- A leader that crashed while it went on with another grid has given up that round.
 use Rattle.std.specs.Prelude.{List, [], ◌∷◌}
+use Rattle.cx_letter.specs.Prelude.{Round, no_round, letter}
 use Rattle.cx_base.specs.declared.event.Event.TheVariants as event
-use Rattle.cx_base.specs.declared.round.Round.{Round}
 use Rattle.cx_base.specs.declared.why.Why.TheVariants as why
-use Rattle.cx_base.specs.Round.{no_round}
-use Rattle.cx_letter.specs.Letter.{letter}
 use Rattle.cx_letter.specs.declared.kept.Record.TheVariants as kept
 use Rattle.cx_letter.specs.declared.message.Msg.TheVariants as msg
 use Rattle.cx_model.specs.Examples.{Line, IsRun, two_leaders, batcher, leader, matchmaker, make_round, first, single, lead, change, deliver}

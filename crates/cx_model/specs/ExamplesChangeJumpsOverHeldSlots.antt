@@ -2,14 +2,9 @@
 -- next round proposes nothing there, and gives a batch the slot after it. The acceptor has promised the later round.
 use Rattle.std.specs.Prelude.{true, List, [], ◌∷◌, codes}
 use Rattle.std.proofs.Common.{lit≤}
-use Rattle.cx_base.specs.declared.cluster.Cluster.{Cluster}
-use Rattle.cx_base.specs.declared.command.Command.{Command}
-use Rattle.cx_base.specs.declared.command.Reply.TheVariants.{Okay}
+use Rattle.cx_letter.specs.Prelude.{Cluster, Command, Okay, Round, no_round, letter}
 use Rattle.cx_base.specs.declared.event.Event.TheVariants as event
-use Rattle.cx_base.specs.declared.round.Round.{Round}
 use Rattle.cx_base.specs.declared.why.Why.TheVariants as why
-use Rattle.cx_base.specs.Round.{no_round}
-use Rattle.cx_letter.specs.Letter.{letter}
 use Rattle.cx_letter.specs.declared.kept.Record.TheVariants as kept
 use Rattle.cx_letter.specs.declared.message.Msg.TheVariants as msg
 use Rattle.cx_model.specs.Examples.{Line, IsRun, two_leaders, client, batcher, leader, proxy, acceptor, matchmaker, replica, unbatcher}

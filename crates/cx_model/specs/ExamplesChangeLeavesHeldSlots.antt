@@ -1,12 +1,9 @@
 -- While a leader goes on with another grid it hears that its first slot is held: the next round proposes from the second one on. It goes on
 -- once more, and proposes what both of its rounds before proposed there.
 use Rattle.std.specs.Prelude.{◌++◌, true, List, [], ◌∷◌, codes}
-use Rattle.cx_base.specs.declared.command.Command.{Command}
+use Rattle.cx_letter.specs.Prelude.{Command, Round, no_round, letter}
 use Rattle.cx_base.specs.declared.event.Event.TheVariants as event
-use Rattle.cx_base.specs.declared.round.Round.{Round}
 use Rattle.cx_base.specs.declared.why.Why.TheVariants as why
-use Rattle.cx_base.specs.Round.{no_round}
-use Rattle.cx_letter.specs.Letter.{letter}
 use Rattle.cx_letter.specs.declared.kept.Record.TheVariants as kept
 use Rattle.cx_letter.specs.declared.message.Msg.TheVariants as msg
 use Rattle.cx_model.specs.Examples.{Line, IsRun, two_acceptors, client, batcher, leader, proxy, matchmaker, replica, make_round, first}

@@ -1,10 +1,8 @@
 -- A leader knew its value to be chosen, and goes on with another grid. It proposes the value again, and retires its round before only when
 -- it knows the value to be chosen in the new grid too.
 use Rattle.std.specs.Prelude.{◌++◌, true, List, [], ◌∷◌}
-use Rattle.cx_base.specs.declared.round.Round.{Round}
+use Rattle.cx_letter.specs.Prelude.{Round, no_round, letter}
 use Rattle.cx_base.specs.declared.why.Why.TheVariants as why
-use Rattle.cx_base.specs.Round.{no_round}
-use Rattle.cx_letter.specs.Letter.{letter}
 use Rattle.cx_letter.specs.declared.kept.Record.TheVariants as kept
 use Rattle.cx_letter.specs.declared.message.Msg.TheVariants as msg
 use Rattle.cx_model.specs.Examples.{Line, IsRun, two_acceptors, batcher, leader, proxy, acceptor, matchmaker, replica, make_round, first}

@@ -1,10 +1,9 @@
 -- A reader crashes inside the append of its turn. Where the turn was lost, nothing was asked under it, and it is the next one; where it was
 -- kept it is used up, though nobody was asked. A tick asks again under the same turn.
 use Rattle.std.specs.Prelude.{List, [], ◌∷◌, codes}
-use Rattle.cx_base.specs.declared.event.Cut.TheVariants.{Torn, Kept}
+use Rattle.cx_letter.specs.Prelude.{Torn, Kept, letter}
 use Rattle.cx_base.specs.declared.event.Event.TheVariants as event
 use Rattle.cx_base.specs.declared.why.Why.TheVariants as why
-use Rattle.cx_letter.specs.Letter.{letter}
 use Rattle.cx_letter.specs.declared.kept.Record.TheVariants as kept
 use Rattle.cx_letter.specs.declared.message.Msg.TheVariants as msg
 use Rattle.cx_model.specs.Examples.{Line, IsRun, one_of_each, client, matchmaker, reader, deliver, final_state, hold, ◌⇒◌, ◌keeping◌by◌}

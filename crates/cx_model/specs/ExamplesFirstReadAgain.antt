@@ -1,9 +1,8 @@
 -- The first read of the running batch is asked for again: the batch begins anew, under the next turn and with the read that waited. Answers
 -- to the turn before do not count. Another running read that is asked for again changes nothing, and one that waits waits on.
 use Rattle.std.specs.Prelude.{◌++◌, List, [], ◌∷◌, codes}
+use Rattle.cx_letter.specs.Prelude.{no_round, letter}
 use Rattle.cx_base.specs.declared.why.Why.TheVariants as why
-use Rattle.cx_base.specs.Round.{no_round}
-use Rattle.cx_letter.specs.Letter.{letter}
 use Rattle.cx_letter.specs.declared.kept.Record.TheVariants as kept
 use Rattle.cx_letter.specs.declared.message.Msg.TheVariants as msg
 use Rattle.cx_model.specs.Examples.{Line, IsRun, matchmaker, replica, reader, deliver, final_state, hold, ◌⇒◌, ◌keeping◌by◌, ◌sending◌}

@@ -1,11 +1,9 @@
 -- Two reads come while a batch of an earlier one runs: they wait. When it is done, one asking serves both.
 use Rattle.std.specs.Prelude.{◌++◌, List, [], ◌∷◌, codes, None}
 use Rattle.std.proofs.Common.{lit≤}
-use Rattle.cx_base.specs.declared.cluster.Cluster.{Cluster}
+use Rattle.cx_letter.specs.Prelude.{Cluster, no_round, letter}
 use Rattle.cx_base.specs.declared.event.Event.TheVariants as event
 use Rattle.cx_base.specs.declared.why.Why.TheVariants as why
-use Rattle.cx_base.specs.Round.{no_round}
-use Rattle.cx_letter.specs.Letter.{letter}
 use Rattle.cx_letter.specs.declared.kept.Record.TheVariants as kept
 use Rattle.cx_letter.specs.declared.message.Msg.TheVariants as msg
 use Rattle.cx_model.specs.Examples.{Line, IsRun, one_of_each, client, matchmaker, replica, reader, deliver, final_state, hold, ◌⇒◌}

@@ -1,12 +1,9 @@
 -- A client's second command is chosen before its first, and tells that the client isn't done with the first: both act. Later requests go
 -- out by the floors that were told: one above all of them, though it is below the greatest number, and one again, whatever its floor.
 use Rattle.std.specs.Prelude.{true, List, [], ◌∷◌, codes}
-use Rattle.cx_base.specs.declared.command.Command.{Command}
-use Rattle.cx_base.specs.declared.command.Reply.TheVariants.{Okay}
+use Rattle.cx_letter.specs.Prelude.{Command, Okay, no_round, letter}
 use Rattle.cx_base.specs.declared.event.Event.TheVariants as event
 use Rattle.cx_base.specs.declared.why.Why.TheVariants as why
-use Rattle.cx_base.specs.Round.{no_round}
-use Rattle.cx_letter.specs.Letter.{letter}
 use Rattle.cx_letter.specs.declared.kept.Record.TheVariants as kept
 use Rattle.cx_letter.specs.declared.message.Msg.TheVariants as msg
 use Rattle.cx_model.specs.Examples.{Line, IsRun, one_of_each, client, batcher, leader, proxy, acceptor, matchmaker, replica, unbatcher}

@@ -2,11 +2,9 @@
 -- their answers alone. An answer that was late, and one of a matchmaker that never heard that it was replaced, count no more.
 use Rattle.std.specs.Prelude.{ℕ, List, [], ◌∷◌, codes}
 use Rattle.std.proofs.Common.{lit≤}
-use Rattle.cx_base.specs.declared.cluster.Cluster.{Cluster}
+use Rattle.cx_letter.specs.Prelude.{Cluster, no_round, letter}
 use Rattle.cx_base.specs.declared.event.Event.TheVariants as event
 use Rattle.cx_base.specs.declared.why.Why.TheVariants as why
-use Rattle.cx_base.specs.Round.{no_round}
-use Rattle.cx_letter.specs.Letter.{letter}
 use Rattle.cx_letter.specs.declared.kept.Record.TheVariants as kept
 use Rattle.cx_letter.specs.declared.message.Msg.TheVariants as msg
 use Rattle.cx_model.specs.Examples.{Line, IsRun, one_of_each, client, leader, matchmaker, replica, reader, replacer, first, replace}

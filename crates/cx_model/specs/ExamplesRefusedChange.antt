@@ -1,11 +1,9 @@
 -- A leader goes on with another grid, and the matchmaker refuses: a later round is recorded. The leader gives up, and can only lead anew,
 -- in a round that asks the acceptors.
 use Rattle.std.specs.Prelude.{◌++◌, true, List, [], ◌∷◌}
-use Rattle.cx_base.specs.declared.round.Round.{Round}
+use Rattle.cx_letter.specs.Prelude.{Round, no_round, letter}
 use Rattle.cx_base.specs.declared.why.Why.TheVariants as why
-use Rattle.cx_base.specs.Round.{no_round}
 use Rattle.cx_field.specs.declared.parts.NackReason.TheVariants as nack
-use Rattle.cx_letter.specs.Letter.{letter}
 use Rattle.cx_letter.specs.declared.kept.Record.TheVariants as kept
 use Rattle.cx_letter.specs.declared.message.Msg.TheVariants as msg
 use Rattle.cx_model.specs.Examples.{Line, IsRun, two_leaders, batcher, leader, proxy, acceptor, matchmaker, make_round, first, single}

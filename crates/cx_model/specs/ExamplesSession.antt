@@ -1,10 +1,9 @@
 -- A client asks a replica in a session. What it heard before is the mark: a replica that holds less defers the request until it has
 -- executed as much. Another key under the same number is stale. An answer whose delivery came too early, before it was sent, is not heard.
 use Rattle.std.specs.Prelude.{◌++◌, true, List, [], ◌∷◌, codes, None, Some}
-use Rattle.cx_base.specs.declared.command.Reply.TheVariants.{Okay}
+use Rattle.cx_letter.specs.Prelude.{Okay, letter}
 use Rattle.cx_base.specs.declared.event.Event.TheVariants as event
 use Rattle.cx_base.specs.declared.why.Why.TheVariants as why
-use Rattle.cx_letter.specs.Letter.{letter}
 use Rattle.cx_letter.specs.declared.kept.Record.TheVariants as kept
 use Rattle.cx_letter.specs.declared.message.Msg.TheVariants as msg
 use Rattle.cx_model.specs.Examples.{Line, IsRun, client, replica, unbatcher, put_a, batch_of, deliver, final_state, hold, ◌⇒◌, ◌keeping◌by◌}

@@ -2,13 +2,9 @@
 -- It finds nothing more to forget, also when it is opened again, and goes on with the next command as before. If it crashes inside the
 -- renewal its store has the old list, and it forgets the value later, or the new one.
 use Rattle.std.specs.Prelude.{◌≡◌, ◌++◌, true, List, [], ◌∷◌, codes}
-use Rattle.cx_base.specs.declared.command.Command.{Command}
-use Rattle.cx_base.specs.declared.command.Note.{Note}
-use Rattle.cx_base.specs.declared.command.Reply.TheVariants.{Okay, Len}
-use Rattle.cx_base.specs.declared.event.Cut.TheVariants.{Whole, Torn, Kept}
+use Rattle.cx_letter.specs.Prelude.{Command, Note, Okay, Len, Whole, Torn, Kept, letter}
 use Rattle.cx_base.specs.declared.event.Event.TheVariants as event
 use Rattle.cx_base.specs.declared.why.Why.TheVariants as why
-use Rattle.cx_letter.specs.Letter.{letter}
 use Rattle.cx_letter.specs.declared.kept.Record.{Record}
 use Rattle.cx_letter.specs.declared.kept.Record.TheVariants as kept
 use Rattle.cx_letter.specs.declared.message.Msg.TheVariants as msg

@@ -1,11 +1,9 @@
 -- Of two replicas the first forgets its value only when the other one, which may ask it for that, has told that it goes on behind it. What
 -- the other one asked for before comes late, and is answered no more.
 use Rattle.std.specs.Prelude.{◌++◌, true, List, [], ◌∷◌, codes}
-use Rattle.cx_base.specs.declared.command.Reply.TheVariants.{Okay}
-use Rattle.cx_base.specs.declared.event.Cut.TheVariants.{Whole}
+use Rattle.cx_letter.specs.Prelude.{Okay, Whole, letter}
 use Rattle.cx_base.specs.declared.event.Event.TheVariants as event
 use Rattle.cx_base.specs.declared.why.Why.TheVariants as why
-use Rattle.cx_letter.specs.Letter.{letter}
 use Rattle.cx_letter.specs.declared.kept.Record.TheVariants as kept
 use Rattle.cx_letter.specs.declared.message.Msg.TheVariants as msg
 use Rattle.cx_model.specs.Examples.{Line, IsRun, leader, proxy, replica, unbatcher, first, put_a, batch_of, answered, deliver, final_state}

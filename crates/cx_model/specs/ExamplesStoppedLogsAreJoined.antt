@@ -3,11 +3,8 @@
 -- answers alone. The member that hasn't begun answers nothing.
 use Rattle.std.specs.Prelude.{ℕ, List, [], ◌∷◌}
 use Rattle.std.proofs.Common.{lit≤}
-use Rattle.cx_base.specs.declared.cluster.Cluster.{Cluster}
-use Rattle.cx_base.specs.declared.round.Round.{Round}
+use Rattle.cx_letter.specs.Prelude.{Cluster, Round, no_round, letter}
 use Rattle.cx_base.specs.declared.why.Why.TheVariants as why
-use Rattle.cx_base.specs.Round.{no_round}
-use Rattle.cx_letter.specs.Letter.{letter}
 use Rattle.cx_letter.specs.declared.kept.Record.TheVariants as kept
 use Rattle.cx_letter.specs.declared.message.Msg.TheVariants as msg
 use Rattle.cx_model.specs.Examples.{Line, IsRun, one_of_each, batcher, leader, acceptor, matchmaker, reader, replacer, make_round, first}

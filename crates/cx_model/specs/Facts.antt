@@ -2,24 +2,10 @@
 -- true once they are. Nothing of them is proved here. The laws keep them, with what must be added so that a step keeps them.
 use Rattle.std.specs.Prelude.{◌≡◌, ℕ, ◌+◌, ◌<◌, ◌≤◌, Bool, true, false, not, ◌&&◌, ◌||◌, ◌⊎◌, filter, List, ◌++◌, length, slice_get, Option}
 use Rattle.std.specs.Prelude.{None, Some}
-use Rattle.std.specs.List.{list_any}
-use Rattle.cx_base.specs.declared.cluster.Cluster.{Cluster}
-use Rattle.cx_base.specs.declared.command.Command.{Command}
-use Rattle.cx_base.specs.declared.command.Placed.{Placed}
-use Rattle.cx_base.specs.declared.command.Value.{Value}
-use Rattle.cx_base.specs.declared.event.Event.{Event}
+use Rattle.cx_letter.specs.Prelude.{list_any, Cluster, Command, Placed, Value, Event, RoleId, Round, Shape, role, is_before, same_round}
+use Rattle.cx_letter.specs.Prelude.{no_round, Asking, Entry, Token, Vote, Letter, letter}
 use Rattle.cx_base.specs.declared.role.Kind.TheVariants as kind
-use Rattle.cx_base.specs.declared.role.RoleId.{RoleId}
-use Rattle.cx_base.specs.declared.round.Round.{Round}
-use Rattle.cx_base.specs.Grid.{Shape}
-use Rattle.cx_base.specs.Role.{role}
-use Rattle.cx_base.specs.Round.{is_before, same_round, no_round}
-use Rattle.cx_field.specs.declared.parts.Asking.{Asking}
-use Rattle.cx_field.specs.declared.parts.Entry.{Entry}
-use Rattle.cx_field.specs.declared.parts.Token.{Token}
-use Rattle.cx_field.specs.declared.parts.Vote.{Vote}
 use Rattle.cx_grid.specs.Quorum.{column_of}
-use Rattle.cx_letter.specs.Letter.{Letter, letter}
 use Rattle.cx_letter.specs.declared.input.KeptRecord.{KeptRecord}
 use Rattle.cx_letter.specs.declared.input.Written.TheVariants as written
 use Rattle.cx_letter.specs.declared.kept.Record.{Record}

@@ -1,29 +1,15 @@
 -- The leader's rows: it begins rounds and retires the earlier ones (JSys 2021), and gives each batch a slot while it leads (VLDB 2021).
 use Rattle.std.specs.Prelude.{ℕ, ◌+◌, ◌-◌, ◌%◌, ◌==◌, Bool, true, false, not, ◌&&◌, ◌||◌, nat_lt, nat_le, max, map, filter, if◌then◌else◌}
 use Rattle.std.specs.Prelude.{List, [], ◌∷◌, ◌++◌, length, Option, None, Some, slice_index_or, slice_set}
-use Rattle.std.specs.List.{list_all}
-use Rattle.cx_base.specs.declared.cluster.Cluster.{Cluster}
-use Rattle.cx_base.specs.declared.command.Command.{Command}
-use Rattle.cx_base.specs.declared.command.Placed.{Placed}
+use Rattle.cx_letter.specs.Prelude.{list_all, Cluster, Command, Placed, Lead, Change, Collect, Replace, RoleId, Acceptor, Batcher, Leader}
+use Rattle.cx_letter.specs.Prelude.{Matchmaker, Proxy, Round, is_above, Shape, is_in, below, numbers, same_role, role, is_before}
+use Rattle.cx_letter.specs.Prelude.{same_round, no_round, lead_after, change_after, Letter, letter, Entry, NackReason, Vote}
 use Rattle.cx_base.specs.declared.command.Value.TheVariants.{Batch}
 use Rattle.cx_base.specs.declared.event.Order.{Order as OrderOf}
-use Rattle.cx_base.specs.declared.event.Order.TheVariants.{Lead, Change, Collect, Replace}
-use Rattle.cx_base.specs.declared.role.RoleId.{RoleId}
-use Rattle.cx_base.specs.declared.role.Kind.TheVariants.{Acceptor, Batcher, Leader, Matchmaker, Proxy}
-use Rattle.cx_base.specs.declared.round.Round.{Round}
 use Rattle.cx_base.specs.declared.why.Why.TheVariants as why
-use Rattle.cx_base.specs.Sets.{is_above}
-use Rattle.cx_base.specs.Grid.{Shape, is_in}
-use Rattle.cx_base.specs.Lists.{below, numbers}
-use Rattle.cx_base.specs.Role.{same_role, role}
-use Rattle.cx_base.specs.Round.{is_before, same_round, no_round, lead_after, change_after}
-use Rattle.cx_letter.specs.Letter.{Letter, letter}
 use Rattle.cx_letter.specs.declared.input.Input.{Input}
 use Rattle.cx_letter.specs.declared.input.Input.TheVariants.{Take, Tick, Order}
-use Rattle.cx_field.specs.declared.parts.Entry.{Entry}
-use Rattle.cx_field.specs.declared.parts.NackReason.{NackReason}
 use Rattle.cx_field.specs.declared.parts.NackReason.TheVariants as nack
-use Rattle.cx_field.specs.declared.parts.Vote.{Vote}
 use Rattle.cx_letter.specs.declared.message.Msg.{Msg}
 use Rattle.cx_letter.specs.declared.message.Msg.TheVariants as msg
 use Rattle.cx_letter.specs.declared.kept.Record.{Record}

@@ -2,25 +2,14 @@
 -- are this project's own).
 use Rattle.std.specs.Prelude.{ℕ, ◌+◌, ◌*◌, ◌-◌, bytes_eq, Bool, true, false, not, ◌&&◌, nat_lt, nat_le, filter, if◌then◌else◌, List, []}
 use Rattle.std.specs.Prelude.{◌∷◌, ◌++◌, length, slice_get, Option, None, Some}
-use Rattle.std.specs.List.{list_all, list_any}
-use Rattle.std.specs.Option.{option_map_or}
-use Rattle.cx_base.specs.declared.cluster.Cluster.{Cluster}
-use Rattle.cx_base.specs.declared.role.Kind.TheVariants.{Matchmaker}
-use Rattle.cx_base.specs.declared.role.RoleId.{RoleId}
-use Rattle.cx_base.specs.declared.round.Round.{Round}
-use Rattle.cx_base.specs.declared.why.Why.TheVariants.{Accepted, Asked, Booted, Collected, Full, Halted, Idle, Later, Matched, Nack, New}
-use Rattle.cx_base.specs.declared.why.Why.TheVariants.{Old, Raised, Same, Stopped, Stranger, Unasked}
-use Rattle.cx_base.specs.Grid.{Shape, is_in}
-use Rattle.cx_base.specs.Role.{same_role}
-use Rattle.cx_base.specs.Lists.{below}
-use Rattle.cx_base.specs.Round.{is_before, same_round, no_round}
-use Rattle.cx_letter.specs.Letter.{Letter, letter}
+use Rattle.cx_letter.specs.Prelude.{list_all, list_any, option_map_or, Cluster, Matchmaker, RoleId, Round, Full, Idle, Old, Same, Stranger}
+use Rattle.cx_letter.specs.Prelude.{Unasked, Shape, is_in, same_role, below, is_before, same_round, no_round, Letter, letter, Entry}
+use Rattle.cx_letter.specs.Prelude.{NackReason, Asking}
+use Rattle.cx_base.specs.declared.why.Why.TheVariants.{Accepted, Asked, Booted, Collected, Halted, Later, Matched, Nack, New, Raised}
+use Rattle.cx_base.specs.declared.why.Why.TheVariants.{Stopped}
 use Rattle.cx_letter.specs.declared.input.Input.{Input}
 use Rattle.cx_letter.specs.declared.input.Input.TheVariants.{Take, Tick, Order}
-use Rattle.cx_field.specs.declared.parts.Entry.{Entry}
-use Rattle.cx_field.specs.declared.parts.NackReason.{NackReason}
 use Rattle.cx_field.specs.declared.parts.NackReason.TheVariants as nack
-use Rattle.cx_field.specs.declared.parts.Asking.{Asking}
 use Rattle.cx_letter.specs.declared.message.Msg.{Msg}
 use Rattle.cx_letter.specs.declared.message.Msg.TheVariants as msg
 use Rattle.cx_letter.specs.declared.kept.Record.{Record}

@@ -1,21 +1,7 @@
 -- Which names of a datagram or a record lie in the cluster.
 use Rattle.std.specs.Prelude.{ℕ, ◌+◌, ◌*◌, ◌==◌, Bool, true, ◌&&◌, nat_lt, List, [], ◌∷◌, length}
-use Rattle.std.specs.List.{list_all}
-use Rattle.cx_base.specs.declared.cluster.Cluster.{Cluster}
-use Rattle.cx_base.specs.declared.command.Answered.{Answered}
-use Rattle.cx_base.specs.declared.command.Command.{Command}
-use Rattle.cx_base.specs.declared.command.Value.{Value}
-use Rattle.cx_base.specs.declared.role.RoleId.{RoleId}
-use Rattle.cx_base.specs.declared.round.Round.{Round}
-use Rattle.cx_base.specs.Cluster.{count_of}
-use Rattle.cx_base.specs.Fold.{commands_of}
-use Rattle.cx_base.specs.Grid.{Shape}
-use Rattle.cx_base.specs.Sets.{is_rising}
-use Rattle.cx_letter.specs.Letter.{Letter}
-use Rattle.cx_field.specs.declared.parts.Asking.{Asking}
-use Rattle.cx_field.specs.declared.parts.Entry.{Entry}
-use Rattle.cx_field.specs.declared.parts.Token.{Token}
-use Rattle.cx_field.specs.declared.parts.Vote.{Vote}
+use Rattle.cx_letter.specs.Prelude.{list_all, Cluster, Answered, Command, Value, RoleId, Round, count_of, commands_of, Shape, is_rising}
+use Rattle.cx_letter.specs.Prelude.{Letter, Asking, Entry, Token, Vote}
 use Rattle.cx_letter.specs.declared.message.Msg.{Msg}
 use Rattle.cx_letter.specs.declared.message.Msg.TheVariants as msg
 

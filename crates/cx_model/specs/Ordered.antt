@@ -1,18 +1,12 @@
 -- The client table of any list of values is in order.
 use Rattle.std.specs.Prelude.{◌≡◌, ◌⊎◌, ℕ, ◌+◌, ◌==◌, Bool, true, false, not, nat_le, nat_lt, max, if◌then◌else◌, List, [], ◌∷◌, Option}
 use Rattle.std.specs.Prelude.{None, Some, refl}
-use Rattle.std.specs.List.{list_all}
 use Rattle.std.proofs.Common.{◌∙◌, subst, inl, inr, arith}
 use Rattle.std.proofs.lemmas.Bool.{and_from, and_parts, cases_Bool, eqb-true, both_ways}
 use Rattle.std.proofs.lemmas.Bool.Decides.{nat_tests}
-use Rattle.cx_base.specs.declared.command.Answered.{Answered}
-use Rattle.cx_base.specs.declared.command.Command.{Command}
-use Rattle.cx_base.specs.declared.command.Floor.{Floor}
-use Rattle.cx_base.specs.declared.command.Value.{Value}
-use Rattle.cx_base.specs.Fold.{commands_of}
-use Rattle.cx_base.specs.Lists.{rises}
-use Rattle.cx_base.specs.Noted.{Table, are_rising, comes_before, floor_of, is_answer_of, is_done, is_answer_done, noted_for, still_noted}
-use Rattle.cx_base.specs.Noted.{with_answer, with_floor, with_note, with_told}
+use Rattle.cx_letter.specs.Prelude.{list_all, Answered, Command, Floor, Value, commands_of, rises, Table, are_rising, comes_before}
+use Rattle.cx_letter.specs.Prelude.{floor_of, is_answer_of, is_done, is_answer_done, noted_for, still_noted, with_answer, with_floor}
+use Rattle.cx_letter.specs.Prelude.{with_note, with_told}
 use Rattle.cx_base.proofs.Used.{none_placed, same_client, still_rising, turned_test}
 use Rattle.cx_model.specs.Renewed.{IsOrdered, is_above_client_floor, is_over, rises_left}
 use Rattle.cx_model.specs.Replica.{Machine, execute, execute_noted, execute_all, execute_value, machine_from, machine_of, new_machine}

@@ -3,25 +3,13 @@
 -- once it holds this many slots (VLDB 2021: quorum reads; over several grids, and in batches, this project's own).
 use Rattle.std.specs.Prelude.{ℕ, ◌+◌, ◌==◌, Bool, false, not, ◌&&◌, nat_le, nat_lt, max, map, if◌then◌else◌, List, [], ◌∷◌, ◌++◌, length}
 use Rattle.std.specs.Prelude.{Option, None, Some, true}
-use Rattle.std.specs.List.{list_any}
-use Rattle.cx_base.specs.declared.cluster.Cluster.{Cluster}
-use Rattle.cx_base.specs.declared.role.RoleId.{RoleId}
-use Rattle.cx_base.specs.declared.role.Kind.TheVariants.{Acceptor, Matchmaker, Reader, Replica}
-use Rattle.cx_base.specs.declared.round.Round.{Round}
-use Rattle.cx_base.specs.declared.why.Why.{Why}
-use Rattle.cx_base.specs.declared.why.Why.TheVariants.{Again, Counted, End, Full, Idle, Learnt, Old, Queued, Resent, Same, Sent, Started}
-use Rattle.cx_base.specs.declared.why.Why.TheVariants.{Stranger, Unasked}
+use Rattle.cx_letter.specs.Prelude.{list_any, Cluster, RoleId, Acceptor, Matchmaker, Reader, Replica, Round, Why, Full, Idle, Old, Resent}
+use Rattle.cx_letter.specs.Prelude.{Same, Sent, Stranger, Unasked, is_in, same_role, role, same_round, is_above, Letter, letter, Asking}
+use Rattle.cx_letter.specs.Prelude.{Entry, Token}
+use Rattle.cx_base.specs.declared.why.Why.TheVariants.{Again, Counted, End, Learnt, Queued, Started}
 use Rattle.cx_base.specs.declared.why.Why.TheVariants as why
-use Rattle.cx_base.specs.Grid.{is_in}
-use Rattle.cx_base.specs.Role.{same_role, role}
-use Rattle.cx_base.specs.Round.{same_round}
-use Rattle.cx_base.specs.Sets.{is_above}
-use Rattle.cx_letter.specs.Letter.{Letter, letter}
 use Rattle.cx_letter.specs.declared.input.Input.{Input}
 use Rattle.cx_letter.specs.declared.input.Input.TheVariants.{Take, Tick, Order}
-use Rattle.cx_field.specs.declared.parts.Asking.{Asking}
-use Rattle.cx_field.specs.declared.parts.Entry.{Entry}
-use Rattle.cx_field.specs.declared.parts.Token.{Token}
 use Rattle.cx_letter.specs.declared.message.Msg.{Msg}
 use Rattle.cx_letter.specs.declared.message.Msg.TheVariants as msg
 use Rattle.cx_model.specs.declared.states.Acked.{Acked}

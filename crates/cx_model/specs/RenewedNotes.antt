@@ -1,16 +1,10 @@
 -- The answers of an ordered client table are those of its clients, one client after another.
 use Rattle.std.specs.Prelude.{◌≡◌, ℕ, ◌+◌, ◌-◌, ◌==◌, ◌⊎◌, Bool, true, false, not, nat_le, nat_lt, map, filter, List, [], ◌∷◌, ◌++◌, Option}
 use Rattle.std.specs.Prelude.{Some, refl}
-use Rattle.std.specs.List.{list_all}
 use Rattle.std.proofs.Common.{ap, sym, ◌∙◌, subst, inl, inr, arith}
 use Rattle.std.proofs.lemmas.Bool.{and_from, and_parts, cases_Bool, eqb-true}
 use Rattle.std.proofs.lemmas.Bool.Decides.{nat_tests}
-use Rattle.cx_base.specs.declared.command.Answered.{Answered}
-use Rattle.cx_base.specs.declared.command.Floor.{Floor}
-use Rattle.cx_base.specs.declared.command.Note.{Note}
-use Rattle.cx_base.specs.Asked.{floor_fits}
-use Rattle.cx_base.specs.Lists.{rises}
-use Rattle.cx_base.specs.Noted.{are_rising, comes_before, floor_of}
+use Rattle.cx_letter.specs.Prelude.{list_all, Answered, Floor, Note, floor_fits, rises, are_rising, comes_before, floor_of}
 use Rattle.cx_model.specs.Replica.{answer_of, are_client_notes, note_of}
 use Rattle.cx_model.specs.Renewed.{is_over, fits_told, is_above_client_floor, is_near, rises_left, spread}
 

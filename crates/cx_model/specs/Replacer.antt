@@ -2,22 +2,11 @@
 -- ones recorded (JSys 2021: matchmakers are replaced by a consensus among the old; the rows are this project's own).
 use Rattle.std.specs.Prelude.{ℕ, ◌==◌, Bool, true, false, not, ◌&&◌, ◌||◌, bytes_eq, nat_lt, map, filter, if◌then◌else◌, List, [], ◌∷◌}
 use Rattle.std.specs.Prelude.{◌++◌, length, Option, None, Some}
-use Rattle.std.specs.List.{list_any}
-use Rattle.cx_base.specs.declared.cluster.Cluster.{Cluster}
+use Rattle.cx_letter.specs.Prelude.{list_any, Cluster, Replace, Leader, Matchmaker, Reader, Replacer, RoleId, Round, is_in, below}
+use Rattle.cx_letter.specs.Prelude.{same_role, role, is_before, same_round, no_round, lead_after, is_above, Entry, Letter, letter}
 use Rattle.cx_base.specs.declared.event.Order.{Order as OrderOf}
-use Rattle.cx_base.specs.declared.event.Order.TheVariants.{Replace}
-use Rattle.cx_base.specs.declared.role.Kind.TheVariants.{Leader, Matchmaker, Reader, Replacer}
-use Rattle.cx_base.specs.declared.role.RoleId.{RoleId}
-use Rattle.cx_base.specs.declared.round.Round.{Round}
 use Rattle.cx_base.specs.declared.why.Why.TheVariants as why
-use Rattle.cx_base.specs.Grid.{is_in}
-use Rattle.cx_base.specs.Lists.{below}
-use Rattle.cx_base.specs.Role.{same_role, role}
-use Rattle.cx_base.specs.Round.{is_before, same_round, no_round, lead_after}
-use Rattle.cx_base.specs.Sets.{is_above}
 use Rattle.cx_grid.specs.Quorum.{with_mark}
-use Rattle.cx_field.specs.declared.parts.Entry.{Entry}
-use Rattle.cx_letter.specs.Letter.{Letter, letter}
 use Rattle.cx_letter.specs.declared.input.Input.{Input}
 use Rattle.cx_letter.specs.declared.input.Input.TheVariants.{Take, Tick, Order}
 use Rattle.cx_letter.specs.declared.kept.Record.{Record}

@@ -2,26 +2,12 @@
 -- reads are this project's own).
 use Rattle.std.specs.Prelude.{◌≡◌, ◌≤◌, ℕ, zero, suc, ◌+◌, ◌-◌, ◌%◌, ◌==◌, Bool, true, false, ◌&&◌, ◌||◌, not, nat_lt, nat_le, min, max}
 use Rattle.std.specs.Prelude.{map, filter, if◌then◌else◌, List, [], ◌∷◌, ◌++◌, length, take, drop, slice_get, Option, None, Some}
-use Rattle.std.specs.List.{list_all, list_any}
-use Rattle.cx_base.specs.declared.cluster.Cluster.{Cluster}
-use Rattle.cx_base.specs.declared.command.Answered.{Answered}
-use Rattle.cx_base.specs.declared.command.Command.{Command}
-use Rattle.cx_base.specs.declared.command.Floor.{Floor}
-use Rattle.cx_base.specs.declared.command.Note.{Note}
-use Rattle.cx_base.specs.declared.command.Pair.{Pair}
-use Rattle.cx_base.specs.declared.command.Placed.{Placed}
-use Rattle.cx_base.specs.declared.command.Value.{Value}
-use Rattle.cx_base.specs.declared.role.RoleId.{RoleId}
-use Rattle.cx_base.specs.declared.role.Kind.TheVariants.{Client, Leader, Replica, Unbatcher}
-use Rattle.cx_base.specs.declared.why.Why.TheVariants.{Answered as AnsweredWord, Applied, Deferred as DeferredWord, Early, Fetched, Full}
-use Rattle.cx_base.specs.declared.why.Why.TheVariants.{Idle, Past, Resent, Same, Stranger, Window}
-use Rattle.cx_base.specs.Asked.{floor_fits}
-use Rattle.cx_base.specs.Fold.{commands_of, is_less, map_after, reply_of, text_at}
-use Rattle.cx_base.specs.Lists.{below, rises}
-use Rattle.cx_base.specs.Log.{value_for, ready_values, still_early}
-use Rattle.cx_base.specs.Noted.{Table, new_table, are_rising, floor_of, is_done, noted_for, with_told, with_answer}
-use Rattle.cx_base.specs.Role.{same_role, role}
-use Rattle.cx_letter.specs.Letter.{Letter, letter}
+use Rattle.cx_letter.specs.Prelude.{list_all, list_any, Cluster, Answered, Command, Floor, Note, Pair, Placed, Value, RoleId, Client}
+use Rattle.cx_letter.specs.Prelude.{Leader, Replica, Unbatcher, Full, Idle, Past, Resent, Same, Stranger, floor_fits, commands_of, is_less}
+use Rattle.cx_letter.specs.Prelude.{map_after, reply_of, text_at, below, rises, value_for, ready_values, still_early, Table, are_rising}
+use Rattle.cx_letter.specs.Prelude.{floor_of, is_done, noted_for, with_told, with_answer, same_role, role, Letter, letter}
+use Rattle.cx_base.specs.declared.why.Why.TheVariants.{Answered as AnsweredWord, Applied, Deferred as DeferredWord, Early, Fetched, Window}
+use Rattle.cx_base.specs.Noted.{new_table}
 use Rattle.cx_letter.specs.declared.input.Input.{Input}
 use Rattle.cx_letter.specs.declared.input.Input.TheVariants.{Take, Tick, Order}
 use Rattle.cx_letter.specs.declared.message.Msg.{Msg}

@@ -1,10 +1,7 @@
 -- What a role has taken since it was opened, whatever its kind, and the states of all roles by name.
 use Rattle.std.specs.Prelude.{Option, None, Some, if◌then◌else◌}
-use Rattle.cx_base.specs.declared.cluster.Cluster.{Cluster}
-use Rattle.cx_base.specs.declared.role.Kind.{Kind}
+use Rattle.cx_letter.specs.Prelude.{Cluster, Kind, RoleId, same_role}
 use Rattle.cx_base.specs.declared.role.Kind.TheVariants as kind
-use Rattle.cx_base.specs.declared.role.RoleId.{RoleId}
-use Rattle.cx_base.specs.Role.{same_role}
 use Rattle.cx_model.specs.Batcher.{BatcherVolatile, batcher_rules}
 use Rattle.cx_model.specs.Leader.{LeaderVolatile, leader_rules}
 use Rattle.cx_model.specs.Proxy.{ProxyVolatile, proxy_rules}

@@ -1,17 +1,14 @@
 -- What decodes is spelled so, and what is spelled decodes.
-use Rattle.std.proofs.Common.{◌≡◌, ◌⊎◌, inl, inr, ◌||◌, ℕ, zero, suc, ◌+◌, ◌<◌, ◌≤◌, Bool, true, false, ◌&&◌, not, cond, ltb, eqb, List, []}
-use Rattle.std.proofs.Common.{◌∷◌, ◌++◌, length, Result, Ok, Err, refl, sym, ap, subst, ◌∙◌, append_assoc, arith}
-use Rattle.std.specs.Prelude.{IfOk, IsTrue, if◌then◌else◌}
-use Rattle.std.proofs.lemmas.Bool.{eqb-true, ltb-false, le-ltb}
+use Rattle.std.proofs.Common.{inl, inr, ltb, sym, ap, subst, ◌∙◌, append_assoc, arith, lit<}
+use Rattle.std.proofs.lemmas.Bool.{eqb-true, ltb-false, le-ltb, leb-true, lt-ltb}
 use Rattle.std.proofs.lemmas.List.{append-nil, nil_from_length, length-append}
-use Rattle.std.specs.List.{list_any, list_all}
-use Rattle.cx_base.specs.Role.{code_of, kind_of}
-use Rattle.cx_base.specs.declared.role.Kind.{Kind}
-use Rattle.cx_base.specs.declared.role.Kind.TheVariants.{Client}
-use Rattle.cx_wire.specs.Format.{Miss, u8, u16, ◌▷◌, by_tag}
+use Rattle.cx_letter.specs.Prelude.{◌≡◌, ◌⊎◌, ◌||◌, ℕ, zero, suc, ◌+◌, ◌<◌, ◌≤◌, Bool, true, false, ◌&&◌, not, cond, eqb, List, [], ◌∷◌}
+use Rattle.cx_letter.specs.Prelude.{◌++◌, length, Result, Ok, Err, refl, IfOk, IsTrue, if◌then◌else◌, list_any, list_all, code_of, kind_of}
+use Rattle.cx_letter.specs.Prelude.{Kind, Client, Miss, u8, ◌▷◌, by_tag, body_shape, body_with, cases_with, tells_floors, version_of}
+use Rattle.cx_letter.specs.Prelude.{Letter, is_kind, senders, receivers, is_listed, nat_le}
+use Rattle.cx_wire.specs.Format.{u16}
 use Rattle.cx_wire.proofs.Laws.{IsBytes, IsExact, u8-exact, u16-exact, ▷-exact, shaped-exact, by_tag-takes, both, ok_is, tag_fits}
-use Rattle.cx_letter.specs.Messages.{body_shape, body_with, cases_with, tells_floors, version_of}
-use Rattle.cx_letter.specs.Letter.{Letter, is_kind, senders, receivers, is_listed, fits}
+use Rattle.cx_letter.specs.Letter.{fits}
 use Rattle.cx_msg.specs.Datagrams.{magic, header, header_of, spelling}
 use Rattle.cx_msg.specs.Decoding.{letter_at_end, after_header, with_header, decoded}
 use Rattle.cx_msg.specs.Decodes.{Decodes}
@@ -24,9 +21,6 @@ use Rattle.cx_letter.specs.declared.message.Msg.TheVariants.{BootA, BootB, Sets}
 use Rattle.cx_msg.specs.declared.header.Header.{Header}
 use Rattle.cx_msg.specs.declared.fault.WireFault.{WireFault}
 use Rattle.cx_msg.specs.declared.fault.WireFault.TheVariants as faults
-use Rattle.std.specs.Prelude.{nat_le}
-use Rattle.std.proofs.Common.{lit<}
-use Rattle.std.proofs.lemmas.Bool.{leb-true, lt-ltb}
 use Rattle.cx_msg.proofs.Sizes.{body-sizes}
 use Rattle.cx_msg.proofs.BodyLaws.{bodies-sound, body-again}
 use Rattle.cx_msg.proofs.Versions.{version_tag, version_bytes, version_fits, own_version}

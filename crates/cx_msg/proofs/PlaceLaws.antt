@@ -1,19 +1,15 @@
 -- Where faults of decoding lie.
-use Rattle.std.proofs.Common.{◌≡◌, ◌⊎◌, inl, inr, ℕ, ◌+◌, ◌-◌, ◌<◌, ◌≤◌, Bool, true, false, not, cond, ltb, eqb, List, [], ◌∷◌, length}
-use Rattle.std.proofs.Common.{Result, Ok, Err, refl, ap, subst, arith}
-use Rattle.std.specs.Prelude.{◌||◌, IfErr}
-use Rattle.std.proofs.lemmas.Bool.{ltb-true}
-use Rattle.std.proofs.lemmas.List.{length-append}
+use Rattle.cx_base.proofs.Common.{◌≡◌, ◌⊎◌, inl, inr, ℕ, ◌+◌, ◌-◌, ◌<◌, ◌≤◌, Bool, true, false, not, cond, ltb, eqb, List, [], ◌∷◌, length}
+use Rattle.cx_base.proofs.Common.{Result, Ok, Err, refl, ap, subst, arith, ◌||◌, IfErr, ltb-true, length-append}
 use Rattle.cx_wire.specs.Format.{Miss, u8, u16, by_tag}
 use Rattle.cx_wire.proofs.Laws.{IsBytes, u8-exact, by_tag-takes, by_tag-within, Takes-less}
 use Rattle.cx_letter.specs.Messages.{body_with, cases_with, version_of}
 use Rattle.cx_letter.specs.Letter.{Letter, is_kind, senders, receivers, is_listed}
 use Rattle.cx_msg.specs.Datagrams.{magic, header}
 use Rattle.cx_msg.specs.Decoding.{letter_at_end, after_header, with_header, decoded}
-use Rattle.cx_msg.specs.Decodes.{IsDecodeFault}
+use Rattle.cx_msg.specs.Decodes.{IsDecodeFault, Decodes}
 use Rattle.cx_letter.specs.Records.{record_shape, record_cases}
 use Rattle.cx_msg.specs.RecordBytes.{is_tag, record_at_end, with_tag, record_of_bytes}
-use Rattle.cx_msg.specs.Decodes.{Decodes}
 use Rattle.cx_msg.specs.Places.{LiesIn}
 use Rattle.cx_letter.specs.declared.kept.Record.{Record}
 use Rattle.cx_letter.specs.declared.message.Msg.{Msg}

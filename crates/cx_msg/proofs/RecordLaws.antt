@@ -1,8 +1,6 @@
 -- What decodes as a record is spelled so, and what is spelled decodes.
-use Rattle.std.proofs.Common.{◌≡◌, ℕ, ◌<◌, Bool, true, false, not, cond, List, [], ◌∷◌, ◌++◌, length, Result, Ok, Err, refl, sym, ap, ◌∙◌}
-use Rattle.std.proofs.Common.{lit<}
-use Rattle.std.specs.Prelude.{IfOk, IsTrue}
-use Rattle.std.proofs.lemmas.List.{append-nil}
+use Rattle.cx_base.proofs.Common.{◌≡◌, ℕ, ◌<◌, Bool, true, false, not, cond, List, [], ◌∷◌, ◌++◌, length, Result, Ok, Err, refl, sym, ap}
+use Rattle.cx_base.proofs.Common.{◌∙◌, lit<, IfOk, IsTrue, append-nil}
 use Rattle.cx_wire.specs.Format.{Miss, u8, u16, u32, u64, ◌▷◌, by_tag}
 use Rattle.cx_wire.proofs.Laws.{IsBytes, IsExact, Takes-then, u8-exact, u16-exact, u32-exact, u64-exact, ▷-exact, case-sound, case-again}
 use Rattle.cx_wire.proofs.Laws.{AllSound, ReadsAgain, by_tag-takes, tag_fits}

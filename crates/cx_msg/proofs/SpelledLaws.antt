@@ -1,21 +1,15 @@
 -- A datagram's short bytes give it again.
-use Rattle.std.proofs.Common.{◌≡◌, ◌≤◌, ◌<◌, ◌+◌, ◌%◌, ◌^◌, ◌∙◌, ℕ, true, List, [], ◌++◌, Result, Ok, Err, drop, length, lit≤, refl, sym}
-use Rattle.std.proofs.Common.{ap, subst, arith}
-use Rattle.std.specs.Prelude.{IsTrue, slice_index}
+use Rattle.std.proofs.Common.{lit≤, ◌∙◌, sym, ap, subst, arith, ltb-true, append-nil}
 use Rattle.std.specs.Int.{w16, from_be_bytes, to_be_bytes}
-use Rattle.std.proofs.lemmas.Bool.{ltb-true}
-use Rattle.std.proofs.lemmas.List.{append-nil}
 use Rattle.std.proofs.lemmas.Nat.{from_be_bytes-to_be_bytes_2}
-use Rattle.cx_base.specs.Role.{code_of, kind_of, role}
-use Rattle.cx_base.specs.declared.role.Kind.{Kind}
-use Rattle.cx_base.specs.declared.role.Kind.TheVariants.{Client}
-use Rattle.cx_base.specs.declared.role.RoleId.{RoleId}
-use Rattle.cx_wire.specs.Format.{Miss, bad, by_tag, short_field, u8, u16}
+use Rattle.cx_letter.specs.Prelude.{◌≡◌, ◌≤◌, ◌<◌, ◌+◌, ◌%◌, ◌^◌, ℕ, true, List, [], ◌++◌, Result, Ok, Err, drop, length, refl, IsTrue}
+use Rattle.cx_letter.specs.Prelude.{slice_index, code_of, kind_of, role, Kind, Client, RoleId, Miss, by_tag, Letter, body, letter}
+use Rattle.cx_letter.specs.Prelude.{body_shape, cases_with}
+use Rattle.cx_wire.specs.Format.{bad, short_field, u8, u16}
 use Rattle.cx_field.specs.Reading.{Fails}
 use Rattle.cx_field.specs.declared.fault.ReadFault.{ReadFault}
 use Rattle.cx_field.specs.declared.fault.ReadFault.TheVariants as faults
-use Rattle.cx_letter.specs.Letter.{Letter, body, fits, letter}
-use Rattle.cx_letter.specs.Messages.{body_shape, cases_with}
+use Rattle.cx_letter.specs.Letter.{fits}
 use Rattle.cx_msg.specs.Spelled.{IsShort, IsSpelled, letter_of, letter_with, msg_or, role_at, short}
 use Rattle.cx_letter.specs.declared.message.Msg.{Msg}
 use Rattle.cx_msg.proofs.BodyLaws.{body-again}

@@ -1,17 +1,15 @@
 -- A message that tells no floor is read where none may be told, and its bytes are the same.
-use Rattle.std.proofs.Common.{◌≡◌, ℕ, Bool, true, false, not, ◌&&◌, List, refl, sym, ◌∙◌}
-use Rattle.std.specs.List.{list_any}
+use Rattle.std.proofs.Common.{sym, ◌∙◌}
+use Rattle.cx_letter.specs.Prelude.{◌≡◌, ℕ, Bool, true, false, not, ◌&&◌, List, refl, list_any, Round, Value, Format, only, then_by, ◌▷◌}
+use Rattle.cx_letter.specs.Prelude.{slot, mark, round, grid, command_with, value_with, votes_with, in_window, Vote, tells_floors, body_with}
+use Rattle.cx_letter.specs.Prelude.{body_shape}
 use Rattle.cx_base.specs.Grid.{Shape as GridShape}
-use Rattle.cx_base.specs.declared.round.Round.{Round}
-use Rattle.cx_base.specs.declared.command.Value.{Value}
-use Rattle.cx_wire.specs.Format.{Format, only, then_by, ◌▷◌, TaggedBytes}
+use Rattle.cx_wire.specs.Format.{TaggedBytes}
 use Rattle.cx_wire.proofs.Laws.{both}
 use Rattle.cx_wire.proofs.Parts.{IsPart, IsShapePart, then_by-part, ▷-part, shape-part}
 use Rattle.cx_field.proofs.Floors.{command-part, commands-part, value-part, votes-part}
-use Rattle.cx_field.specs.Fields.{slot, mark, round, grid, command_with, commands_with, value_with, votes_with, in_window, tells_floor}
-use Rattle.cx_field.specs.Fields.{value_tells}
-use Rattle.cx_field.specs.declared.parts.Vote.{Vote}
-use Rattle.cx_letter.specs.Messages.{phase1b, phase2a, propose, slot_value, tells_floors, body_with, body_shape}
+use Rattle.cx_field.specs.Fields.{commands_with, tells_floor, value_tells}
+use Rattle.cx_letter.specs.Messages.{phase1b, phase2a, propose, slot_value}
 use Rattle.cx_letter.specs.declared.message.Msg.{Msg}
 use Rattle.cx_letter.specs.declared.message.Msg.TheVariants.{Chosen, Phase2A, Submit, Batch, Phase1B, Propose}
 

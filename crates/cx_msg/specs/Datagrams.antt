@@ -1,9 +1,7 @@
 -- Datagrams as bytes.
 use Rattle.std.specs.Prelude.{ℕ, List, ◌++◌, length}
-use Rattle.cx_base.specs.Role.{code_of}
-use Rattle.cx_wire.specs.Format.{Format, u8, u16, ◌▷◌, shaped}
-use Rattle.cx_letter.specs.Messages.{body_shape, version_of}
-use Rattle.cx_letter.specs.Letter.{Letter, body}
+use Rattle.cx_letter.specs.Prelude.{code_of, Format, u8, u16, ◌▷◌, body_shape, version_of, Letter, body}
+use Rattle.cx_wire.specs.Format.{shaped}
 use Rattle.cx_msg.specs.declared.header.Header.{Header}
 
 -- the letters CX

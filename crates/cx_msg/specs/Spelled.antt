@@ -1,11 +1,8 @@
 -- Datagrams whose bodies aren't read, and their bytes but for those that the others give.
 use Rattle.std.specs.Prelude.{◌≡◌, ℕ, ◌+◌, true, List, [], ◌∷◌, ◌++◌, Result, Ok, Err, IsTrue, drop, length, slice_index}
 use Rattle.std.specs.Int.{w16, from_be_bytes}
-use Rattle.cx_base.specs.Role.{code_of, kind_of, role}
-use Rattle.cx_base.specs.declared.role.RoleId.{RoleId}
-use Rattle.cx_wire.specs.Format.{Miss, by_tag, u8, u16}
-use Rattle.cx_letter.specs.Letter.{Letter, body, fits, letter}
-use Rattle.cx_letter.specs.Messages.{body_shape, cases_with}
+use Rattle.cx_letter.specs.Prelude.{code_of, kind_of, role, RoleId, Miss, by_tag, u8, u16, Letter, body, letter, body_shape, cases_with}
+use Rattle.cx_letter.specs.Letter.{fits}
 use Rattle.cx_letter.specs.declared.message.Msg.{Msg}
 use Rattle.cx_letter.specs.declared.message.Msg.TheVariants.{Fetch}
 

@@ -1,22 +1,14 @@
 -- A part of a run that was done or stopped, with what came before it, and after it.
-use Rattle.std.proofs.Common.{◌≡◌, ℕ, List, [], ◌∷◌, ◌++◌, Option, None, option_map, Result, Ok, Err, refl, sym, ap₂}
-use Rattle.std.proofs.Common.{◌∙◌, subst}
-use Rattle.std.proofs.KnownBytes.{Appends-nil}
-use Rattle.std.proofs.lemmas.Grind.{flat_map-append}
-use Rattle.cx_base.specs.Faults.{Rises}
-use Rattle.cx_base.specs.declared.cluster.Cluster.{Cluster}
-use Rattle.cx_edge.specs.Link.{LinkHistory, with_taken}
-use Rattle.cx_seat.specs.Changing.{Changing}
+use Rattle.cx_role.proofs.Common.{◌≡◌, ℕ, List, [], ◌∷◌, ◌++◌, Option, None, option_map, Result, Ok, Err, refl, sym, ap₂, ◌∙◌, subst}
+use Rattle.cx_role.proofs.Common.{Appends-nil, flat_map-append, Rises, Cluster}
+use Rattle.cx_seat.specs.Prelude.{LinkHistory, with_taken, Changing, Action, AreTakesOf, Took, AreReady, hosted_in, TakeResults, Course}
+use Rattle.cx_seat.specs.Prelude.{Moved, stays, then_do, took, Recorded}
 use Rattle.cx_seat.specs.declared.guest.Guest.{Guest}
 use Rattle.cx_node.specs.declared.node.Stop.{Stop}
 use Rattle.cx_node.specs.declared.node.Stop.TheVariants.{LinkFault, NoMemory, WriteFault}
-use Rattle.cx_course.specs.Action.{Action, AreTakesOf, Took, bound_by, taken_by}
+use Rattle.cx_course.specs.Action.{bound_by, taken_by}
 use Rattle.cx_node.specs.Acts.{Acts, Blames, Failures}
 use Rattle.cx_node.specs.Doing.{Linked, Scene, course_in, scene}
-use Rattle.cx_seat.specs.Guest.{AreReady, hosted_in}
-use Rattle.cx_course.specs.Run.{TakeResults}
-use Rattle.cx_course.specs.Course.{Course, Moved, stays, then_do, took}
-use Rattle.cx_record.specs.Numbers.{Recorded}
 use Rattle.cx_node.proofs.Asked.{linked_took}
 use Rattle.cx_node.proofs.Done.{did_nothing, does_nothing, does_then, guests_rest, part_then, then_part}
 

@@ -1,13 +1,7 @@
 -- The roles of a cluster, kind by kind.
-use Rattle.std.proofs.Common.{◌≡◌, ◌&&◌, Bool, List, [], ◌∷◌, refl, sym, ap₂, ◌∙◌}
-use Rattle.std.proofs.lemmas.List.Folds.{list_all-append, list_all-map}
-use Rattle.std.specs.List.{flat_map, list_all, list_any}
-use Rattle.cx_base.specs.Cluster.{count_of}
-use Rattle.cx_base.specs.Lists.{below}
-use Rattle.cx_base.specs.Role.{role, same_role}
-use Rattle.cx_base.specs.declared.cluster.Cluster.{Cluster}
-use Rattle.cx_base.specs.declared.role.Kind.{Kind}
-use Rattle.cx_base.specs.declared.role.RoleId.{RoleId}
+use Rattle.std.proofs.lemmas.List.Folds.{list_all-map}
+use Rattle.cx_role.proofs.Common.{◌≡◌, ◌&&◌, Bool, List, [], ◌∷◌, refl, sym, ap₂, ◌∙◌, list_all-append, flat_map, list_all, list_any}
+use Rattle.cx_role.proofs.Common.{count_of, below, role, same_role, Cluster, Kind, RoleId}
 use Rattle.cx_node.specs.Input.{are_all, kinds, roles_as}
 
 by_kind : (c : Cluster) (p : RoleId → Bool) (ks : List Kind)

@@ -1,17 +1,9 @@
 -- What a node answered, from what hosting answered over an input that was accepted.
-use Rattle.std.proofs.Common.{◌≡◌, ◌⊎◌, ◌<◌, ℕ, arith, Bool, true, false, List, Option, None, Some, Result, Err, refl, sym, ap}
-use Rattle.std.proofs.Common.{◌∙◌, subst, inl, inr}
-use Rattle.std.specs.Prelude.{IfSome, is_some, slice_get}
-use Rattle.std.proofs.lemmas.Option.{same_Some}
-use Rattle.cx_base.specs.Faults.{Rises}
-use Rattle.cx_base.specs.declared.cluster.Cluster.{Cluster}
-use Rattle.cx_base.specs.declared.event.Event.{Event}
-use Rattle.cx_base.specs.declared.role.RoleId.{RoleId}
+use Rattle.cx_role.proofs.Common.{◌≡◌, ◌⊎◌, ◌<◌, ℕ, arith, Bool, true, false, List, Option, None, Some, Result, Err, refl, sym, ap, ◌∙◌}
+use Rattle.cx_role.proofs.Common.{subst, inl, inr, IfSome, is_some, slice_get, same_Some, Rises, Cluster, Event, RoleId}
+use Rattle.cx_seat.specs.Prelude.{Action, Filled, Took, Files, ParsedLines, IsFirstBad, IsFirstUsed, is_store_used}
 use Rattle.cx_base.specs.declared.status.Status.{Status}
 use Rattle.cx_base.specs.declared.status.Status.TheVariants as status
-use Rattle.cx_course.specs.Action.{Action, Filled, Took}
-use Rattle.cx_journal.specs.Files.{Files}
-use Rattle.cx_script.specs.Lines.{ParsedLines}
 use Rattle.cx_node.specs.declared.input.NodeInput.{NodeInput}
 use Rattle.cx_node.specs.declared.input.NodeInput.TheVariants.{Lines}
 use Rattle.cx_node.specs.declared.input.Refusal.{Refusal}
@@ -20,10 +12,8 @@ use Rattle.cx_node.specs.declared.node.RunEnd.{RunEnd}
 use Rattle.cx_node.specs.declared.node.RunEnd.TheVariants as end
 use Rattle.cx_node.specs.Hosting.{HasOpened, HasRun, HostAnswered, HostBinding, HostDid, HostEnds, HostEndsAt}
 use Rattle.cx_node.specs.Input.{FailsRead, input_of, may_host, refused_of}
-use Rattle.cx_seat.specs.Opening.{IsFirstBad, IsFirstUsed, is_store_used}
 use Rattle.cx_node.specs.Serving.{AllRead, IsNodeAnswer, AnswersPart, NodeCompletes, Ends, EndsAt, EndsBinding, EndsWell, IsUntouched}
-use Rattle.cx_node.specs.Serving.{Outside, InputSays}
-use Rattle.cx_node.specs.Serving.{TellsBad, TellsUsed, options_of, recorded_header, refused_status}
+use Rattle.cx_node.specs.Serving.{Outside, InputSays, TellsBad, TellsUsed, options_of, recorded_header, refused_status}
 use Rattle.cx_seat.proofs.FirstBad.{one_first}
 use Rattle.cx_node.proofs.HostedRuns.{records_header}
 

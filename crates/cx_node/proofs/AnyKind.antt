@@ -1,18 +1,12 @@
 -- What a store has for a role of a kind, it has for any kind.
-use Rattle.std.proofs.Common.{◌≡◌, ℕ, zero, suc, ◌+◌, ◌==◌, ◌||◌, nat_lt, Bool, true, false, List, [], ◌∷◌, length}
-use Rattle.std.proofs.Common.{take, drop, Option, None, Some, Result, Ok, Err, refl, sym, ap, ◌∙◌, inl, inr}
-use Rattle.std.proofs.Common.{if◌then◌else◌}
-use Rattle.std.specs.Prelude.{slice_index}
-use Rattle.std.proofs.lemmas.Bool.{cases_Bool}
-use Rattle.cx_base.specs.declared.role.Kind.{Kind}
-use Rattle.cx_letter.specs.declared.kept.Record.{Record}
-use Rattle.cx_journal.specs.Payload.{may_keep, part_break, payload_read}
-use Rattle.cx_journal.specs.Image.{Image, image, image_at, framed, sized, with_first, image_with_record}
-use Rattle.cx_journal.specs.State.{records_or_none}
-use Rattle.cx_journal.specs.Files.{Files, OneFile, TwoFiles, files_image, files_records}
-use Rattle.cx_journal.specs.Generation.{generation, second_is_live}
-use Rattle.cx_journal.specs.Pair.{live_of}
-use Rattle.cx_journal.specs.Twin.{image_chosen, image_in}
+use Rattle.cx_journal.proofs.Common.{◌≡◌, ℕ, zero, suc, ◌+◌, ◌==◌, ◌||◌, nat_lt, Bool, true, false, List, [], ◌∷◌, length, take, drop}
+use Rattle.cx_journal.proofs.Common.{Option, None, Some, Result, Ok, Err, refl, sym, ap, ◌∙◌, inl, inr, if◌then◌else◌, slice_index}
+use Rattle.cx_journal.proofs.Common.{cases_Bool, Kind, Record, may_keep, payload_read, Image, image, framed, with_first, image_with_record}
+use Rattle.cx_journal.proofs.Common.{records_or_none, TwoFiles, generation, second_is_live, live_of, image_chosen}
+use Rattle.cx_journal.specs.Payload.{part_break}
+use Rattle.cx_journal.specs.Image.{image_at, sized}
+use Rattle.cx_journal.specs.Files.{Files, OneFile, files_image, files_records}
+use Rattle.cx_journal.specs.Twin.{image_in}
 use Rattle.cx_journal.proofs.Payloads.{read_so, refused}
 
 -- what the first has as its records, the second has too

@@ -1,20 +1,10 @@
 -- The history of a link after actions, one list of them after another.
-use Rattle.std.proofs.Common.{◌≡◌, ℕ, false, List, [], ◌∷◌, ◌++◌, map, filter, Option, None, Some, option_map, refl, sym, ap}
-use Rattle.std.proofs.Common.{◌∙◌, append_assoc, append-nil}
-use Rattle.std.specs.List.{list_any}
-use Rattle.std.proofs.lemmas.Grind.{flat_map-append}
-use Rattle.std.proofs.lemmas.List.{map-append}
-use Rattle.std.proofs.lemmas.List.Elements.{filter-append}
-use Rattle.std.proofs.lemmas.Option.{none-some, same_Some}
-use Rattle.cx_base.specs.declared.cluster.Cluster.{Cluster}
-use Rattle.cx_base.specs.declared.event.Event.{Event}
-use Rattle.cx_base.specs.declared.role.RoleId.{RoleId}
-use Rattle.cx_edge.specs.Link.{LinkHistory, with_taken}
-use Rattle.cx_model.specs.Names.{names_role}
-use Rattle.cx_letter.specs.Letter.{Letter}
-use Rattle.cx_course.specs.Action.{Action, Answered, Bound, Noted, Took, bound_by, bound_in, is_filled, kept_in, printed_in}
-use Rattle.cx_course.specs.Action.{sent_by, sent_in, step_actions, taken_by, taken_in}
-use Rattle.cx_course.specs.Changing.{StoreChange}
+use Rattle.cx_role.proofs.Common.{◌≡◌, ℕ, false, List, [], ◌∷◌, ◌++◌, map, filter, Option, None, Some, option_map, refl, sym, ap, ◌∙◌}
+use Rattle.cx_role.proofs.Common.{append_assoc, append-nil, list_any, flat_map-append, map-append, filter-append, none-some, same_Some}
+use Rattle.cx_role.proofs.Common.{Cluster, Event, RoleId, names_role, Letter}
+use Rattle.cx_seat.specs.Prelude.{LinkHistory, with_taken, Action, Bound, Took, bound_in, is_filled, kept_in, printed_in, sent_in}
+use Rattle.cx_seat.specs.Prelude.{step_actions, taken_in, StoreChange}
+use Rattle.cx_course.specs.Action.{Answered, Noted, bound_by, sent_by, taken_by}
 use Rattle.cx_node.specs.Doing.{HasLinkSent, Linked, with_actions}
 use Rattle.cx_node.specs.Hosting.{with_binds}
 use Rattle.cx_node.specs.Ports.{bind_of, sending_of, sendings}

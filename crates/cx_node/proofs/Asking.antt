@@ -1,12 +1,8 @@
 -- What a link was asked to send, one datagram after another.
-use Rattle.std.proofs.Common.{◌≡◌, ◌∷◌, [], List, ℕ, true, Option, None, Some, option_map, Result, Ok, Err, take, sym}
-use Rattle.std.proofs.Common.{◌∙◌, refl, inl, inr}
-use Rattle.std.proofs.lemmas.Option.{same_Some}
-use Rattle.cx_base.specs.declared.cluster.Cluster.{Cluster}
+use Rattle.cx_role.proofs.Common.{◌≡◌, ◌∷◌, [], List, ℕ, true, Option, None, Some, option_map, Result, Ok, Err, take, sym, ◌∙◌, refl, inl}
+use Rattle.cx_role.proofs.Common.{inr, same_Some, Cluster, names_role, Letter}
 use Rattle.cx_disk.specs.declared.disk.Failed.{Failed}
 use Rattle.cx_edge.specs.Link.{LinkHistory, Sends, with_sent}
-use Rattle.cx_model.specs.Names.{names_role}
-use Rattle.cx_letter.specs.Letter.{Letter}
 use Rattle.cx_msg.specs.Datagrams.{spelling}
 use Rattle.cx_node.specs.Doing.{HasLinkSent, HasLinkSentPart}
 use Rattle.cx_node.specs.Ports.{port_of}

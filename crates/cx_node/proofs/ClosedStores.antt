@@ -1,45 +1,28 @@
 -- What a depot holds once the stores of roles that were opened, or ran, are given back.
-use Rattle.std.proofs.Common.{◌≡◌, ◌⊎◌, ◌==◌, ℕ, Bool, true, false, List, [], ◌∷◌, ◌++◌, length, map}
-use Rattle.std.proofs.Common.{Option, None, Some, is_some, append-nil, refl, sym, ap, ap₂, ◌∙◌, subst, inl, inr}
-use Rattle.std.specs.Prelude.{slice_get}
-use Rattle.std.proofs.lemmas.Option.{none-some, same_Some}
-use Rattle.cx_base.specs.declared.cluster.Cluster.{Cluster}
-use Rattle.cx_base.specs.declared.event.Event.{Event}
-use Rattle.cx_base.specs.declared.role.RoleId.{RoleId}
-use Rattle.cx_base.specs.Faults.{Rises}
-use Rattle.cx_base.specs.Role.{same_role}
-use Rattle.cx_client.specs.declared.asking.ClientOptions.{ClientOptions}
+use Rattle.cx_role.proofs.Common.{◌≡◌, ◌⊎◌, ◌==◌, ℕ, Bool, true, false, List, [], ◌∷◌, ◌++◌, length, map, Option, None, Some, is_some}
+use Rattle.cx_role.proofs.Common.{append-nil, refl, sym, ap, ap₂, ◌∙◌, subst, inl, inr, slice_get, none-some, same_Some, Cluster, Event}
+use Rattle.cx_role.proofs.Common.{RoleId, Rises, same_role, KeeperChange, Renewal, list_after, bool_cases, differ_role, get_set_other}
+use Rattle.cx_role.proofs.Common.{get_set_same, not_both, number_itself, same_number, same_role-itself, Record}
+use Rattle.cx_seat.specs.Prelude.{ClientOptions, shelf, Shelf, Files, OneFile, files_records, store_told, RecordStore, One, Two, Action}
+use Rattle.cx_seat.specs.Prelude.{Kept, StoreChange, changes_of, lists_after, Changing, Refuses, AreChangesMade, HasChangeFailed}
+use Rattle.cx_seat.specs.Prelude.{HasChangeFailedIn, Grows, Rests, keeper_of, who, GivesBack, AreApart, AreOpened, IsOpened, disks_in}
+use Rattle.cx_seat.specs.Prelude.{is_durable, Lent, disks_of, files_of, has_second, is_two}
 use Rattle.cx_disk.specs.declared.disk.Disk.{Ghosts as DiskGhosts}
-use Rattle.cx_edge.specs.Shelf.{shelf}
-use Rattle.cx_edge.specs.declared.shelf.Shelf.{Shelf}
-use Rattle.cx_journal.specs.Files.{Files, OneFile, TwoFiles, both_told, files_records, one_told}
-use Rattle.cx_journal.specs.Store.{store_told}
-use Rattle.cx_journal.specs.declared.store.RecordStore.{RecordStore}
-use Rattle.cx_journal.specs.declared.store.RecordStore.TheVariants.{One, Two}
-use Rattle.cx_keep.specs.Keeper.{KeeperChange, Renewal, list_after}
-use Rattle.cx_model.specs.Lists.{bool_cases, differ_role, get_set_other, get_set_same, not_both, number_itself}
-use Rattle.cx_model.specs.Lists.{same_number, same_role-itself}
-use Rattle.cx_letter.specs.declared.kept.Record.{Record}
+use Rattle.cx_journal.specs.Files.{TwoFiles, both_told, one_told}
 use Rattle.cx_seat.specs.declared.guest.Guest.{Guest}
 use Rattle.cx_node.specs.declared.node.Stop.{Stop}
 use Rattle.cx_node.specs.declared.node.Stop.TheVariants as stop
-use Rattle.cx_course.specs.Action.{Action, Kept}
-use Rattle.cx_course.specs.Changing.{StoreChange, changes_of, lists_after}
-use Rattle.cx_seat.specs.Changing.{Changing, Refuses}
 use Rattle.cx_node.specs.Doing.{GuestFails, GuestsGrow, GuestsRest, StopsAt}
-use Rattle.cx_seat.specs.Guest.{AreChangesMade, HasChangeFailed, HasChangeFailedIn, Grows, Rests, keeper_of, who}
-use Rattle.cx_seat.specs.Closing.{GivesBack}
-use Rattle.cx_seat.specs.Opening.{AreApart, AreOpened, IsOpened, disks_in, is_durable}
-use Rattle.cx_seat.specs.Stores.{Lent, NoneFailed, disks_of, files_by, files_of, has_second, is_two}
+use Rattle.cx_seat.specs.Stores.{NoneFailed, files_by}
 use Rattle.cx_node.proofs.AnyKind.{told_any}
 use Rattle.cx_node.proofs.Done.{same_at}
 use Rattle.cx_seat.proofs.GivenBack.{lender, lent_at}
 use Rattle.cx_node.proofs.Grown.{changes_append}
 use Rattle.cx_node.proofs.Recovered.{AreOpenedFrom}
 use Rattle.cx_seat.proofs.OpenedRoles.{get_beside, has_records, keeps_store, name_is}
-use Rattle.cx_node.proofs.StoredRecords.{changed_still, changed_tells, changed_told, changed_two, failed_tells, failed_told}
-use Rattle.cx_node.proofs.StoredRecords.{failed_two, fails_rises, gives, kept, none_failed_at, refused_still, refused_tells}
-use Rattle.cx_node.proofs.StoredRecords.{refused_told, refused_two, tells}
+use Rattle.cx_node.proofs.StoredRecords.{changed_still, changed_tells, changed_told, changed_two, failed_tells, failed_told, failed_two}
+use Rattle.cx_node.proofs.StoredRecords.{fails_rises, gives, kept, none_failed_at, refused_still, refused_tells, refused_told, refused_two}
+use Rattle.cx_node.proofs.StoredRecords.{tells}
 use Rattle.cx_seat.proofs.Lent.{role_of_disk}
 
 grows_some : {K : Type 0} (g : Changing K) (cs : List KeeperChange) (o p : Option K) (j : K) → o ≡ Some j → Grows g cs o p

@@ -1,22 +1,16 @@
 -- Actions that were done, some after others.
-use Rattle.std.proofs.Common.{◌≡◌, ◌||◌, ℕ, zero, suc, pred, List, [], ◌∷◌, ◌++◌, length, map, take, arith, Option, None}
-use Rattle.std.proofs.Common.{Some, option_map, slice_get, refl, sym, ap, ◌∙◌, subst, inl}
-use Rattle.std.proofs.KnownBytes.{Appends-nil, Appends-trans}
-use Rattle.std.proofs.lemmas.Grind.{flat_map-append}
-use Rattle.std.proofs.lemmas.List.Folds.{list_any-append}
-use Rattle.std.proofs.lemmas.Option.{none-some, same_Some, slice_get-map}
-use Rattle.std.specs.Io.KnownBytes.{Appends}
-use Rattle.std.specs.List.{list_any}
-use Rattle.cx_base.specs.declared.cluster.Cluster.{Cluster}
+use Rattle.std.proofs.Common.{pred}
+use Rattle.std.proofs.KnownBytes.{Appends-trans}
+use Rattle.cx_role.proofs.Common.{◌≡◌, ◌||◌, ℕ, zero, suc, List, [], ◌∷◌, ◌++◌, length, map, take, arith, Option, None, Some, option_map}
+use Rattle.cx_role.proofs.Common.{slice_get, refl, sym, ap, ◌∙◌, subst, inl, Appends-nil, flat_map-append, list_any-append, none-some}
+use Rattle.cx_role.proofs.Common.{same_Some, slice_get-map, Appends, list_any, Cluster}
+use Rattle.cx_seat.specs.Prelude.{Action, Filled, Kept, Took, is_filled, kept_in, printed_in, StoreChange, Changing, GuestGrows, Rests}
+use Rattle.cx_seat.specs.Prelude.{keeper_of, who, Course, Moved, stays, then_do}
 use Rattle.cx_seat.specs.declared.guest.Guest.{Guest}
 use Rattle.cx_node.specs.declared.node.Stop.{Stop}
 use Rattle.cx_node.specs.declared.node.Stop.TheVariants as stop
-use Rattle.cx_course.specs.Action.{Action, Filled, Kept, Took, is_filled, kept_as, kept_in, printed_by, printed_in}
-use Rattle.cx_course.specs.Changing.{StoreChange}
-use Rattle.cx_seat.specs.Changing.{Changing}
+use Rattle.cx_course.specs.Action.{kept_as, printed_by}
 use Rattle.cx_node.specs.Doing.{Did, DidPart, Does, GuestsGrow, GuestsRest, Scene, StopsAt, course_in, scene}
-use Rattle.cx_seat.specs.Guest.{GuestGrows, Rests, keeper_of, who}
-use Rattle.cx_course.specs.Course.{Course, Moved, stays, then_do}
 use Rattle.cx_node.proofs.Asked.{linked_nothing, linked_then}
 use Rattle.cx_node.proofs.Grown.{before, behind, grows_none, guest_then}
 

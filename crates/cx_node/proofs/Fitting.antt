@@ -1,20 +1,13 @@
 -- What of a step's lines fits a record.
-use Rattle.std.proofs.Common.{◌≡◌, ◌+◌, ◌++◌, ℕ, true, false, nat_le, List, [], length, arith, Option, None, Some, refl}
-use Rattle.std.proofs.Common.{sym, ap, ap₂, ◌∙◌, append-nil}
-use Rattle.std.proofs.lemmas.Bool.Decides.{nat_tests}
-use Rattle.std.proofs.lemmas.List.{length-append}
-use Rattle.cx_base.specs.declared.event.Event.{Event}
-use Rattle.cx_keep.specs.Keeper.{KeeperChange}
-use Rattle.cx_course.specs.Course.{has_room_for, own_event, requests_by, step_events}
-use Rattle.cx_course.specs.Hosted.{Hosted, does}
+use Rattle.cx_role.proofs.Common.{◌≡◌, ◌+◌, ◌++◌, ℕ, true, false, nat_le, List, [], length, arith, Option, None, Some, refl, sym, ap, ap₂}
+use Rattle.cx_role.proofs.Common.{◌∙◌, append-nil, nat_tests, length-append, Event, KeeperChange, Letter}
+use Rattle.cx_seat.specs.Prelude.{has_room_for, step_events, Hosted, does, Doing, Changing, HasChangeFailedIn, Grows, Rests, hosted_of}
+use Rattle.cx_seat.specs.Prelude.{keeper_of, who, Recorded, has_room}
+use Rattle.cx_course.specs.Course.{own_event, requests_by}
 use Rattle.cx_course.proofs.Doings.{asks_nothing}
-use Rattle.cx_course.specs.declared.doing.Doing.{Doing}
-use Rattle.cx_letter.specs.Letter.{Letter}
-use Rattle.cx_seat.specs.Changing.{Changing}
-use Rattle.cx_seat.specs.Guest.{HasChangeFailedIn, Grows, Rests, hosted_of, keeper_of, who}
 use Rattle.cx_seat.specs.declared.guest.Guest.{Guest}
 use Rattle.cx_seat.specs.declared.guest.Guest.TheVariants as guest
-use Rattle.cx_record.specs.Numbers.{Recorded, has_room, most_lines}
+use Rattle.cx_record.specs.Numbers.{most_lines}
 
 more_full : (lines n more most : ℕ) → nat_le (lines + n) most ≡ false → nat_le (lines + (n + more)) most ≡ false
 more_full lines n more most full = grind (arith, nat_tests)

@@ -1,33 +1,16 @@
 -- Roles that are opened from stores without records are fresh.
-use Rattle.std.proofs.Common.{◌≡◌, ◌≤◌, ℕ, suc, arith, inl, inr, Bool, true, List, [], ◌∷◌, length, Option, Some, is_some, refl, sym, ap}
-use Rattle.std.proofs.Common.{◌∙◌, subst}
-use Rattle.std.specs.Prelude.{slice_get}
-use Rattle.std.specs.List.{All}
-use Rattle.cx_base.specs.declared.cluster.Cluster.{Cluster}
-use Rattle.cx_base.specs.declared.event.Event.{Event}
-use Rattle.cx_base.specs.declared.role.Kind.{Kind}
-use Rattle.cx_base.specs.declared.role.Kind.TheVariants.{Client, Batcher, Proxy, Unbatcher}
-use Rattle.cx_base.specs.declared.role.RoleId.{RoleId}
+use Rattle.cx_role.proofs.Common.{◌≡◌, ◌≤◌, ℕ, suc, arith, inl, inr, Bool, true, List, [], ◌∷◌, length, Option, Some, is_some, refl, sym}
+use Rattle.cx_role.proofs.Common.{ap, ◌∙◌, subst, slice_get, All, Cluster, Event, Kind, Client, Batcher, Proxy, Unbatcher, RoleId, Member}
+use Rattle.cx_role.proofs.Common.{names_role, Rules, Record}
+use Rattle.cx_seat.specs.Prelude.{ClientOptions, AreDistinct, course_of, Hosted, TakeResults, node_run, Files, RecordStore, IsRecordable}
+use Rattle.cx_seat.specs.Prelude.{IsScript, script_of, AreApart, AreOpened, is_durable, opened_as}
 use Rattle.cx_base.specs.Role.{role as a_role}
 use Rattle.cx_client.specs.Client.{IsClient, client_opened}
 use Rattle.cx_client.proofs.Steps.{opened_is_client}
-use Rattle.cx_client.specs.declared.asking.ClientOptions.{ClientOptions}
-use Rattle.cx_course.specs.Alike.{AreDistinct, AreFresh, IsFresh, IsFreshClient, IsFreshRole}
-use Rattle.cx_course.specs.Course.{course_of}
+use Rattle.cx_course.specs.Alike.{AreFresh, IsFresh, IsFreshClient, IsFreshRole}
 use Rattle.cx_course.specs.Follows.{FollowsBetween, EachKeptIsNext}
-use Rattle.cx_course.specs.Hosted.{Hosted}
-use Rattle.cx_course.specs.Run.{TakeResults}
-use Rattle.cx_course.specs.Tending.{node_run}
-use Rattle.cx_journal.specs.Files.{Files}
-use Rattle.cx_journal.specs.declared.store.RecordStore.{RecordStore}
-use Rattle.cx_model.specs.Member.{Member}
-use Rattle.cx_model.specs.Names.{names_role}
-use Rattle.cx_model.specs.Rules.{Rules, opened}
-use Rattle.cx_letter.specs.declared.kept.Record.{Record}
-use Rattle.cx_record.specs.Readable.{IsRecordable}
-use Rattle.cx_script.specs.Requests.{IsScript, script_of}
+use Rattle.cx_model.specs.Rules.{opened}
 use Rattle.cx_seat.specs.declared.guest.Guest.{Guest}
-use Rattle.cx_seat.specs.Opening.{AreApart, AreOpened, is_durable, opened_as}
 use Rattle.cx_node.specs.Serving.{IsRecordedRun, hosts, run_of}
 use Rattle.cx_node.proofs.Recovered.{AreOpenedFrom, hosts_opened}
 use Rattle.cx_seat.proofs.OpenedRoles.{distinct_opened, get_beside, get_map}

@@ -1,9 +1,7 @@
 -- The grid of the first acceptors.
-use Rattle.std.proofs.Common.{◌≡◌, ◌≤◌, ◌/◌, ◌%◌, ◌==◌, ℕ, zero, suc, Bool, true, false, List, [], ◌∷◌, take, arith}
-use Rattle.std.proofs.Common.{lit≤, if◌then◌else◌, refl, sym, ap, ◌∙◌, subst}
-use Rattle.std.proofs.lemmas.Bool.Decides.{nat_tests}
-use Rattle.cx_base.specs.Grid.{IsGrid, Shape, make_grid}
-use Rattle.cx_base.specs.Lists.{numbers}
+use Rattle.std.proofs.Common.{lit≤}
+use Rattle.cx_base.proofs.Common.{◌≡◌, ◌≤◌, ◌/◌, ◌%◌, ◌==◌, ℕ, zero, suc, Bool, true, false, List, [], ◌∷◌, take, arith, if◌then◌else◌}
+use Rattle.cx_base.proofs.Common.{refl, sym, ap, ◌∙◌, subst, nat_tests, IsGrid, Shape, make_grid, numbers}
 use Rattle.cx_course.specs.Run.{first_grid}
 
 abbrev pub firsts : List ℕ

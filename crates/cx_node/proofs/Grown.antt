@@ -1,14 +1,8 @@
 -- What keepers were given, one list of changes after another, and the places of the first actions of two lists.
-use Rattle.std.proofs.Common.{◌≡◌, ℕ, zero, suc, List, [], ◌∷◌, ◌++◌, take, Option, None, Some, slice_get, refl, sym}
-use Rattle.std.proofs.Common.{ap, subst, Bool, true, false, if◌then◌else◌}
-use Rattle.std.proofs.lemmas.Option.{none-some}
-use Rattle.cx_base.specs.declared.role.RoleId.{RoleId}
-use Rattle.cx_base.specs.Role.{same_role}
-use Rattle.cx_keep.specs.Keeper.{KeeperChange}
+use Rattle.cx_role.proofs.Common.{◌≡◌, ℕ, zero, suc, List, [], ◌∷◌, ◌++◌, take, Option, None, Some, slice_get, refl, sym, ap, subst, Bool}
+use Rattle.cx_role.proofs.Common.{true, false, if◌then◌else◌, none-some, RoleId, same_role, KeeperChange}
+use Rattle.cx_seat.specs.Prelude.{StoreChange, changes_of, Changing, AreChangesMade, Grows, GuestGrows, keeper_of, who}
 use Rattle.cx_seat.specs.declared.guest.Guest.{Guest}
-use Rattle.cx_course.specs.Changing.{StoreChange, changes_of}
-use Rattle.cx_seat.specs.Changing.{Changing}
-use Rattle.cx_seat.specs.Guest.{AreChangesMade, Grows, GuestGrows, keeper_of, who}
 
 -- the place after a list at which a prefix of another ends
 pub behind : {X : Type 0} (xs ys : List X) (n : ℕ) → (k : ℕ) × (take k (xs ++ ys) ≡ xs ++ take n ys)

@@ -1,33 +1,15 @@
 -- What hosting came to, from what binding, opening, running and giving back came to.
-use Rattle.std.proofs.Common.{◌≡◌, ◌⊎◌, ◌≤◌, ◌<◌, ◌||◌, ℕ, zero, suc, Bool, true, false, List, [], ◌∷◌, ◌++◌, length, map, take, arith}
-use Rattle.std.proofs.Common.{Option, None, Some, option_map, Result, Ok, Err, refl, sym, ap, ◌∙◌, subst, append-nil, inl, inr}
-use Rattle.std.specs.Prelude.{IfErr, IfOk, IfSome, is_some, slice_get}
-use Rattle.std.specs.Io.KnownBytes.{Appends}
-use Rattle.std.specs.List.{list_any}
-use Rattle.std.proofs.KnownBytes.{Appends-nil}
-use Rattle.std.proofs.lemmas.Grind.{flat_map-append}
-use Rattle.std.proofs.lemmas.List.{length-map, take-map}
-use Rattle.std.proofs.lemmas.Option.{none-some, same_Some}
-use Rattle.cx_base.specs.declared.cluster.Cluster.{Cluster}
-use Rattle.cx_base.specs.declared.event.Event.{Event}
-use Rattle.cx_base.specs.declared.role.RoleId.{RoleId}
+use Rattle.cx_role.proofs.Common.{◌≡◌, ◌⊎◌, ◌≤◌, ◌<◌, ◌||◌, ℕ, zero, suc, Bool, true, false, List, [], ◌∷◌, ◌++◌, length, map, take, arith}
+use Rattle.cx_role.proofs.Common.{Option, None, Some, option_map, Result, Ok, Err, refl, sym, ap, ◌∙◌, subst, append-nil, inl, inr, IfErr}
+use Rattle.cx_role.proofs.Common.{IfOk, IfSome, is_some, slice_get, Appends, list_any, Appends-nil, flat_map-append, length-map, take-map}
+use Rattle.cx_role.proofs.Common.{none-some, same_Some, Cluster, Event, RoleId, Rises, Record}
+use Rattle.cx_seat.specs.Prelude.{ClientOptions, LinkHistory, Shelf, files_records, RecordStore, Recorded, Action, Bound, Filled}
+use Rattle.cx_seat.specs.Prelude.{AreTakesOf, Kept, Printed, Took, is_filled, kept_in, printed_in, StoreChange, changes_of, lists_after}
+use Rattle.cx_seat.specs.Prelude.{Course, course_of, Hosted, TakeResults, node_run, who, GivesBack, AreApart, AreOpened, IsBadAs}
+use Rattle.cx_seat.specs.Prelude.{IsFirstBad, IsFirstUsed, disks_in, is_durable, is_store_used, files_of, is_two}
 use Rattle.cx_base.specs.declared.status.Status.TheVariants as status
-use Rattle.cx_base.specs.Faults.{Rises}
-use Rattle.cx_client.specs.declared.asking.ClientOptions.{ClientOptions}
-use Rattle.cx_edge.specs.Link.{LinkHistory}
-use Rattle.cx_edge.specs.declared.shelf.Shelf.{Shelf}
-use Rattle.cx_journal.specs.Files.{files_records}
-use Rattle.cx_journal.specs.declared.store.RecordStore.{RecordStore}
 use Rattle.cx_disk.specs.declared.disk.Disk.{Ghosts as DiskGhosts}
-use Rattle.cx_letter.specs.declared.kept.Record.{Record}
-use Rattle.cx_record.specs.Numbers.{Recorded}
-use Rattle.cx_course.specs.Action.{Action, Bound, Filled, AreTakesOf, Kept, Printed, Took, is_filled, kept_as, kept_in, printed_by}
-use Rattle.cx_course.specs.Action.{printed_in}
-use Rattle.cx_course.specs.Changing.{StoreChange, changes_of, lists_after}
-use Rattle.cx_course.specs.Course.{Course, course_of}
-use Rattle.cx_course.specs.Hosted.{Hosted}
-use Rattle.cx_course.specs.Run.{TakeResults}
-use Rattle.cx_course.specs.Tending.{node_run}
+use Rattle.cx_course.specs.Action.{kept_as, printed_by}
 use Rattle.cx_seat.specs.declared.guest.Guest.{Guest}
 use Rattle.cx_node.specs.declared.node.RunEnd.{RunEnd}
 use Rattle.cx_node.specs.declared.node.RunEnd.TheVariants as end
@@ -37,20 +19,14 @@ use Rattle.cx_seat.specs.declared.opening.OpenStop.{OpenStop}
 use Rattle.cx_seat.specs.declared.opening.OpenStop.TheVariants as open_stop
 use Rattle.cx_node.specs.Acts.{failures}
 use Rattle.cx_node.specs.Doing.{Did as DidNode, DidPart, Linked, Scene, course_in, scene}
-use Rattle.cx_seat.specs.Guest.{who}
-use Rattle.cx_seat.specs.Closing.{GivesBack}
 use Rattle.cx_node.specs.Hosting.{HasOpened, HasRun, HostAnswered, HostBinding, HostDid, HostEnds, HostEndsAt, HostEndsAtChange}
-use Rattle.cx_node.specs.Hosting.{HostEndsEarly, Ran}
-use Rattle.cx_node.specs.Hosting.{RunsBehind, RunsPartBehind, ended_status, known_first, unopened_status, with_binds}
+use Rattle.cx_node.specs.Hosting.{HostEndsEarly, Ran, RunsBehind, RunsPartBehind, ended_status, known_first, unopened_status, with_binds}
 use Rattle.cx_node.specs.Node.{IsEnd, IsUnderway}
-use Rattle.cx_seat.specs.Opening.{AreApart, AreOpened, IsBadAs, IsFirstBad, IsFirstUsed, disks_in, is_durable, is_store_used}
 use Rattle.cx_node.specs.Ports.{bind_of}
 use Rattle.cx_node.specs.Serving.{Did, IsRecordedRun, Outside, ServedPart, begun_with, record_head, hosts, recorded_header, run_of}
 use Rattle.cx_node.specs.Serving.{records_in_files}
-use Rattle.cx_seat.specs.Stores.{files_of, is_two}
 use Rattle.cx_node.proofs.Asked.{binds_kept, binds_printed, linked_binds, linked_nothing, linked_then}
-use Rattle.cx_node.proofs.ClosedStores.{ran_still, ran_stores, stops_rises, stops_still, stops_stores, told_whole}
-use Rattle.cx_node.proofs.ClosedStores.{unhosted}
+use Rattle.cx_node.proofs.ClosedStores.{ran_still, ran_stores, stops_rises, stops_still, stops_stores, told_whole, unhosted}
 use Rattle.cx_node.proofs.Grown.{behind, behind_next}
 use Rattle.cx_node.proofs.Recovered.{AreOpenedFrom, AreTold, hosts_opened, told_opened}
 use Rattle.cx_seat.proofs.OpenedRoles.{get_beside, good_opened, name_is}

@@ -5,6 +5,7 @@ pub mod AnyKind
 pub mod Asked
 pub mod Asking
 pub mod ClosedStores
+pub mod Common
 pub mod Done
 pub mod Fitting
 pub mod FreshRoles

@@ -1,33 +1,24 @@
 -- The three parts of a turn, as acts.
-use Rattle.std.proofs.Common.{◌≡◌, ◌⊎◌, ◌≤◌, ◌<◌, ◌+◌, ◌==◌, ◌%◌, ◌||◌, ℕ, zero, suc, length, arith, inl, inr, Bool}
-use Rattle.std.proofs.Common.{true, false, List, [], ◌∷◌, Option, None, Some, Result, Ok, Err, slice_get}
-use Rattle.std.proofs.Common.{if◌then◌else◌, refl, sym, ap, ◌∙◌, subst}
-use Rattle.cx_base.specs.declared.cluster.Cluster.{Cluster}
+use Rattle.cx_role.proofs.Common.{◌≡◌, ◌⊎◌, ◌≤◌, ◌<◌, ◌+◌, ◌==◌, ◌%◌, ◌||◌, ℕ, zero, suc, length, arith, inl, inr, Bool, true, false, List}
+use Rattle.cx_role.proofs.Common.{[], ◌∷◌, Option, None, Some, Result, Ok, Err, slice_get, if◌then◌else◌, refl, sym, ap, ◌∙◌, subst}
+use Rattle.cx_role.proofs.Common.{Cluster, role, Letter}
+use Rattle.cx_seat.specs.Prelude.{LinkHistory, Changing, Doing, Give, Snap, AreReady, hosted_in, Course, Moved, does_at, stays, then_do}
+use Rattle.cx_seat.specs.Prelude.{took, all_do, at_place, brought, first_do, grid_of, idle_at, lead_at, hosted_place, Numbered, Recorded}
 use Rattle.cx_base.specs.declared.event.Order.TheVariants as order
 use Rattle.cx_base.specs.declared.role.Kind.TheVariants as kind
-use Rattle.cx_base.specs.Role.{role}
-use Rattle.cx_edge.specs.Link.{LinkHistory}
 use Rattle.cx_msg.specs.Decoding.{decoded}
 use Rattle.cx_msg.specs.Decodes.{Decodes}
-use Rattle.cx_letter.specs.Letter.{Letter}
 use Rattle.cx_msg.specs.declared.fault.WireFault.{WireFault}
 use Rattle.cx_msg.specs.declared.fault.WireFault.TheVariants as faults
 use Rattle.cx_letter.specs.declared.input.Input.TheVariants as input
-use Rattle.cx_seat.specs.Changing.{Changing}
 use Rattle.cx_node.specs.declared.come.Come.{Come}
 use Rattle.cx_node.specs.declared.come.Come.TheVariants as come
-use Rattle.cx_course.specs.declared.doing.Doing.{Doing}
-use Rattle.cx_course.specs.declared.doing.Doing.TheVariants.{Give, Snap}
 use Rattle.cx_seat.specs.declared.guest.Guest.{Guest}
 use Rattle.cx_node.specs.declared.node.Stop.{Stop}
 use Rattle.cx_node.specs.declared.node.Stop.TheVariants.{LinkFault, NoMemory, RecordFull, StoreFault, WriteFault}
 use Rattle.cx_node.specs.Acts.{Acts, ActsOnce, Receives, come_of, read_as}
 use Rattle.cx_node.specs.Doing.{Scene, course_in, scene}
-use Rattle.cx_seat.specs.Guest.{AreReady, hosted_in}
-use Rattle.cx_course.specs.Course.{Course, Moved, does_at, stays, then_do, took}
-use Rattle.cx_course.specs.Run.{all_do, at_place, brings, brought, comes, first_do, grid_of}
-use Rattle.cx_course.specs.Run.{idle_at, lead_at, ordered, hosted_place, prepared, snaps, spelled, ticked, node_turn}
-use Rattle.cx_record.specs.Numbers.{Numbered, Recorded}
+use Rattle.cx_course.specs.Run.{brings, comes, ordered, prepared, snaps, spelled, ticked, node_turn}
 use Rattle.cx_node.proofs.Actions.{Done, acts_before, acts_cut, acts_none, acts_nothing, acts_then, acts_took, course}
 
 -- what comes of what a take gave

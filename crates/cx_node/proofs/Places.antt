@@ -1,17 +1,12 @@
 -- The places of hosted roles, and what is asked of all of them.
-use Rattle.std.proofs.Common.{◌≡◌, ◌<◌, ◌+◌, ◌&&◌, ◌||◌, not, ℕ, zero, suc, Bool, true, false, cond, List, [], ◌∷◌, length}
-use Rattle.std.proofs.Common.{arith, nat_lt, Option, None, Some, option_map, position, if◌then◌else◌, refl, sym, ap}
-use Rattle.std.proofs.Common.{◌∙◌, subst}
-use Rattle.std.specs.List.{list_all, list_any, position_or_len, range_with_len}
-use Rattle.std.proofs.lemmas.Bool.Decides.{nat_tests}
+use Rattle.std.specs.List.{range_with_len}
 use Rattle.std.proofs.lemmas.Option.{cond_some}
-use Rattle.cx_base.specs.Lists.{numbers}
-use Rattle.cx_base.specs.Role.{same_role}
-use Rattle.cx_base.specs.declared.role.RoleId.{RoleId}
+use Rattle.cx_role.proofs.Common.{◌≡◌, ◌<◌, ◌+◌, ◌&&◌, ◌||◌, not, ℕ, zero, suc, Bool, true, false, cond, List, [], ◌∷◌, length, arith}
+use Rattle.cx_role.proofs.Common.{nat_lt, Option, None, Some, option_map, position, if◌then◌else◌, refl, sym, ap, ◌∙◌, subst, list_all}
+use Rattle.cx_role.proofs.Common.{list_any, position_or_len, nat_tests, numbers, same_role, RoleId}
+use Rattle.cx_seat.specs.Prelude.{hosted_in, hosted_of, who, Hosted, has_finished, is_client, hosted_place}
 use Rattle.cx_seat.specs.declared.guest.Guest.{Guest}
-use Rattle.cx_seat.specs.Guest.{hosted_in, hosted_of, who}
-use Rattle.cx_course.specs.Hosted.{Hosted}
-use Rattle.cx_course.specs.Run.{all_finished, has_finished, is_client, hosted_place}
+use Rattle.cx_course.specs.Run.{all_finished}
 
 -- std's numbers in rising order
 pub range_numbers : (first count : ℕ) → range_with_len first count ≡ numbers first count

@@ -1,18 +1,10 @@
 -- A run that isn't recorded leaves no step out.
-use Rattle.std.proofs.Common.{◌≡◌, ◌||◌, ℕ, false, List, [], ◌∷◌, ◌++◌, Option, None, Some, refl, ap, ◌∙◌}
-use Rattle.std.specs.Prelude.{slice_get}
-use Rattle.std.specs.List.{list_any}
-use Rattle.std.proofs.lemmas.List.Folds.{list_any-append}
-use Rattle.cx_base.specs.declared.cluster.Cluster.{Cluster}
-use Rattle.cx_course.specs.Action.{Action, Took, is_filled, step_actions}
-use Rattle.cx_course.specs.Changing.{StoreChange}
-use Rattle.cx_course.specs.Course.{Course, course_of, does_at, found_does}
-use Rattle.cx_course.specs.Hosted.{Hosted, does}
-use Rattle.cx_course.specs.Run.{TakeResults}
-use Rattle.cx_course.specs.Tending.{node_run}
-use Rattle.cx_course.specs.declared.doing.Doing.{Doing}
+use Rattle.cx_role.proofs.Common.{◌≡◌, ◌||◌, ℕ, false, List, [], ◌∷◌, ◌++◌, Option, None, Some, refl, ap, ◌∙◌, slice_get, list_any}
+use Rattle.cx_role.proofs.Common.{list_any-append, Cluster, Letter}
+use Rattle.cx_seat.specs.Prelude.{Action, Took, is_filled, step_actions, StoreChange, Course, course_of, Hosted, does, TakeResults}
+use Rattle.cx_seat.specs.Prelude.{node_run, Doing}
+use Rattle.cx_course.specs.Course.{does_at, found_does}
 use Rattle.cx_node.proofs.Walk.{IsPreserved, walk}
-use Rattle.cx_letter.specs.Letter.{Letter}
 
 -- no record is known of, and nothing was left out
 record IsPlain (s : Course) (done : List Action) : Type 0 where

@@ -1,22 +1,11 @@
 -- The records that each role was opened from, and whom a run begins with.
-use Rattle.std.proofs.Common.{◌≡◌, ℕ, zero, suc, arith, Bool, true, false, List, [], ◌∷◌, length, Option}
-use Rattle.std.proofs.Common.{Some, refl, sym, ap, ◌∙◌, subst, if◌then◌else◌}
-use Rattle.std.specs.Prelude.{slice_get}
-use Rattle.std.proofs.lemmas.Option.{none-some, same_Some}
-use Rattle.cx_base.specs.declared.cluster.Cluster.{Cluster}
-use Rattle.cx_base.specs.declared.event.Event.{Event}
-use Rattle.cx_base.specs.declared.role.RoleId.{RoleId}
-use Rattle.cx_base.specs.Role.{same_role}
-use Rattle.cx_client.specs.declared.asking.ClientOptions.{ClientOptions}
-use Rattle.cx_journal.specs.Files.{Files}
-use Rattle.cx_journal.specs.State.{records_or_none}
-use Rattle.cx_journal.specs.declared.store.RecordStore.{RecordStore}
-use Rattle.cx_model.specs.Lists.{by_role, differ_role, same_role-itself}
-use Rattle.cx_letter.specs.declared.kept.Record.{Record}
+use Rattle.cx_role.proofs.Common.{◌≡◌, ℕ, zero, suc, arith, Bool, true, false, List, [], ◌∷◌, length, Option, Some, refl, sym, ap, ◌∙◌}
+use Rattle.cx_role.proofs.Common.{subst, if◌then◌else◌, slice_get, none-some, same_Some, Cluster, Event, RoleId, same_role, differ_role}
+use Rattle.cx_role.proofs.Common.{same_role-itself, Record}
+use Rattle.cx_seat.specs.Prelude.{ClientOptions, Files, records_or_none, RecordStore, hosted_in, Hosted, AreApart, AreOpened, IsOpened}
+use Rattle.cx_seat.specs.Prelude.{is_durable, opened_as}
+use Rattle.cx_model.specs.Lists.{by_role}
 use Rattle.cx_seat.specs.declared.guest.Guest.{Guest}
-use Rattle.cx_seat.specs.Guest.{hosted_in}
-use Rattle.cx_course.specs.Hosted.{Hosted}
-use Rattle.cx_seat.specs.Opening.{AreApart, AreOpened, IsOpened, is_durable, opened_as}
 use Rattle.cx_node.specs.Serving.{hosts, records_in_files}
 
 module _ {D : Type 0} (seen : D → Option (List ℕ)) (disk_faults : D → ℕ) (c : Cluster) (options : ClientOptions)

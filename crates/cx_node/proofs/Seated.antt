@@ -1,22 +1,13 @@
 -- What a role at its place does, seen of all roles: the others stay as they are, since no two have one name.
-use Rattle.std.proofs.Common.{append-nil, refl, sym, ap, ◌∙◌}
-use Rattle.std.proofs.Common.{take, Option, None, Some, slice_get}
-use Rattle.std.proofs.Common.{◌≡◌, ℕ, false, List, [], ◌++◌, map}
-use Rattle.std.proofs.lemmas.List.{take-map}
-use Rattle.cx_base.specs.Role.{same_role}
+use Rattle.cx_role.proofs.Common.{append-nil, refl, sym, ap, ◌∙◌, take, Option, None, Some, slice_get, ◌≡◌, ℕ, false, List, [], ◌++◌, map}
+use Rattle.cx_role.proofs.Common.{take-map, same_role, RoleId, Letter, KeeperChange, Renewal, Record}
+use Rattle.cx_seat.specs.Prelude.{Doing, Begin, Give, Snap, Action, Kept, Printed, step_actions, StoreChange, changes_of, Changing}
+use Rattle.cx_seat.specs.Prelude.{HasChangeFailedIn, Hosted, kind_at, name_of}
 use Rattle.cx_base.specs.declared.role.Kind.TheVariants as kind
-use Rattle.cx_base.specs.declared.role.RoleId.{RoleId}
-use Rattle.cx_letter.specs.Letter.{Letter}
 use Rattle.cx_letter.specs.declared.input.Input.TheVariants as input
-use Rattle.cx_keep.specs.Keeper.{KeeperChange, Renewal}
-use Rattle.cx_letter.specs.declared.kept.Record.{Record}
-use Rattle.cx_course.specs.declared.doing.Doing.{Doing}
-use Rattle.cx_course.specs.declared.doing.Doing.TheVariants.{Begin, Give, Snap}
-use Rattle.cx_course.specs.Action.{Action, Kept, Printed, Sent, step_actions}
-use Rattle.cx_course.specs.Changing.{StoreChange, changed_by, changes_of}
-use Rattle.cx_seat.specs.Changing.{Changing}
-use Rattle.cx_seat.specs.Guest.{HasChangeFailedIn}
-use Rattle.cx_course.specs.Hosted.{Hosted, ClientAt, does, kind_at, name_of}
+use Rattle.cx_course.specs.Action.{Sent}
+use Rattle.cx_course.specs.Changing.{changed_by}
+use Rattle.cx_course.specs.Hosted.{ClientAt, does}
 use Rattle.cx_course.proofs.Roles.{does_change}
 use Rattle.cx_course.proofs.Stores.{first_change, other_changes}
 use Rattle.cx_node.proofs.Grown.{before, behind}

@@ -1,41 +1,27 @@
 -- What a hosted role does, seen of all hosted roles.
-use Rattle.std.proofs.Common.{refl, sym, ap, ◌∙◌, subst, inl, inr}
-use Rattle.std.proofs.Common.{take, IsTrue, Option, None, Some, option_map, Ok, Err, slice_get, slice_set}
-use Rattle.std.proofs.Common.{◌≡◌, ◌⊎◌, ◌==◌, ℕ, zero, suc, true, false, List, [], ◌∷◌, ◌++◌, length, length-set, map}
-use Rattle.std.proofs.KnownBytes.{Appends-nil}
-use Rattle.std.proofs.lemmas.List.{length-map, map-set}
-use Rattle.std.proofs.lemmas.Option.{same_Some, slice_get-map}
-use Rattle.std.specs.Prelude.{IfSome}
-use Rattle.std.specs.Io.KnownBytes.{Appends}
-use Rattle.cx_base.specs.Role.{same_role}
-use Rattle.cx_base.specs.declared.cluster.Cluster.{Cluster}
-use Rattle.cx_base.specs.declared.event.Event.{Event}
-use Rattle.cx_base.specs.declared.role.RoleId.{RoleId}
-use Rattle.cx_edge.specs.Link.{LinkHistory}
+use Rattle.std.proofs.lemmas.List.{map-set}
+use Rattle.cx_role.proofs.Common.{refl, sym, ap, ◌∙◌, subst, inl, inr, take, IsTrue, Option, None, Some, option_map, Ok, Err, slice_get}
+use Rattle.cx_role.proofs.Common.{slice_set, ◌≡◌, ◌⊎◌, ◌==◌, ℕ, zero, suc, true, false, List, [], ◌∷◌, ◌++◌, length, length-set, map}
+use Rattle.cx_role.proofs.Common.{Appends-nil, length-map, same_Some, slice_get-map, IfSome, Appends, same_role, Cluster, Event, RoleId}
+use Rattle.cx_role.proofs.Common.{bool_cases, differ_role, get_set_other, get_set_same, not_both, number_itself, same_number, names_role}
+use Rattle.cx_role.proofs.Common.{Letter}
+use Rattle.cx_seat.specs.Prelude.{LinkHistory, Doing, Action, Filled, Kept, Printed, bound_in, step_actions, taken_in, changes_of, Changing}
+use Rattle.cx_seat.specs.Prelude.{AreDistinct, AreReady, HasChangeFailedIn, Grows, GuestGrows, Rests, hosted_in, hosted_of, keeper_of, who}
+use Rattle.cx_seat.specs.Prelude.{Step, does, is_live_role, kind_at, name_of, Course, Moved, has_room_for, step_events, noting, Recorded}
+use Rattle.cx_seat.specs.Prelude.{has_room}
 use Rattle.cx_edge.specs.Sink.{AppendsPart}
-use Rattle.cx_model.specs.Lists.{bool_cases, differ_role, get_set_other, get_set_same, not_both, number_itself}
-use Rattle.cx_model.specs.Lists.{same_number}
-use Rattle.cx_model.specs.Names.{names_role}
-use Rattle.cx_letter.specs.Letter.{Letter}
-use Rattle.cx_course.specs.declared.doing.Doing.{Doing}
 use Rattle.cx_seat.specs.declared.guest.Guest.{Guest}
 use Rattle.cx_node.specs.declared.node.Stop.{Stop}
 use Rattle.cx_node.specs.declared.node.Stop.TheVariants as stop
-use Rattle.cx_course.specs.Action.{Action, Answered, Filled, Kept, Noted, Printed, Sent, bound_in, step_actions, taken_in}
+use Rattle.cx_course.specs.Action.{Answered, Noted, Sent}
 use Rattle.cx_node.specs.Acts.{Acts}
-use Rattle.cx_course.specs.Changing.{changes_of}
-use Rattle.cx_seat.specs.Changing.{Changing}
 use Rattle.cx_node.specs.Doing.{HasLinkSent, HasLinkSentPart, Did, DidPart, GuestsGrow, GuestsRest, scene}
-use Rattle.cx_course.specs.Alike.{AreDistinct}
-use Rattle.cx_seat.specs.Guest.{AreReady, HasChangeFailedIn, Grows, GuestGrows, IsGuestReady, Rests, hosted_in, hosted_of, keeper_of, who}
-use Rattle.cx_course.specs.Hosted.{Step}
-use Rattle.cx_course.specs.Hosted.{does, is_live_role, kind_at, name_of}
-use Rattle.cx_course.specs.Course.{Course, Moved, does_at, has_room_for, found_does, made, made_if, seen, step_events}
-use Rattle.cx_seat.specs.Noting.{with_more_lines, noting, shown}
+use Rattle.cx_seat.specs.Guest.{IsGuestReady}
+use Rattle.cx_course.specs.Course.{does_at, found_does, made, made_if, seen}
+use Rattle.cx_seat.specs.Noting.{with_more_lines, shown}
 use Rattle.cx_record.specs.Lines.{events_text}
-use Rattle.cx_record.specs.Numbers.{Recorded, has_room, with_step}
-use Rattle.cx_node.proofs.Asked.{IsNoted, are_noted, linked_step, none_noted, step_bound, step_kept, step_made, step_printed}
-use Rattle.cx_node.proofs.Asked.{step_taken}
+use Rattle.cx_record.specs.Numbers.{with_step}
+use Rattle.cx_node.proofs.Asked.{IsNoted, are_noted, linked_step, none_noted, step_bound, step_kept, step_made, step_printed, step_taken}
 use Rattle.cx_node.proofs.Done.{did_nothing, guests_rest, rests_itself, same_at, stands_at}
 use Rattle.cx_node.proofs.Grown.{grows_none}
 use Rattle.cx_node.proofs.Seated.{kept_own, kept_first, kind_stays, renewed_by, fails_some, cut_sends, cut_text}

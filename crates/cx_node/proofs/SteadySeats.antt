@@ -1,42 +1,22 @@
 -- What a run leaves as it was: the names of the hosted roles, their order, and which of them have a store.
-use Rattle.std.proofs.Common.{◌≡◌, ◌⊎◌, ◌==◌, ℕ, suc, arith, Bool, true, false, List, [], ◌∷◌, length, length-set, map}
-use Rattle.std.proofs.Common.{take, Option, None, Some, option_map, Result, Ok, Err, refl, sym, ap, ap₂, ◌∙◌, subst, inl, inr, ◌++◌}
-use Rattle.std.specs.Prelude.{IfErr, IfOk, slice_get, slice_set}
-use Rattle.std.specs.Io.KnownBytes.{Appends}
-use Rattle.std.specs.List.{list_any}
-use Rattle.std.proofs.lemmas.List.{map-append, take-map}
-use Rattle.std.proofs.lemmas.Option.{same_Some}
-use Rattle.cx_base.specs.declared.cluster.Cluster.{Cluster}
-use Rattle.cx_base.specs.declared.role.RoleId.{RoleId}
-use Rattle.cx_model.specs.Lists.{bool_cases, get_set_other, get_set_same, not_both, number_itself, same_number}
-use Rattle.cx_edge.specs.Shelf.{shelf}
-use Rattle.cx_edge.specs.declared.shelf.Shelf.{Shelf}
-use Rattle.cx_journal.specs.declared.store.RecordStore.{RecordStore}
-use Rattle.cx_journal.specs.declared.store.RecordStore.TheVariants.{One, Two}
-use Rattle.cx_keep.specs.Keeper.{KeeperChange}
-use Rattle.cx_keep.specs.declared.keeper.KeepFault.{KeepFault}
-use Rattle.cx_keep.specs.declared.keeper.KeepFault.TheVariants.{Failed, NoMemory}
+use Rattle.cx_role.proofs.Common.{◌≡◌, ◌⊎◌, ◌==◌, ℕ, suc, arith, Bool, true, false, List, [], ◌∷◌, length, length-set, map, take, Option}
+use Rattle.cx_role.proofs.Common.{None, Some, option_map, Result, Ok, Err, refl, sym, ap, ap₂, ◌∙◌, subst, inl, inr, ◌++◌, IfErr, IfOk}
+use Rattle.cx_role.proofs.Common.{slice_get, slice_set, Appends, list_any, map-append, take-map, same_Some, Cluster, RoleId, bool_cases}
+use Rattle.cx_role.proofs.Common.{get_set_other, get_set_same, not_both, number_itself, same_number, KeeperChange, KeepFault, Failed}
+use Rattle.cx_seat.specs.Prelude.{shelf, Shelf, RecordStore, One, Two, Action, Printed, is_filled, kept_in, printed_in, changes_of}
+use Rattle.cx_seat.specs.Prelude.{Changing, Refuses, LinkHistory, Recorded, AreDistinct, AreChangesMade, HasChangeFailedIn, Grows, Rests}
+use Rattle.cx_seat.specs.Prelude.{hosted_in, hosted_of, keeper_of, who, name_of, disks_in, lent_to, Lent, disks_of, is_two, places_of}
+use Rattle.cx_seat.specs.Prelude.{node_run}
+use Rattle.cx_keep.specs.declared.keeper.KeepFault.TheVariants.{NoMemory}
 use Rattle.cx_seat.specs.declared.guest.Guest.{Guest}
 use Rattle.cx_node.specs.declared.node.RunEnd.{RunEnd}
 use Rattle.cx_node.specs.declared.node.Stop.{Stop}
 use Rattle.cx_node.specs.declared.node.Stop.TheVariants as stop
-use Rattle.cx_course.specs.Action.{Action, Printed, is_filled, kept_in, printed_in}
-use Rattle.cx_course.specs.Changing.{changes_of}
-use Rattle.cx_seat.specs.Changing.{Changing, Refuses}
-use Rattle.cx_edge.specs.Link.{LinkHistory}
 use Rattle.cx_edge.specs.Sink.{AppendsPart}
-use Rattle.cx_record.specs.Numbers.{Recorded}
 use Rattle.cx_node.specs.Acts.{Failures}
 use Rattle.cx_node.specs.Hosting.{Ran, RunsBehind, RunsPartBehind}
-use Rattle.cx_node.specs.Doing.{Did, GuestFails, GuestsGrow, GuestsRest, Linked, Scene, StopsAt, course_in, scene}
-use Rattle.cx_node.specs.Doing.{with_actions}
-use Rattle.cx_course.specs.Alike.{AreDistinct}
-use Rattle.cx_seat.specs.Guest.{AreChangesMade, HasChangeFailedIn, Grows, Rests, hosted_in, hosted_of, keeper_of, who}
-use Rattle.cx_course.specs.Hosted.{name_of}
+use Rattle.cx_node.specs.Doing.{Did, GuestFails, GuestsGrow, GuestsRest, Linked, Scene, StopsAt, course_in, scene, with_actions}
 use Rattle.cx_node.specs.Node.{Runs, RunsPart}
-use Rattle.cx_seat.specs.Opening.{disks_in, lent_to}
-use Rattle.cx_seat.specs.Stores.{Lent, disks_of, is_two, places_of}
-use Rattle.cx_course.specs.Tending.{node_run}
 use Rattle.cx_node.proofs.Asked.{linked_nothing}
 use Rattle.cx_node.proofs.Done.{did_nothing, did_then, guests_rest, same_at, then_part}
 use Rattle.cx_node.proofs.Grown.{before}

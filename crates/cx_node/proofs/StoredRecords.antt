@@ -1,27 +1,17 @@
 -- What a store has after changes, and why one failed.
-use Rattle.std.proofs.Common.{◌≡◌, ◌≤◌, ◌⊎◌, ℕ, zero, suc, arith, Bool, true, List, [], ◌∷◌, ◌++◌, take, Some}
-use Rattle.std.proofs.Common.{Result, Ok, Err, refl, sym, ap, ◌∙◌, subst, inl, inr, is_some}
-use Rattle.std.specs.Prelude.{slice_get}
-use Rattle.std.proofs.lemmas.Option.{none-some, same_Some}
-use Rattle.cx_base.specs.Faults.{Rises}
-use Rattle.cx_base.specs.declared.role.RoleId.{RoleId}
+use Rattle.cx_role.proofs.Common.{◌≡◌, ◌≤◌, ◌⊎◌, ℕ, zero, suc, arith, Bool, true, List, [], ◌∷◌, ◌++◌, take, Some, Result, Ok, Err, refl}
+use Rattle.cx_role.proofs.Common.{sym, ap, ◌∙◌, subst, inl, inr, is_some, slice_get, none-some, same_Some, Rises, RoleId, Append}
+use Rattle.cx_role.proofs.Common.{KeeperChange, Renewal, list_after, KeepFault, Failed, Record}
+use Rattle.cx_seat.specs.Prelude.{shelf, files_records, IsStoreChange, store_told, RecordStore, One, Two, lists_after, Changing, Refuses}
+use Rattle.cx_seat.specs.Prelude.{AreChangesMade, HasChangeFailed, Lent, disks_of, is_two}
 use Rattle.cx_disk.specs.declared.disk.Disk.{Ghosts as DiskGhosts}
-use Rattle.cx_edge.specs.Shelf.{shelf}
-use Rattle.cx_keep.specs.Keeper.{Append, KeeperChange, IsKeeperChange, Renewal, list_after}
-use Rattle.cx_keep.specs.declared.keeper.KeepFault.{KeepFault}
-use Rattle.cx_keep.specs.declared.keeper.KeepFault.TheVariants.{Failed, NoMemory}
-use Rattle.cx_journal.specs.Files.{files_records}
-use Rattle.cx_journal.specs.Store.{IsStoreChange, store_faults, store_told, store_whole}
+use Rattle.cx_keep.specs.Keeper.{IsKeeperChange}
+use Rattle.cx_keep.specs.declared.keeper.KeepFault.TheVariants.{NoMemory}
+use Rattle.cx_journal.specs.Store.{store_faults, store_whole}
 use Rattle.cx_journal.specs.StoreLaw.{store_change_is}
-use Rattle.cx_journal.specs.declared.store.RecordStore.{RecordStore}
-use Rattle.cx_journal.specs.declared.store.RecordStore.TheVariants.{One, Two}
 use Rattle.cx_journal.proofs.Stores.{store_whole_after}
-use Rattle.cx_letter.specs.declared.kept.Record.{Record}
-use Rattle.cx_course.specs.Changing.{lists_after}
-use Rattle.cx_seat.specs.Changing.{Changing, Refuses}
-use Rattle.cx_seat.specs.Guest.{AreChangesMade, HasChangeFailed}
 use Rattle.cx_node.specs.Hosting.{store_gives}
-use Rattle.cx_seat.specs.Stores.{Lent, NoneFailed, disks_of, is_two}
+use Rattle.cx_seat.specs.Stores.{NoneFailed}
 
 pub take_next : {X : Type 0} (xs : List X) (n : ℕ) (x : X) → slice_get xs n ≡ Some x → take (suc n) xs ≡ take n xs
     ++ x ∷ []

@@ -1,24 +1,17 @@
 -- What is said of an input that is taken: its cluster has a port, and each client's requests are a script.
-use Rattle.std.proofs.Common.{◌≡◌, ◌||◌, not, ℕ, Bool, true, false, List, refl, sym, ap, ◌∙◌, subst, if◌then◌else◌, Option, Some, None}
-use Rattle.std.proofs.Common.{Result, Ok, Err}
-use Rattle.std.specs.Prelude.{IfOk, IsTrue, is_some}
-use Rattle.std.specs.List.{All, list_all}
-use Rattle.cx_base.specs.declared.cluster.Cluster.{Cluster}
-use Rattle.cx_base.specs.declared.role.RoleId.{RoleId}
+use Rattle.cx_role.proofs.Common.{◌≡◌, ◌||◌, not, ℕ, Bool, true, false, List, refl, sym, ap, ◌∙◌, subst, if◌then◌else◌, Option, Some, None}
+use Rattle.cx_role.proofs.Common.{Result, Ok, Err, IfOk, IsTrue, is_some, All, list_all, Cluster, RoleId, names_role}
+use Rattle.cx_seat.specs.Prelude.{ParsedLines, IsScript, script_of, IsRecordable}
 use Rattle.cx_cluster.specs.declared.fault.ClusterFault.{ClusterFault}
 use Rattle.cx_cluster.specs.Reading.{header_cluster}
 use Rattle.cx_script.specs.Header.{header_and_rest}
 use Rattle.cx_script.specs.Input.{of_header, whole_input}
-use Rattle.cx_script.specs.Lines.{ParsedLines}
-use Rattle.cx_script.specs.Requests.{IsScript, script_of}
 use Rattle.cx_script.proofs.Rising.{requests_are_scripts}
-use Rattle.cx_record.specs.Readable.{IsRecordable}
 use Rattle.cx_record.proofs.Spelled.{scripts_are_recordable}
 use Rattle.cx_journal.proofs.Payloads.{both_so}
-use Rattle.cx_model.specs.Names.{names_role}
 use Rattle.cx_node.specs.declared.input.Accepted.{Accepted}
-use Rattle.cx_node.specs.Input.{IsInputAnswer, are_all, bad_line_of, behind, header_says, input_says, input_of, may_host}
-use Rattle.cx_node.specs.Input.{refused_of, with_port}
+use Rattle.cx_node.specs.Input.{IsInputAnswer, are_all, bad_line_of, behind, header_says, input_says, input_of, may_host, refused_of}
+use Rattle.cx_node.specs.Input.{with_port}
 use Rattle.cx_node.specs.declared.input.NodeInput.{NodeInput}
 use Rattle.cx_node.specs.declared.input.NodeInput.TheVariants.{Nothing, BadHeader, Lines}
 use Rattle.cx_node.specs.declared.input.Refusal.{Refusal}

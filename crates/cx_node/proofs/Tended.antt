@@ -1,33 +1,20 @@
 -- The parts of a tended turn, as acts.
-use Rattle.std.proofs.Common.{◌≡◌, ◌+◌, not, ℕ, min, length, Bool, true, false, cond, List, [], ◌∷◌, map, Option, None, Some, option_map}
-use Rattle.std.proofs.Common.{Ok, Err, slice_get, if◌then◌else◌, refl, sym, ap, ap₂, ◌∙◌, subst, append-nil}
-use Rattle.std.specs.Prelude.{OnOk, filter, is_some}
-use Rattle.std.specs.List.{count_by, sum_by}
-use Rattle.std.specs.Option.{option_map_or}
 use Rattle.std.proofs.lemmas.List.Sums.{length-filter, sum-map, sum_by-cons}
-use Rattle.std.proofs.lemmas.Option.{none-some, same_Some}
-use Rattle.cx_base.specs.declared.cluster.Cluster.{Cluster}
-use Rattle.cx_base.specs.declared.role.Kind.{Kind}
+use Rattle.cx_role.proofs.Common.{◌≡◌, ◌+◌, not, ℕ, min, length, Bool, true, false, cond, List, [], ◌∷◌, map, Option, None, Some}
+use Rattle.cx_role.proofs.Common.{option_map, Ok, Err, slice_get, if◌then◌else◌, refl, sym, ap, ap₂, ◌∙◌, subst, append-nil, OnOk, filter}
+use Rattle.cx_role.proofs.Common.{is_some, count_by, sum_by, option_map_or, none-some, same_Some, Cluster, Kind, RoleId, role}
+use Rattle.cx_role.proofs.Common.{LeaderDurable, LeaderVolatile, Running, Letter}
+use Rattle.cx_seat.specs.Prelude.{hosted_in, hosted_of, Hosted, Course, Moved, stays, took, then_do, brought, is_client, hosted_place, Care}
+use Rattle.cx_seat.specs.Prelude.{Tended, asks_again, beat, beat_over, clients_noted, completed, care_after_turn, gets, heeded, in_turn}
+use Rattle.cx_seat.specs.Prelude.{is_beat, is_of_kind, is_overtaken, leader_asked, leader_cared, leader_tended, next_pass, passes}
+use Rattle.cx_seat.specs.Prelude.{standing_of, those_tick, within, Numbered, numbered}
 use Rattle.cx_base.specs.declared.role.Kind.TheVariants as kind
-use Rattle.cx_base.specs.declared.role.RoleId.{RoleId}
-use Rattle.cx_base.specs.Role.{role}
-use Rattle.cx_model.specs.Leader.{LeaderDurable, LeaderVolatile}
-use Rattle.cx_model.specs.Rules.{Running}
-use Rattle.cx_letter.specs.Letter.{Letter}
 use Rattle.cx_node.specs.declared.come.Come.TheVariants as come
 use Rattle.cx_seat.specs.declared.guest.Guest.{Guest}
 use Rattle.cx_course.specs.declared.standing.Standing.{Standing}
 use Rattle.cx_node.specs.Acts.{come_of, read_as}
-use Rattle.cx_seat.specs.Guest.{hosted_in, hosted_of}
-use Rattle.cx_course.specs.Hosted.{Hosted}
-use Rattle.cx_course.specs.Course.{Course, Moved, stays, took, then_do}
-use Rattle.cx_course.specs.Run.{brought, is_client, hosted_place}
-use Rattle.cx_course.specs.Tending.{Care, Tended, all_completed, asks_again, at_or_none, beat, beat_over, brings_heeded, clients_noted}
-use Rattle.cx_course.specs.Tending.{clients_tended, completed, completed_by, care_after_turn, first_leader, gets, heeded, held_by_role}
-use Rattle.cx_course.specs.Tending.{held_of, hosted_as, in_turn, is_beat, is_of_kind, is_overtaken, kind_ticks, leader_asked, leader_cared}
-use Rattle.cx_course.specs.Tending.{leader_of, leader_tended, next_pass, others_tick, pass_begun, passes, standing_of, tend_comes}
-use Rattle.cx_course.specs.Tending.{those_tick, turn_ended, with_care, within}
-use Rattle.cx_record.specs.Numbers.{Numbered, numbered}
+use Rattle.cx_course.specs.Tending.{all_completed, at_or_none, brings_heeded, clients_tended, completed_by, first_leader, held_by_role}
+use Rattle.cx_course.specs.Tending.{held_of, hosted_as, kind_ticks, leader_of, others_tick, pass_begun, tend_comes, turn_ended, with_care}
 use Rattle.cx_node.specs.Tends.{tended}
 use Rattle.cx_node.proofs.Actions.{Done}
 use Rattle.cx_node.proofs.SeatedActs.{hosted_at}

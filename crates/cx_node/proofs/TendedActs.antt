@@ -1,36 +1,23 @@
 -- One act of a tended turn after the other.
-use Rattle.std.proofs.Common.{◌≡◌, ◌<◌, ◌==◌, ◌&&◌, not, nat_lt, ◌/◌, ℕ, length, Bool, true, false, List, [], ◌∷◌, Option, None, Some}
-use Rattle.std.proofs.Common.{option_map, Ok, Err, slice_get, if◌then◌else◌, refl, sym, ap, ◌∙◌, subst}
-use Rattle.std.specs.Prelude.{OnOk, is_some}
-use Rattle.std.proofs.lemmas.Option.{slice_get-map, slice_get_within}
-use Rattle.cx_base.specs.declared.cluster.Cluster.{Cluster}
-use Rattle.cx_base.specs.declared.event.Order.{Order}
+use Rattle.cx_role.proofs.Common.{◌≡◌, ◌<◌, ◌==◌, ◌&&◌, not, nat_lt, ◌/◌, ℕ, length, Bool, true, false, List, [], ◌∷◌, Option, None, Some}
+use Rattle.cx_role.proofs.Common.{option_map, Ok, Err, slice_get, if◌then◌else◌, refl, sym, ap, ◌∙◌, subst, OnOk, is_some, slice_get-map}
+use Rattle.cx_role.proofs.Common.{slice_get_within, Cluster, Order, RoleId, role, same_role, Letter}
+use Rattle.cx_seat.specs.Prelude.{LinkHistory, can_collect, is_new_leader, Changing, Give, AreReady, hosted_in, hosted_of, Hosted, Course}
+use Rattle.cx_seat.specs.Prelude.{Moved, stays, took, then_do, at_place, hosted_place, snaps, Care, Tended, awaits_votes_at, clients_tended}
+use Rattle.cx_seat.specs.Prelude.{first_leader, gets, held_by_role, in_turn, is_so, kind_ticks, leader_tended, tend_comes, those_tick}
+use Rattle.cx_seat.specs.Prelude.{ticks_behind, ticks_if, turn_ended, without_care, Recorded, numbered, is_leader_so}
 use Rattle.cx_base.specs.declared.event.Order.TheVariants as order
 use Rattle.cx_base.specs.declared.role.Kind.TheVariants as kind
-use Rattle.cx_base.specs.declared.role.RoleId.{RoleId}
-use Rattle.cx_base.specs.Role.{role, same_role}
-use Rattle.cx_edge.specs.Link.{LinkHistory}
-use Rattle.cx_leader.specs.Tending.{can_collect, is_new_leader}
-use Rattle.cx_letter.specs.Letter.{Letter}
 use Rattle.cx_letter.specs.declared.input.Input.TheVariants as input
-use Rattle.cx_seat.specs.Changing.{Changing}
 use Rattle.cx_node.specs.declared.come.Come.TheVariants as come
-use Rattle.cx_course.specs.declared.doing.Doing.TheVariants.{Give}
 use Rattle.cx_seat.specs.declared.guest.Guest.{Guest}
 use Rattle.cx_node.specs.declared.node.Stop.{Stop}
 use Rattle.cx_node.specs.declared.node.Stop.TheVariants.{LinkFault, NoMemory, RecordFull, StoreFault, WriteFault}
 use Rattle.cx_node.specs.Acts.{Acts, Receives}
 use Rattle.cx_node.specs.Doing.{Scene, course_in, scene}
-use Rattle.cx_seat.specs.Guest.{AreReady, hosted_in, hosted_of}
-use Rattle.cx_course.specs.Hosted.{Hosted}
-use Rattle.cx_course.specs.Course.{Course, Moved, stays, took, then_do}
-use Rattle.cx_course.specs.Run.{at_place, ordered, hosted_place, snaps}
-use Rattle.cx_course.specs.Tending.{Care, Tended, awaits_votes_at, beat, clients_tended, collected, first_leader, gets, heeded}
-use Rattle.cx_course.specs.Tending.{held_by_role, in_turn, is_so, kind_ticks, leader_tended, others_tick, paused, reported, tend_comes}
-use Rattle.cx_course.specs.Tending.{tend_ordered, tend_prepared, tended_turn, those_tick, ticks_behind, ticks_if, turn_ended, without_care}
-use Rattle.cx_record.specs.Numbers.{Recorded, numbered}
+use Rattle.cx_course.specs.Run.{ordered}
+use Rattle.cx_course.specs.Tending.{beat, collected, heeded, others_tick, paused, reported, tend_ordered, tend_prepared, tended_turn}
 use Rattle.cx_node.specs.Tends.{TendsOnce, tended}
-use Rattle.cx_seat.specs.Seat.{is_leader_so}
 use Rattle.cx_node.proofs.Actions.{Done, acts_before, acts_cut, acts_none, acts_nothing, acts_then, acts_took, course}
 use Rattle.cx_node.proofs.Tended.{letter_heeded, foreign_heeded, nothing_heeded, what_heeded, all_heeded, then_stays}
 

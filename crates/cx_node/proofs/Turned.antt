@@ -1,23 +1,18 @@
 -- Turns, one after the other, and the end of a run.
-use Rattle.std.proofs.Common.{◌≡◌, ◌⊎◌, ◌<◌, ℕ, suc, ◌+◌, false, List, [], ◌∷◌, ◌++◌, length, length-append, take}
-use Rattle.std.proofs.Common.{take_at, arith, Option, None, Some, Result, Ok, Err, refl, sym, ap, ◌∙◌, subst}
-use Rattle.std.proofs.Common.{append_assoc, append-nil, add-zero, inl, inr}
-use Rattle.std.proofs.lemmas.List.{take-append-le}
-use Rattle.std.specs.Prelude.{IfErr, OnOk}
+use Rattle.cx_base.proofs.Common.{◌≡◌, ◌⊎◌, ◌<◌, ℕ, suc, ◌+◌, false, List, [], ◌∷◌, ◌++◌, length, length-append, take, take_at, arith}
+use Rattle.cx_base.proofs.Common.{Option, None, Some, Result, Ok, Err, refl, sym, ap, ◌∙◌, subst, append_assoc, append-nil, add-zero, inl}
+use Rattle.cx_base.proofs.Common.{inr, take-append-le, IfErr, OnOk}
+use Rattle.cx_seat.specs.Prelude.{Changing, Begin, hosted_in, TakeResults, Course, Moved, stays, then_do, all_do, all_finished, Care}
+use Rattle.cx_seat.specs.Prelude.{Tended, any_turn, first_care, no_care, within, without_care}
 use Rattle.cx_base.specs.declared.cluster.Cluster.{Cluster}
-use Rattle.cx_seat.specs.Changing.{Changing}
-use Rattle.cx_course.specs.declared.doing.Doing.TheVariants.{Begin}
 use Rattle.cx_node.specs.declared.node.RunEnd.{RunEnd}
 use Rattle.cx_node.specs.declared.node.Stop.{Stop}
 use Rattle.cx_node.specs.declared.node.Stop.TheVariants.{NoMemory}
 use Rattle.cx_node.specs.Acts.{Acts, ActsLong, ActsOnce}
 use Rattle.cx_node.specs.Doing.{Scene, course_in}
-use Rattle.cx_seat.specs.Guest.{hosted_in}
-use Rattle.cx_course.specs.Run.{TakeResults}
 use Rattle.cx_node.specs.Node.{IsUnderway, RunsPart}
-use Rattle.cx_course.specs.Course.{Course, Moved, stays, then_do}
-use Rattle.cx_course.specs.Run.{all_do, all_finished, node_turn, turns_from}
-use Rattle.cx_course.specs.Tending.{Care, Tended, any_turn, first_care, no_care, node_run, within, without_care}
+use Rattle.cx_course.specs.Run.{node_turn, turns_from}
+use Rattle.cx_course.specs.Tending.{node_run}
 use Rattle.cx_node.specs.Tends.{TendsOnce, tended}
 use Rattle.cx_node.proofs.Actions.{acts_before, acts_none, acts_nothing, acts_then}
 

@@ -1,26 +1,14 @@
 -- Each order that a tended node gives is one that the leader takes.
-use Rattle.std.proofs.Common.{◌≡◌, ◌⊎◌, ◌+◌, ◌-◌, ◌≤◌, ◌/◌, ◌%◌, ◌==◌, ◌&&◌, not, nat_lt, min, ℕ, zero, suc, Bool, true, false, Option}
-use Rattle.std.proofs.Common.{None, Some, if◌then◌else◌, inl, inr, arith, refl, sym, subst}
-use Rattle.std.specs.Prelude.{is_some}
-use Rattle.std.specs.List.{list_all}
 use Rattle.std.specs.Cmp.Derive.{both_true}
-use Rattle.std.proofs.lemmas.Bool.Decides.{nat_tests}
-use Rattle.std.proofs.lemmas.Option.{none-some, same_Some}
-use Rattle.cx_base.specs.declared.cluster.Cluster.{Cluster}
-use Rattle.cx_base.specs.declared.event.Order.{Order}
+use Rattle.cx_model.specs.Prelude.{change_after, lead_after, is_off, is_retired, begin_in, collect_in, is_idle, is_leading, is_settled}
+use Rattle.cx_model.specs.Prelude.{round_of, names_grid}
+use Rattle.cx_role.proofs.Common.{◌≡◌, ◌⊎◌, ◌+◌, ◌-◌, ◌≤◌, ◌/◌, ◌%◌, ◌==◌, ◌&&◌, not, nat_lt, min, ℕ, zero, suc, Bool, true, false, Option}
+use Rattle.cx_role.proofs.Common.{None, Some, if◌then◌else◌, inl, inr, arith, refl, sym, subst, is_some, list_all, nat_tests, none-some}
+use Rattle.cx_role.proofs.Common.{same_Some, Cluster, Order, RoleId, Round, Shape, is_in, numbers, Entry, LeaderDurable, LeaderVolatile}
+use Rattle.cx_role.proofs.Common.{only_word}
 use Rattle.cx_base.specs.declared.event.Order.TheVariants as order
-use Rattle.cx_base.specs.declared.role.RoleId.{RoleId}
-use Rattle.cx_base.specs.declared.round.Round.{Round}
 use Rattle.cx_base.specs.declared.why.Why.TheVariants as why
-use Rattle.cx_base.specs.Grid.{Shape, is_in}
-use Rattle.cx_base.specs.Lists.{numbers}
-use Rattle.cx_base.specs.Round.{change_after, lead_after}
-use Rattle.cx_field.specs.declared.parts.Entry.{Entry}
-use Rattle.cx_model.specs.Collection.{is_off, is_retired}
-use Rattle.cx_model.specs.Leader.{LeaderDurable, LeaderVolatile, begin_in, change_row, collect_in, collect_row, is_idle, is_leading}
-use Rattle.cx_model.specs.Leader.{is_settled, lead_row, round_of}
-use Rattle.cx_model.specs.Names.{names_grid}
-use Rattle.cx_model.specs.Outcome.{only_word}
+use Rattle.cx_model.specs.Leader.{change_row, collect_row, lead_row}
 use Rattle.cx_leader.specs.Tending.{can_collect, has_heard, has_open, is_spent}
 use Rattle.cx_node.specs.Orders.{IsApt, NoVainOrder, begins, retires}
 use Rattle.cx_course.specs.Run.{grid_of}

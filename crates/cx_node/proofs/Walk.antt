@@ -1,34 +1,21 @@
 -- What every step and every take of a run keeps holds behind the run.
-use Rattle.std.proofs.Common.{◌≡◌, ◌+◌, ◌/◌, ◌%◌, ◌==◌, ◌&&◌, ◌||◌, not, ℕ, zero, suc, Bool, true, false, List, [], ◌∷◌, ◌++◌, length}
-use Rattle.std.proofs.Common.{Option, None, Some}
-use Rattle.std.proofs.Common.{refl, sym, subst, append-nil, append_assoc, if◌then◌else◌, is_some, nat_lt}
-use Rattle.std.specs.Prelude.{count_by, slice_get}
-use Rattle.std.specs.Option.{option_map_or}
-use Rattle.cx_base.specs.Lists.{below}
-use Rattle.cx_base.specs.Role.{role, same_role}
-use Rattle.cx_base.specs.declared.cluster.Cluster.{Cluster}
-use Rattle.cx_base.specs.declared.event.Order.{Order}
+use Rattle.cx_role.proofs.Common.{◌≡◌, ◌+◌, ◌/◌, ◌%◌, ◌==◌, ◌&&◌, ◌||◌, not, ℕ, zero, suc, Bool, true, false, List, [], ◌∷◌, ◌++◌, length}
+use Rattle.cx_role.proofs.Common.{Option, None, Some, refl, sym, subst, append-nil, append_assoc, if◌then◌else◌, is_some, nat_lt, count_by}
+use Rattle.cx_role.proofs.Common.{slice_get, option_map_or, below, role, same_role, Cluster, Order, Kind, RoleId, LeaderDurable}
+use Rattle.cx_role.proofs.Common.{LeaderVolatile, Running}
+use Rattle.cx_seat.specs.Prelude.{Action, Took, Course, Moved, does_at, stays, then_do, took, Hosted, TakeResults, all_do, at_place}
+use Rattle.cx_seat.specs.Prelude.{brought, first_do, grid_of, idle_at, is_client, lead_at, hosted_place, Care, Tended, asks_again}
+use Rattle.cx_seat.specs.Prelude.{awaits_votes_at, beat_over, clients_noted, care_after_turn, first_leader, gets, held_by_role, in_turn}
+use Rattle.cx_seat.specs.Prelude.{is_beat, is_of_kind, is_overtaken, is_so, leader_asked, leader_cared, leader_tended, next_pass, passes}
+use Rattle.cx_seat.specs.Prelude.{standing_of, those_tick, ticks_behind, ticks_if, within, Doing, Begin, Give, Snap, can_collect}
+use Rattle.cx_seat.specs.Prelude.{is_new_leader, Numbered, numbered}
 use Rattle.cx_base.specs.declared.event.Order.TheVariants as order
-use Rattle.cx_base.specs.declared.role.Kind.{Kind}
 use Rattle.cx_base.specs.declared.role.Kind.TheVariants as kind
-use Rattle.cx_base.specs.declared.role.RoleId.{RoleId}
-use Rattle.cx_course.specs.Action.{Action, Took}
-use Rattle.cx_course.specs.Course.{Course, Moved, does_at, stays, then_do, took}
-use Rattle.cx_course.specs.Hosted.{Hosted}
-use Rattle.cx_course.specs.Run.{TakeResults, all_do, at_place, brings, brought, comes, first_do, grid_of, idle_at, is_client, lead_at}
-use Rattle.cx_course.specs.Run.{ordered, hosted_place, prepared, snaps, ticked, node_turn, turns_from, untended_run}
-use Rattle.cx_course.specs.Tending.{Care, Tended, all_completed, asks_again, awaits_votes_at, beat, beat_over, brings_heeded, clients_noted}
-use Rattle.cx_course.specs.Tending.{clients_tended, collected, care_after_turn, first_leader, gets, heeded, held_by_role, in_turn, is_beat}
-use Rattle.cx_course.specs.Tending.{is_of_kind, is_overtaken, is_so, kind_ticks, leader_asked, leader_cared, leader_tended, next_pass}
-use Rattle.cx_course.specs.Tending.{node_run, others_tick, passes, paused, reported, standing_of, tend_comes, tend_ordered, tend_prepared}
-use Rattle.cx_course.specs.Tending.{tended_turn, those_tick, ticks_behind, ticks_if, turn_ended, untended, within}
-use Rattle.cx_course.specs.declared.doing.Doing.{Doing}
-use Rattle.cx_course.specs.declared.doing.Doing.TheVariants.{Begin, Give, Snap}
-use Rattle.cx_leader.specs.Tending.{can_collect, is_new_leader}
-use Rattle.cx_model.specs.Leader.{LeaderDurable, LeaderVolatile}
-use Rattle.cx_model.specs.Rules.{Running}
+use Rattle.cx_course.specs.Run.{brings, comes, ordered, prepared, snaps, ticked, node_turn, turns_from, untended_run}
+use Rattle.cx_course.specs.Tending.{all_completed, beat, brings_heeded, clients_tended, collected, heeded, kind_ticks, node_run}
+use Rattle.cx_course.specs.Tending.{others_tick, paused, reported, tend_comes, tend_ordered, tend_prepared, tended_turn, turn_ended}
+use Rattle.cx_course.specs.Tending.{untended}
 use Rattle.cx_letter.specs.declared.input.Input.TheVariants as input
-use Rattle.cx_record.specs.Numbers.{Numbered, numbered}
 
 -- what the role at a place may be asked in a run: a datagram is for it, and one that bytes bring
 abbrev pub MayDo : Course → ℕ → Doing → Type 0

@@ -1,24 +1,16 @@
 -- The result of a part of a node's run: it was done whole, or the first of its actions were done and something failed.
-use Rattle.std.specs.Prelude.{◌≡◌, ◌⊎◌, ℕ, true, List, [], ◌∷◌, length, Option, None, Some, option_map, Result, Ok}
-use Rattle.std.specs.Prelude.{Err, IfErr, OnOk}
-use Rattle.cx_base.specs.Faults.{Rises}
-use Rattle.cx_base.specs.declared.cluster.Cluster.{Cluster}
+use Rattle.std.specs.Prelude.{◌≡◌, ◌⊎◌, ℕ, true, List, [], ◌∷◌, length, Option, None, Some, option_map, Result, Ok, Err, IfErr, OnOk}
+use Rattle.cx_letter.specs.Prelude.{Rises, Cluster}
+use Rattle.cx_seat.specs.Prelude.{LinkHistory, with_taken, AreTakesOf, Changing, AreReady, Course, Moved, TakeResults, all_finished}
+use Rattle.cx_seat.specs.Prelude.{brought, Numbered, Recorded, node_run}
 use Rattle.cx_edge.specs.declared.link.Link.{Ghosts as LinkGhosts}
 use Rattle.cx_edge.specs.declared.sink.Sink.{Ghosts as SinkGhosts}
-use Rattle.cx_edge.specs.Link.{LinkHistory, with_taken}
 use Rattle.cx_node.specs.declared.come.Come.{Come}
 use Rattle.cx_node.specs.declared.come.Come.TheVariants as come
 use Rattle.cx_node.specs.declared.node.Stop.{Stop}
 use Rattle.cx_node.specs.declared.node.Stop.TheVariants.{LinkFault, NoMemory, RecordFull, StoreFault, WriteFault}
-use Rattle.cx_course.specs.Action.{AreTakesOf}
-use Rattle.cx_seat.specs.Changing.{Changing}
 use Rattle.cx_node.specs.Doing.{DidPart, Does, Scene, course_in, scene}
-use Rattle.cx_seat.specs.Guest.{AreReady}
 use Rattle.cx_node.specs.Node.{IsUnderway, NodeState}
-use Rattle.cx_course.specs.Course.{Course, Moved}
-use Rattle.cx_course.specs.Run.{TakeResults, all_finished, brought}
-use Rattle.cx_record.specs.Numbers.{Numbered, Recorded}
-use Rattle.cx_course.specs.Tending.{node_run}
 
 -- how often the link and the output have failed
 pub record Failures : Type 0 where

@@ -1,24 +1,14 @@
 -- What a part of a node's run did to its roles, its link and its output.
 use Rattle.std.specs.Prelude.{◌≡◌, ℕ, false, List, ◌++◌, length, map, take, Option, Some, slice_get, slice_set}
-use Rattle.std.specs.Io.KnownBytes.{Appends}
-use Rattle.std.specs.List.{list_any}
-use Rattle.cx_base.specs.declared.cluster.Cluster.{Cluster}
+use Rattle.cx_role.specs.Prelude.{Appends, list_any, Cluster, RoleId, Letter, KeeperChange, Renewal, Record}
+use Rattle.cx_seat.specs.Prelude.{LinkHistory, Action, Filled, Kept, Took, bound_in, is_filled, kept_in, printed_in, sent_in, taken_in}
+use Rattle.cx_seat.specs.Prelude.{StoreChange, Changing, HasChangeFailedIn, GuestGrows, Rests, hosted_in, keeper_of, who, Course, Moved}
+use Rattle.cx_seat.specs.Prelude.{Recorded}
 use Rattle.cx_base.specs.declared.role.Kind.TheVariants as kind
-use Rattle.cx_base.specs.declared.role.RoleId.{RoleId}
-use Rattle.cx_edge.specs.Link.{LinkHistory}
-use Rattle.cx_letter.specs.Letter.{Letter}
-use Rattle.cx_keep.specs.Keeper.{KeeperChange, Renewal}
-use Rattle.cx_letter.specs.declared.kept.Record.{Record}
 use Rattle.cx_seat.specs.declared.guest.Guest.{Guest}
 use Rattle.cx_node.specs.declared.node.Stop.{Stop}
 use Rattle.cx_node.specs.declared.node.Stop.TheVariants as stop
-use Rattle.cx_course.specs.Action.{Action, Filled, Kept, Took, bound_in, is_filled, kept_in, printed_in, sent_in, taken_in}
-use Rattle.cx_course.specs.Changing.{StoreChange}
-use Rattle.cx_seat.specs.Changing.{Changing}
-use Rattle.cx_seat.specs.Guest.{HasChangeFailedIn, GuestGrows, Rests, hosted_in, keeper_of, who}
 use Rattle.cx_node.specs.Ports.{bind_of, sendings}
-use Rattle.cx_course.specs.Course.{Course, Moved}
-use Rattle.cx_record.specs.Numbers.{Recorded}
 
 -- the hosted roles, what is known of the record, where the node records, the history of the link, and what was printed
 pub record Scene (K : Type 0) : Type 0 where

@@ -1,20 +1,13 @@
 -- What binding, running and giving back come to, after an input that was accepted.
 use Rattle.std.specs.Prelude.{◌≡◌, ◌⊎◌, ℕ, suc, Bool, true, false, List, ◌++◌, Option, None, Some, is_some, Result, Ok, Err, IfOk, IfErr}
-use Rattle.std.specs.Prelude.{IfSome, if◌then◌else◌}
-use Rattle.std.specs.Prelude.{map, option_map, slice_get, take}
-use Rattle.cx_base.specs.declared.cluster.Cluster.{Cluster}
-use Rattle.cx_base.specs.declared.event.Event.{Event}
-use Rattle.cx_base.specs.declared.role.RoleId.{RoleId}
-use Rattle.cx_base.specs.declared.status.Status.{Status}
+use Rattle.std.specs.Prelude.{IfSome, if◌then◌else◌, map, option_map, slice_get, take}
+use Rattle.cx_role.specs.Prelude.{Cluster, Event, RoleId, Status, Rises, Append, KeeperChange, Renewal, Record}
+use Rattle.cx_seat.specs.Prelude.{ClientOptions, LinkHistory, IsStoreChange, RecordStore, Changing, changing, Action, Bound, Filled}
+use Rattle.cx_seat.specs.Prelude.{AreTakesOf, Kept, Printed, Took, TakeResults, node_run, Recorded, IsBadAs, IsFirstBad, IsFirstUsed}
+use Rattle.cx_seat.specs.Prelude.{is_store_used}
 use Rattle.cx_base.specs.declared.status.Status.TheVariants as status
-use Rattle.cx_base.specs.Faults.{Rises}
-use Rattle.cx_client.specs.declared.asking.ClientOptions.{ClientOptions}
 use Rattle.cx_disk.specs.declared.disk.Disk.{Ghosts as DiskGhosts}
-use Rattle.cx_edge.specs.Link.{Bind, LinkHistory}
-use Rattle.cx_journal.specs.Store.{IsStoreChange}
-use Rattle.cx_journal.specs.declared.store.RecordStore.{RecordStore}
-use Rattle.cx_keep.specs.Keeper.{Append, KeeperChange, Renewal}
-use Rattle.cx_letter.specs.declared.kept.Record.{Record}
+use Rattle.cx_edge.specs.Link.{Bind}
 use Rattle.cx_seat.specs.declared.guest.Guest.{Guest}
 use Rattle.cx_node.specs.declared.node.RunEnd.{RunEnd}
 use Rattle.cx_node.specs.declared.node.RunEnd.TheVariants as end
@@ -23,14 +16,9 @@ use Rattle.cx_node.specs.declared.node.Stop.TheVariants as stop
 use Rattle.cx_seat.specs.declared.opening.OpenStop.{OpenStop}
 use Rattle.cx_seat.specs.declared.opening.OpenStop.TheVariants as open_stop
 use Rattle.cx_node.specs.Acts.{Failures}
-use Rattle.cx_seat.specs.Changing.{Changing, changing}
 use Rattle.cx_node.specs.Doing.{Did, DidPart, Scene, course_in}
-use Rattle.cx_course.specs.Action.{Action, Bound, Filled, AreTakesOf, Kept, Printed, Took}
-use Rattle.cx_course.specs.Run.{TakeResults}
-use Rattle.cx_course.specs.Tending.{node_run}
-use Rattle.cx_record.specs.Numbers.{Recorded, blank}
+use Rattle.cx_record.specs.Numbers.{blank}
 use Rattle.cx_node.specs.Node.{IsEnd, IsUnderway, NodeState}
-use Rattle.cx_seat.specs.Opening.{IsBadAs, IsFirstBad, IsFirstUsed, is_store_used}
 use Rattle.cx_node.specs.Ports.{bind_of}
 use Rattle.cx_node.specs.Serving.{Did as DidOutside, Outside, Served, ServedPart, begun_with, whole_run}
 

@@ -1,19 +1,10 @@
 -- What the input of a node says: its header's cluster, and the requests of the lines after it.
 use Rattle.std.specs.Prelude.{◌≡◌, ◌⊎◌, ℕ, Bool, true, false, not, ◌&&◌, ◌||◌, List, [], ◌∷◌, map, Option, None, Some, Result, Ok, Err}
-use Rattle.std.specs.Prelude.{if◌then◌else◌}
-use Rattle.std.specs.Io.KnownBytes.{Consumes}
-use Rattle.std.specs.List.{flat_map, list_all, list_any}
-use Rattle.cx_base.specs.declared.cluster.Cluster.{Cluster}
-use Rattle.cx_base.specs.declared.role.Kind.{Kind}
-use Rattle.cx_base.specs.declared.role.Kind.TheVariants.{Client, Batcher, Leader, Proxy, Acceptor, Matchmaker, Replica, Unbatcher, Reader}
-use Rattle.cx_base.specs.declared.role.Kind.TheVariants.{Replacer}
-use Rattle.cx_base.specs.declared.role.RoleId.{RoleId}
-use Rattle.cx_base.specs.Cluster.{count_of}
-use Rattle.cx_base.specs.Lists.{below}
-use Rattle.cx_base.specs.Role.{role, same_role}
+use Rattle.std.specs.Prelude.{if◌then◌else◌, flat_map}
+use Rattle.cx_role.specs.Prelude.{Consumes, list_all, list_any, Cluster, Kind, Client, Batcher, Leader, Proxy, Acceptor, Matchmaker}
+use Rattle.cx_role.specs.Prelude.{Replica, Unbatcher, Reader, Replacer, RoleId, count_of, below, role, same_role, names_role}
 use Rattle.cx_cluster.specs.declared.fault.ClusterFault.{ClusterFault}
 use Rattle.cx_cluster.specs.Reading.{header_cluster}
-use Rattle.cx_model.specs.Names.{names_role}
 use Rattle.cx_script.specs.Input.{begun_input, whole_input}
 use Rattle.cx_script.specs.Requests.{requests_of}
 use Rattle.cx_node.specs.declared.input.Accepted.{Accepted}

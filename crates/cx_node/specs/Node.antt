@@ -1,19 +1,12 @@
 -- What contracts see of a node, and what its turns come to.
 use Rattle.std.specs.Prelude.{◌≡◌, ◌⊎◌, ◌≤◌, ◌<◌, ℕ, true, false, List, length, take, Option}
-use Rattle.std.specs.List.{list_any}
-use Rattle.cx_base.specs.declared.cluster.Cluster.{Cluster}
+use Rattle.cx_letter.specs.Prelude.{list_any, Cluster}
+use Rattle.cx_seat.specs.Prelude.{AreTakesOf, Changing, hosted_in, Course, TakeResults, all_finished, is_client, Recorded, node_run}
 use Rattle.cx_seat.specs.declared.guest.Guest.{Guest}
 use Rattle.cx_node.specs.declared.node.RunEnd.{RunEnd}
 use Rattle.cx_node.specs.declared.node.RunEnd.TheVariants.{Done, Turns}
 use Rattle.cx_node.specs.declared.node.Stop.{Stop}
-use Rattle.cx_course.specs.Action.{AreTakesOf}
-use Rattle.cx_seat.specs.Changing.{Changing}
 use Rattle.cx_node.specs.Doing.{DidPart, Does, Scene, course_in}
-use Rattle.cx_seat.specs.Guest.{hosted_in}
-use Rattle.cx_course.specs.Course.{Course}
-use Rattle.cx_course.specs.Run.{TakeResults, all_finished, is_client}
-use Rattle.cx_record.specs.Numbers.{Recorded}
-use Rattle.cx_course.specs.Tending.{node_run}
 
 -- the cluster, the hosted roles in the order of the words, and what is known of the record, where the node records
 pub record NodeState (K : Type 0) : Type 0 where

@@ -1,15 +1,10 @@
 -- No order of a tended node is in vain, and a replica that lags waits for no beat.
 use Rattle.std.specs.Prelude.{◌≡◌, ℕ, ◌<◌, ◌/◌, nat_lt, Bool, true, false, Some, is_some}
+use Rattle.cx_model.specs.Prelude.{RoleId, Why, Shape, is_retired, LeaderDurable, LeaderVolatile, is_idle, is_leading, order_row, Running}
 use Rattle.cx_base.specs.declared.event.Order.{Order}
 use Rattle.cx_base.specs.declared.event.Order.TheVariants as order
 use Rattle.cx_base.specs.declared.role.Kind.TheVariants as kind
-use Rattle.cx_base.specs.declared.role.RoleId.{RoleId}
-use Rattle.cx_base.specs.declared.why.Why.{Why}
 use Rattle.cx_base.specs.declared.why.Why.TheVariants as why
-use Rattle.cx_base.specs.Grid.{Shape}
-use Rattle.cx_model.specs.Collection.{is_retired}
-use Rattle.cx_model.specs.Leader.{LeaderDurable, LeaderVolatile, is_idle, is_leading, order_row}
-use Rattle.cx_model.specs.Rules.{Running}
 use Rattle.cx_course.specs.Course.{is_a}
 use Rattle.cx_course.specs.Tending.{Care, leader_asked, standing_of, ticks_behind}
 

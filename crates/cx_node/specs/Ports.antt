@@ -1,14 +1,8 @@
 -- The port of each role, and what a link is asked to send.
-use Rattle.std.specs.Prelude.{ℕ, ◌+◌, ◌%◌, List, map, Option, None, Some}
-use Rattle.std.specs.List.{filter}
-use Rattle.cx_base.specs.declared.cluster.Cluster.{Cluster}
-use Rattle.cx_base.specs.declared.role.Kind.{Kind}
-use Rattle.cx_base.specs.declared.role.Kind.TheVariants.{Client, Batcher, Leader, Proxy, Acceptor, Matchmaker}
-use Rattle.cx_base.specs.declared.role.Kind.TheVariants.{Replica, Unbatcher, Reader, Replacer}
-use Rattle.cx_base.specs.declared.role.RoleId.{RoleId}
-use Rattle.cx_letter.specs.Letter.{Letter}
+use Rattle.std.specs.Prelude.{ℕ, ◌+◌, ◌%◌, List, map, Option, None, Some, filter}
+use Rattle.cx_role.specs.Prelude.{Cluster, Kind, Client, Batcher, Leader, Proxy, Acceptor, Matchmaker, Replica, Unbatcher, Reader, Replacer}
+use Rattle.cx_role.specs.Prelude.{RoleId, Letter, names_role}
 use Rattle.cx_msg.specs.Datagrams.{spelling}
-use Rattle.cx_model.specs.Names.{names_role}
 use Rattle.cx_edge.specs.Link.{Bind, Sending}
 
 -- how many roles come before those of a kind, by the kinds' codes

@@ -1,40 +1,25 @@
 -- The result of serving.
 use Rattle.std.specs.Prelude.{◌≡◌, ◌⊎◌, ◌<◌, ℕ, suc, Bool, true, false, List, [], ◌++◌, codes, is_some, length, map, take, Option, None}
 use Rattle.std.specs.Prelude.{Some, IfSome, slice_get}
-use Rattle.std.specs.Io.KnownBytes.{Appends, IsAtEnd}
-use Rattle.cx_base.specs.declared.cluster.Cluster.{Cluster}
-use Rattle.cx_base.specs.declared.event.Event.{Event}
-use Rattle.cx_base.specs.declared.role.RoleId.{RoleId}
-use Rattle.cx_base.specs.declared.status.Status.{Status}
+use Rattle.cx_model.specs.Prelude.{Appends, IsAtEnd, Cluster, Event, RoleId, Status, Rises, Record}
+use Rattle.cx_seat.specs.Prelude.{ClientOptions, LinkHistory, Files, files_image, files_records, records_or_none, Action, Bound, Filled}
+use Rattle.cx_seat.specs.Prelude.{AreTakesOf, Kept, Printed, Took, kept_in, printed_in, changes_of, lists_after, Hosted, TakeResults}
+use Rattle.cx_seat.specs.Prelude.{IsBadAs, IsFirstBad, IsFirstUsed, is_durable, opened_as, Course, Moved, course_of, files_of, node_run}
 use Rattle.cx_base.specs.declared.status.Status.TheVariants as status
-use Rattle.cx_base.specs.Faults.{Rises}
-use Rattle.cx_client.specs.declared.asking.ClientOptions.{ClientOptions}
 use Rattle.cx_edge.specs.declared.depot.Depot.{Ghosts as DepotGhosts}
 use Rattle.cx_edge.specs.declared.link.Link.{Ghosts as LinkGhosts}
 use Rattle.cx_edge.specs.declared.sink.Sink.{Ghosts as SinkGhosts}
 use Rattle.cx_edge.specs.declared.source.Source.{Ghosts as SourceGhosts}
-use Rattle.cx_edge.specs.Link.{LinkHistory}
-use Rattle.cx_journal.specs.Files.{Files, files_image, files_records}
-use Rattle.cx_journal.specs.State.{records_or_none}
-use Rattle.cx_letter.specs.declared.kept.Record.{Record}
 use Rattle.cx_node.specs.declared.input.NodeInput.TheVariants.{Lines}
 use Rattle.cx_node.specs.declared.input.Refusal.{Refusal}
 use Rattle.cx_node.specs.declared.input.Refusal.TheVariants as refusal
 use Rattle.cx_node.specs.declared.node.RunEnd.{RunEnd}
 use Rattle.cx_node.specs.declared.node.RunEnd.TheVariants as end
-use Rattle.cx_course.specs.Action.{Action, Bound, Filled, AreTakesOf, Kept, Printed, Took, kept_in, printed_in}
 use Rattle.cx_keep.specs.Keeper.{KeeperChange}
-use Rattle.cx_course.specs.Changing.{changes_of, lists_after}
 use Rattle.cx_node.specs.Doing.{Linked}
-use Rattle.cx_course.specs.Hosted.{Hosted}
 use Rattle.cx_node.specs.Input.{FailsRead, input_of, refused_of}
-use Rattle.cx_course.specs.Run.{TakeResults}
 use Rattle.cx_node.specs.Node.{IsEnd, IsUnderway}
-use Rattle.cx_seat.specs.Opening.{IsBadAs, IsFirstBad, IsFirstUsed, is_durable, opened_as}
-use Rattle.cx_course.specs.Course.{Course, Moved, course_of}
 use Rattle.cx_course.specs.Follows.{FollowsBetween, EachKeptIsNext}
-use Rattle.cx_seat.specs.Stores.{files_of}
-use Rattle.cx_course.specs.Tending.{node_run}
 
 -- What a node has outside: what its source has left, the history of its link, what its output has taken, what its
 -- depot holds in the stores of each role and whether that is known, and how often each role's have failed.

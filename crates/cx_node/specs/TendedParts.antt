@@ -1,12 +1,10 @@
 -- The result of a part of a tended turn: what its roles did, and what is counted.
 use Rattle.std.specs.Prelude.{◌≡◌, ℕ, List, [], Option, Result, OnOk}
+use Rattle.cx_seat.specs.Prelude.{Changing, Course, Moved, Care, Tended, first_leader, leader_tended, without_care}
 use Rattle.cx_base.specs.declared.cluster.Cluster.{Cluster}
 use Rattle.cx_node.specs.declared.node.Stop.{Stop}
 use Rattle.cx_node.specs.Acts.{Acts}
-use Rattle.cx_seat.specs.Changing.{Changing}
 use Rattle.cx_node.specs.Doing.{Scene, course_in}
-use Rattle.cx_course.specs.Course.{Course, Moved}
-use Rattle.cx_course.specs.Tending.{Care, Tended, first_leader, leader_tended, without_care}
 use Rattle.cx_node.specs.Tends.{TendsOnce, tended}
 
 -- what the roles did in a part without a take, by what was counted before it

@@ -1,25 +1,14 @@
 -- Worked parts of a tended turn.
 use Rattle.std.specs.Prelude.{◌≡◌, ℕ, zero, suc, true, false, List, [], ◌∷◌, None, replicate}
 use Rattle.std.proofs.Common.{lit≤}
-use Rattle.cx_base.specs.declared.cluster.Cluster.{Cluster}
-use Rattle.cx_base.specs.declared.command.Value.TheVariants.{Noop}
+use Rattle.cx_model.specs.Prelude.{Cluster, Noop, Acceptor, RoleId, role, one_of_each, pending_of, replica_rules, Letter, letter}
+use Rattle.cx_role.specs.Prelude.{Client, Reader, Replica, Leader, Proxy, make_grid, Pending}
+use Rattle.cx_seat.specs.Prelude.{sent_in, Hosted, Course, Moved, course_of, stays, Care, Tended, asks_again, collected, care_after_turn}
+use Rattle.cx_seat.specs.Prelude.{first_leader, heeded, is_beat, is_time, leader_tended, next_pass, no_care, paused, reported, numbered}
 use Rattle.cx_base.specs.declared.event.Event.TheVariants as event
-use Rattle.cx_base.specs.declared.role.Kind.TheVariants.{Acceptor, Client, Reader, Replica, Leader, Proxy}
-use Rattle.cx_base.specs.declared.role.RoleId.{RoleId}
-use Rattle.cx_base.specs.Grid.{make_grid}
-use Rattle.cx_base.specs.Role.{role}
-use Rattle.cx_model.specs.declared.states.Pending.{Pending}
-use Rattle.cx_model.specs.Examples.{one_of_each}
-use Rattle.cx_model.specs.Proxy.{pending_of}
-use Rattle.cx_model.specs.Replica.{replica_rules}
-use Rattle.cx_letter.specs.Letter.{Letter, letter}
 use Rattle.cx_letter.specs.declared.message.Msg.TheVariants as msg
-use Rattle.cx_course.specs.Action.{sent_in}
-use Rattle.cx_course.specs.Hosted.{Hosted, ClientAt, ProxyAt, ReplicaAt}
-use Rattle.cx_course.specs.Course.{Course, Moved, course_of, stays}
-use Rattle.cx_course.specs.Tending.{Care, Tended, asks_again, collected, care_after_turn, first_leader, heeded, is_beat, is_time}
-use Rattle.cx_course.specs.Tending.{leader_tended, next_pass, no_care, paused, reported, tend_ordered, untended}
-use Rattle.cx_record.specs.Numbers.{numbered}
+use Rattle.cx_course.specs.Hosted.{ClientAt, ProxyAt, ReplicaAt}
+use Rattle.cx_course.specs.Tending.{tend_ordered, untended}
 
 -- n takes gave nothing
 abbrev pub quiet : ℕ → Care → Care

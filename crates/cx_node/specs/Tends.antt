@@ -1,16 +1,13 @@
 -- The result of a part of a tended turn: what its roles did, and what it counted.
 use Rattle.std.specs.Prelude.{◌≡◌, ℕ, Bool, not, List, [], ◌∷◌, Option, Result, Ok, Err, OnOk}
+use Rattle.cx_seat.specs.Prelude.{Changing, Hosted, Course, Moved, is_client, Care, Tended, awaits_votes_at, is_of_kind, is_overtaken}
+use Rattle.cx_seat.specs.Prelude.{without_care}
 use Rattle.cx_base.specs.declared.cluster.Cluster.{Cluster}
 use Rattle.cx_node.specs.declared.node.Stop.{Stop}
 use Rattle.cx_node.specs.declared.whom.Whom.{Whom}
 use Rattle.cx_node.specs.declared.whom.Whom.TheVariants.{Awaiting, Kind, Others, Overtaken}
 use Rattle.cx_node.specs.Acts.{Acts}
-use Rattle.cx_seat.specs.Changing.{Changing}
 use Rattle.cx_node.specs.Doing.{Scene}
-use Rattle.cx_course.specs.Hosted.{Hosted}
-use Rattle.cx_course.specs.Course.{Course, Moved}
-use Rattle.cx_course.specs.Run.{is_client}
-use Rattle.cx_course.specs.Tending.{Care, Tended, awaits_votes_at, is_of_kind, is_overtaken, without_care}
 
 -- these roles, with these counts
 abbrev pub tended : Care → Course → Tended

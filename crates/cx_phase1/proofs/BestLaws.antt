@@ -1,17 +1,12 @@
 -- The best vote of each slot, as it is held.
-use Rattle.std.specs.Prelude.{◌≡◌, ◌≤◌, ◌+◌, ◌-◌, ◌==◌, ◌&&◌, ℕ, zero, suc, Bool, true, false, max, nat_le, map, if◌then◌else◌, List, []}
-use Rattle.std.specs.Prelude.{◌∷◌, ◌++◌, Option, None, Some, refl}
-use Rattle.std.proofs.Common.{ap, arith, sym, subst, ◌∙◌, append_assoc}
-use Rattle.std.proofs.lemmas.Bool.{eq-eqb, eqb-true, le-leb}
-use Rattle.std.proofs.lemmas.Bool.Decides.{nat_tests}
-use Rattle.std.proofs.lemmas.List.{append-nil}
-use Rattle.cx_base.specs.Lists.{numbers}
-use Rattle.cx_base.specs.declared.command.Value.{Value}
-use Rattle.cx_field.specs.declared.parts.Vote.{Vote}
+use Rattle.std.proofs.lemmas.Bool.{le-leb}
+use Rattle.cx_base.proofs.Common.{◌≡◌, ◌≤◌, ◌+◌, ◌-◌, ◌==◌, ◌&&◌, ℕ, zero, suc, Bool, true, false, max, nat_le, map, if◌then◌else◌, List}
+use Rattle.cx_base.proofs.Common.{[], ◌∷◌, ◌++◌, Option, None, Some, refl, ap, arith, sym, subst, ◌∙◌, append_assoc, eq-eqb, eqb-true}
+use Rattle.cx_base.proofs.Common.{nat_tests, append-nil, numbers}
+use Rattle.cx_model.specs.Prelude.{Value, Vote, greatest_cw, end_told, votes_told, best_vote, voted_value, plan_between, plan}
 use Rattle.cx_ring.specs.Ring.{RingState, value_at, with_value, values_from_slot, raise_ring}
 use Rattle.cx_model.specs.declared.states.Plan.{Plan}
 use Rattle.cx_model.specs.declared.states.Promised.{Promised}
-use Rattle.cx_model.specs.Plan.{greatest_cw, end_told, votes_told, best_vote, voted_value, plan_between, plan}
 use Rattle.cx_phase1.specs.Best.{better, slot_of, replaces, best_with_vote, with_votes, values_between, plan_of}
 use Rattle.cx_phase1.specs.Sound.{IsBest}
 use Rattle.cx_phase1.proofs.PlanLaws.{end_append, best_append, better_on, better_none}

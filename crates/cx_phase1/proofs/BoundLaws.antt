@@ -1,16 +1,12 @@
 -- The bounds of a plan.
-use Rattle.std.specs.Prelude.{◌≡◌, ◌≤◌, ◌<◌, ◌+◌, ◌-◌, ◌^◌, ◌==◌, ℕ, zero, suc, map, List, [], ◌∷◌, Option, None, Some, length, All, IsTrue}
-use Rattle.std.specs.Prelude.{refl}
 use Rattle.std.proofs.Common.{arith}
 use Rattle.std.proofs.lemmas.List.Elements.{All-nil, All-cons, All-append, All-weaker, All-head, All-tail}
-use Rattle.cx_base.specs.declared.command.Value.{Value}
-use Rattle.cx_base.specs.Lists.{numbers}
-use Rattle.cx_base.specs.Round.{is_before}
+use Rattle.cx_model.specs.Prelude.{◌≡◌, ◌≤◌, ◌<◌, ◌+◌, ◌-◌, ◌^◌, ◌==◌, ℕ, zero, suc, map, List, [], ◌∷◌, Option, None, Some, length, All}
+use Rattle.cx_model.specs.Prelude.{IsTrue, refl, Value, numbers, is_before, Vote, greatest_cw, end_told, votes_told, greater_vote}
+use Rattle.cx_model.specs.Prelude.{best_vote, voted_value, plan}
 use Rattle.cx_field.specs.Fields as field
-use Rattle.cx_field.specs.declared.parts.Vote.{Vote}
 use Rattle.cx_model.specs.Outcome.{either_way}
 use Rattle.cx_model.specs.declared.states.Promised.{Promised}
-use Rattle.cx_model.specs.Plan.{greatest_cw, end_told, votes_told, greater_vote, best_vote, voted_value, plan}
 use Rattle.cx_phase1.specs.Planned.{IsPlan}
 use Rattle.cx_phase1.specs.Sound.{IsVote, IsPromiseInRange}
 

@@ -1,25 +1,15 @@
 -- Who was counted, and what the answers report.
-use Rattle.std.specs.Prelude.{◌≡◌, ◌<◌, ◌+◌, ◌^◌, ℕ, Bool, true, false, ◌==◌, ◌&&◌, ◌||◌, nat_lt, nat_le, List, [], ◌∷◌, ◌++◌, All, IsTrue}
-use Rattle.std.specs.Prelude.{refl}
-use Rattle.std.specs.List.{list_all, list_any}
-use Rattle.std.proofs.Common.{ap, arith, sym, ◌∙◌, ⊎_elim}
-use Rattle.std.proofs.lemmas.Bool.{false≢true, and_parts, or_cases, ltb-true, leb-true, eqb-true}
-use Rattle.std.proofs.lemmas.Bool.Decides.{nat_tests}
-use Rattle.std.proofs.lemmas.List.Elements.{All-nil, All-cons, All-push}
+use Rattle.std.proofs.Common.{⊎_elim}
+use Rattle.std.proofs.lemmas.Bool.{false≢true, or_cases}
 use Rattle.std.proofs.lemmas.List.Folds.{list_any-append}
-use Rattle.cx_base.specs.Grid.{Shape, is_in}
-use Rattle.cx_base.specs.Lists.{below}
-use Rattle.cx_grid.specs.Quorum.{row_of, is_whole, with_mark}
+use Rattle.cx_base.proofs.Common.{ap, arith, sym, ◌∙◌, and_parts, ltb-true, leb-true, eqb-true, nat_tests, All-nil, All-cons, All-push}
+use Rattle.cx_model.specs.Prelude.{◌≡◌, ◌<◌, ◌+◌, ◌^◌, ℕ, Bool, true, false, ◌==◌, ◌&&◌, ◌||◌, nat_lt, nat_le, List, [], ◌∷◌, ◌++◌, All}
+use Rattle.cx_model.specs.Prelude.{IsTrue, refl, list_all, list_any, Shape, is_in, below, row_of, is_whole, with_mark, in_window}
+use Rattle.cx_model.specs.Prelude.{vote_in_range, Entry, Vote, is_member_of, rows_whole, promised_by, has_promised, end_told}
 use Rattle.cx_field.specs.Fields as field
-use Rattle.cx_field.specs.Fields.{in_window}
-use Rattle.cx_field.specs.Ranges.{vote_in_range}
-use Rattle.cx_field.specs.declared.parts.Entry.{Entry}
-use Rattle.cx_field.specs.declared.parts.Vote.{Vote}
 use Rattle.cx_field.proofs.ListLaws.{votes_apart}
 use Rattle.cx_ring.specs.Ring.{RingState, raise_ring}
 use Rattle.cx_model.specs.declared.states.Promised.{Promised}
-use Rattle.cx_model.specs.Matched.{is_member_of, rows_whole}
-use Rattle.cx_model.specs.Plan.{promised_by, has_promised, end_told}
 use Rattle.cx_phase1.specs.Best.{slot_of, with_votes}
 use Rattle.cx_phase1.specs.Counting.{are_ids}
 use Rattle.cx_phase1.specs.Sound.{IsVote, IsPromiseInRange, IsSound}

@@ -1,12 +1,7 @@
 -- The plan, vote by vote.
-use Rattle.std.specs.Prelude.{◌≡◌, ◌+◌, ◌==◌, ℕ, Bool, true, false, max, List, [], ◌∷◌, ◌++◌, Option, None, Some, refl}
-use Rattle.std.proofs.Common.{ap, arith, sym, ◌∙◌}
-use Rattle.std.proofs.lemmas.Bool.{eq-eqb}
-use Rattle.std.proofs.lemmas.Bool.Decides.{nat_tests}
-use Rattle.cx_base.specs.declared.round.Round.{Round}
-use Rattle.cx_base.specs.Round.{is_before}
-use Rattle.cx_field.specs.declared.parts.Vote.{Vote}
-use Rattle.cx_model.specs.Plan.{end_told, best_vote, greater_vote}
+use Rattle.cx_base.proofs.Common.{◌≡◌, ◌+◌, ◌==◌, ℕ, Bool, true, false, max, List, [], ◌∷◌, ◌++◌, Option, None, Some, refl, ap, arith, sym}
+use Rattle.cx_base.proofs.Common.{◌∙◌, eq-eqb, nat_tests, is_before}
+use Rattle.cx_model.specs.Prelude.{Round, Vote, end_told, best_vote, greater_vote}
 use Rattle.cx_phase1.specs.Best.{better}
 
 -- an end may be taken before or after the others

@@ -1,8 +1,6 @@
 -- Going over a list.
-use Rattle.std.specs.Prelude.{◌≡◌, ◌≤◌, ◌<◌, ◌+◌, ◌-◌, ℕ, suc, List, [], ◌∷◌, ◌++◌, length, map, refl}
-use Rattle.std.proofs.Common.{drop, get_or, drop-cons, append_assoc, arith, ap, sym, ◌∙◌}
-use Rattle.std.proofs.lemmas.List.{drop_all}
-use Rattle.cx_base.specs.Lists.{numbers}
+use Rattle.cx_base.proofs.Common.{◌≡◌, ◌≤◌, ◌<◌, ◌+◌, ◌-◌, ℕ, suc, List, [], ◌∷◌, ◌++◌, length, map, refl, drop, get_or, drop-cons}
+use Rattle.cx_base.proofs.Common.{append_assoc, arith, ap, sym, ◌∙◌, drop_all, numbers}
 
 -- what is left at a place is the value there and what is left after it
 pub next_left : {X : Type 0} (xs : List X) (i : ℕ) (x : X) → i < length xs → x ≡ get_or xs i x → drop i xs ≡ x ∷ drop (i + 1) xs

@@ -1,11 +1,8 @@
 -- Of the votes at a slot the one that counts.
 use Rattle.std.specs.Prelude.{ℕ, ◌-◌, Bool, true, ◌&&◌, max, nat_le, map, if◌then◌else◌, List, [], ◌∷◌, Option, None, Some}
-use Rattle.cx_base.specs.Lists.{numbers}
-use Rattle.cx_base.specs.Round.{is_before}
-use Rattle.cx_field.specs.declared.parts.Vote.{Vote}
+use Rattle.cx_model.specs.Prelude.{numbers, is_before, Vote, greater_vote, voted_value}
 use Rattle.cx_ring.specs.Ring.{RingState, value_at, with_value}
 use Rattle.cx_model.specs.declared.states.Plan.{Plan}
-use Rattle.cx_model.specs.Plan.{greater_vote, voted_value}
 
 -- of the best of earlier votes and the best of later ones the one of the greater round, and of one round the first
 abbrev pub better : Option Vote → Option Vote → Option Vote

@@ -1,10 +1,7 @@
 -- A leader's first phase as contracts see it.
 use Rattle.std.specs.Prelude.{Bool, not, nat_lt, if◌then◌else◌, List, [], ◌∷◌, ◌++◌}
-use Rattle.std.specs.List.{list_all}
-use Rattle.cx_field.specs.declared.parts.Entry.{Entry}
+use Rattle.cx_model.specs.Prelude.{list_all, Entry, is_member_of, rows_whole, promised_by, has_promised}
 use Rattle.cx_model.specs.declared.states.Promised.{Promised}
-use Rattle.cx_model.specs.Matched.{is_member_of, rows_whole}
-use Rattle.cx_model.specs.Plan.{promised_by, has_promised}
 use Rattle.cx_phase1.specs.declared.told.Told.{Told}
 use Rattle.cx_phase1.specs.declared.told.Told.TheVariants.{Whole, Counted, Same, Unasked}
 

@@ -1,12 +1,9 @@
 -- What is so of every first phase.
 use Rattle.std.specs.Prelude.{◌≡◌, ◌≤◌, ◌<◌, ◌+◌, ◌^◌, ℕ, List, All, IsTrue}
-use Rattle.cx_base.specs.Grid.{is_in}
+use Rattle.cx_model.specs.Prelude.{is_in, Entry, Vote, has_promised, greatest_cw, end_told, votes_told, best_vote}
 use Rattle.cx_field.specs.Fields as field
-use Rattle.cx_field.specs.declared.parts.Entry.{Entry}
-use Rattle.cx_field.specs.declared.parts.Vote.{Vote}
 use Rattle.cx_ring.specs.Ring.{RingState, value_at}
 use Rattle.cx_model.specs.declared.states.Promised.{Promised}
-use Rattle.cx_model.specs.Plan.{has_promised, greatest_cw, end_told, votes_told, best_vote}
 use Rattle.cx_phase1.specs.Best.{slot_of}
 use Rattle.cx_phase1.specs.Counting.{are_ids}
 

@@ -1,8 +1,7 @@
 -- Where the pieces of a list of ends lie, and one piece more.
-use Rattle.std.proofs.Common.{◌≡◌, ◌≤◌, ◌+◌, ◌-◌, ℕ, zero, suc, List, [], ◌∷◌, ◌++◌, Some, None, length, take, drop, ap, refl, arith}
-use Rattle.std.specs.List.{slice_get}
-use Rattle.std.proofs.lemmas.List.{drop-append-le, take-append-le, length-drop}
-use Rattle.std.proofs.Math.Seq.{drop-append_seam, take-length}
+use Rattle.std.proofs.Math.Seq.{take-length}
+use Rattle.cx_base.proofs.Common.{◌≡◌, ◌≤◌, ◌+◌, ◌-◌, ℕ, zero, suc, List, [], ◌∷◌, ◌++◌, Some, None, length, take, drop, ap, refl, arith}
+use Rattle.cx_base.proofs.Common.{slice_get, drop-append-le, take-append-le, length-drop, drop-append_seam}
 use Rattle.cx_pieces.specs.Ends.{AreEnds, begin_of, split_at_ends}
 
 -- what begins a piece is the end before it

@@ -1,9 +1,6 @@
 -- Where the piece of a number is among chunks.
-use Rattle.std.proofs.Common.{◌≡◌, ◌<◌, ◌+◌, ◌*◌, ◌/◌, ◌%◌, ◌∙◌, ℕ, zero, suc, List, [], ◌∷◌, ◌++◌, Some, None, length, append_assoc, ap}
-use Rattle.std.proofs.Common.{refl, sym, arith}
-use Rattle.std.specs.List.{slice_get}
-use Rattle.std.proofs.lemmas.Nat.{div-add-mod'}
-use Rattle.std.proofs.lemmas.List.{append-nil}
+use Rattle.cx_base.proofs.Common.{◌≡◌, ◌<◌, ◌+◌, ◌*◌, ◌/◌, ◌%◌, ◌∙◌, ℕ, zero, suc, List, [], ◌∷◌, ◌++◌, Some, None, length, append_assoc}
+use Rattle.cx_base.proofs.Common.{ap, refl, sym, arith, slice_get, div-add-mod', append-nil}
 use Rattle.cx_pieces.specs.Chunks.{AreFull, all_of}
 
 -- ---- an element of one list after another

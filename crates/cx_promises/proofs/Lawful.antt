@@ -1,9 +1,5 @@
 -- Every run is lawful: its promises, put together from the law crates.
-use Rattle.std.specs.Prelude.{List}
-use Rattle.cx_base.specs.declared.cluster.Cluster.{Cluster}
-use Rattle.cx_base.specs.declared.event.Event.{Event}
-use Rattle.cx_model.specs.Chosen.{chosen_prefix}
-use Rattle.cx_model.specs.World.{run, log_of}
+use Rattle.cx_model.specs.Prelude.{List, Cluster, Event, chosen_prefix, run, log_of}
 use Rattle.cx_inv_vote.proofs.Agree.{agreement}
 use Rattle.cx_inv_vote.proofs.OneSet.{one_next_set, sets_are_decided}
 use Rattle.cx_inv_alive.proofs.Runs.{no_dead_ends}

@@ -2,41 +2,12 @@
 -- announcement, which is cx_inv_announce's, the change of grid, which is cx_inv_bypass's, recovery, which is cx_inv_open's, and progress,
 -- which is cx_inv_alive's.
 use Rattle.std.specs.Prelude.{◌≡◌, ℕ, ◌<◌, true, List, slice_get, Some}
-use Rattle.cx_base.specs.declared.cluster.Cluster.{Cluster}
-use Rattle.cx_base.specs.declared.command.Value.{Value}
-use Rattle.cx_base.specs.declared.event.Event.{Event}
-use Rattle.cx_letter.specs.declared.input.KeptRecord.{KeptRecord}
-use Rattle.cx_model.specs.Chosen.{is_chosen, chosen_prefix}
-use Rattle.cx_model.specs.Member.{Begins}
-use Rattle.cx_model.specs.Promises.{
-  OfEveryRun,
-  Agreement,
-  ListIsChosen,
-  ReplicasHoldIt,
-  ListGrows,
-  MapsAreFolds,
-  TablesAreFolds,
-  NoneActsTwice,
-  AnswersAreRight,
-  ResultsAreRight,
-  CommandsWereAsked,
-  OrderIsKept,
-  ReadsAreRight,
-  ReadsAreOfTheirReplica,
-  ReadsComeAfterAnswers,
-  ReadsComeAfterReads,
-  SessionsComeAfterHeard,
-  ChosenBelow,
-  HeldBelow,
-  RoundsAskLater,
-  TurnsAskLater,
-  ReadsAskLater,
-  OneNextSet,
-  SetsAreDecided,
-  NothingIsLost,
-  ForgottenIsKept,
-}
-use Rattle.cx_model.specs.World.{run, log_of}
+use Rattle.cx_model.specs.Prelude.{Cluster, Value, Event, KeptRecord, is_chosen, chosen_prefix, Begins, OfEveryRun, Agreement}
+use Rattle.cx_model.specs.Prelude.{ReadsAreRight, ReadsAreOfTheirReplica, ReadsComeAfterAnswers, ReadsComeAfterReads}
+use Rattle.cx_model.specs.Prelude.{SessionsComeAfterHeard, RoundsAskLater, TurnsAskLater, ReadsAskLater, OneNextSet, SetsAreDecided}
+use Rattle.cx_model.specs.Prelude.{ForgottenIsKept, run, log_of}
+use Rattle.cx_model.specs.Promises.{ListIsChosen, ReplicasHoldIt, ListGrows, MapsAreFolds, TablesAreFolds, NoneActsTwice, AnswersAreRight}
+use Rattle.cx_model.specs.Promises.{ResultsAreRight, CommandsWereAsked, OrderIsKept, ChosenBelow, HeldBelow, NothingIsLost}
 use Rattle.cx_inv_alive.specs.Alive.{NoDeadEnds}
 use Rattle.cx_inv_announce.specs.Announced.{Announced}
 use Rattle.cx_inv_bypass.specs.Bypassed.{BypassedRounds}

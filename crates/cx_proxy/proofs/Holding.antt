@@ -1,10 +1,8 @@
 -- What a proxy leader holds, step by step.
-use Rattle.cx_role.proofs.Common.{◌≡◌, ℕ, ◌+◌, ◌<◌, ◌≤◌, ◌^◌, Bool, true, max, List, [], ◌∷◌, All, Some}
-use Rattle.cx_role.proofs.Common.{refl, sym, subst, arith, nat_le, nat_lt, and_parts, nat_tests, All-filter}
-use Rattle.cx_role.proofs.Common.{All-head, All-tail, RoleId, in_window, Pending}
 use Rattle.std.proofs.lemmas.List.Elements.{filter_passes}
+use Rattle.cx_role.proofs.Common.{◌≡◌, ℕ, ◌+◌, ◌<◌, ◌≤◌, ◌^◌, Bool, true, max, List, [], ◌∷◌, All, Some, refl, sym, subst, arith, nat_le}
+use Rattle.cx_role.proofs.Common.{nat_lt, and_parts, nat_tests, All-filter, All-head, All-tail, RoleId, in_window, Pending, pending_at}
 use Rattle.cx_field.specs.Fields.{mark}
-use Rattle.cx_model.specs.Proxy.{pending_at}
 use Rattle.cx_ring.specs.Ring.{RingState, IsNear, raise_ring}
 use Rattle.cx_ring.proofs.Window.{All-with_value}
 use Rattle.cx_proxy.specs.Holds.{IsPendingInRange, StandsInRing, HasPendingRing}

@@ -1,11 +1,10 @@
 -- How many receive a value.
-use Rattle.cx_role.proofs.Common.{◌≡◌, ℕ, zero, suc, ◌+◌, ◌-◌, ◌<◌, ◌≤◌, Bool, true, ◌==◌, ◌||◌, List, [], ◌∷◌}
-use Rattle.cx_role.proofs.Common.{◌++◌, filter, map, length, refl, ap, append_assoc, length-append, arith, nat_tests}
-use Rattle.cx_role.proofs.Common.{is_in, numbers, below, Cluster, RoleId, Pending, Letter}
-use Rattle.std.proofs.lemmas.List.{length-map}
 use Rattle.std.proofs.lemmas.Grind.{length_at_push}
+use Rattle.cx_role.proofs.Common.{◌≡◌, ℕ, zero, suc, ◌+◌, ◌-◌, ◌<◌, ◌≤◌, Bool, true, ◌==◌, ◌||◌, List, [], ◌∷◌, ◌++◌, filter, map, length}
+use Rattle.cx_role.proofs.Common.{refl, ap, append_assoc, length-append, arith, nat_tests, is_in, numbers, below, Cluster, RoleId, Pending}
+use Rattle.cx_role.proofs.Common.{Letter, length-map, pending_at}
 use Rattle.cx_grid.proofs.Crossing.{numbers_more}
-use Rattle.cx_model.specs.Proxy.{again_at, again_for, pending_at}
+use Rattle.cx_model.specs.Proxy.{again_at, again_for}
 use Rattle.cx_role.proofs.Sends.{sent, passed, failed}
 
 -- one of two tests passes at most as often as both

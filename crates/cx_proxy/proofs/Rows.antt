@@ -1,15 +1,15 @@
 -- The rows of a proxy leader, as its code takes them.
-use Rattle.cx_role.proofs.Common.{◌≡◌, ℕ, ◌≤◌, Bool, true, false, max, if◌then◌else◌, List, [], ◌∷◌, ◌&&◌, not, length}
-use Rattle.cx_role.proofs.Common.{map, Option, None, Some, Result, Ok, Err, IsErr, refl, ap, ◌∙◌, sym, arith, nat_lt}
-use Rattle.cx_role.proofs.Common.{nat_tests, Cluster, RoleId, Round, Why, is_in, is_before, same_round, Letter, Record}
-use Rattle.cx_role.proofs.Common.{Pending, Outcome, only_word, replied, Running, refused_from, IsReply}
+use Rattle.std.proofs.Common.{if◌then◌else◌, Option, Result, IsErr, ap, ◌∙◌, sym, arith}
+use Rattle.std.proofs.lemmas.Bool.Decides.{nat_tests}
+use Rattle.cx_role.specs.Prelude.{◌≡◌, ℕ, ◌≤◌, Bool, true, false, max, List, [], ◌∷◌, ◌&&◌, not, length, map, None, Some, Ok, Err, refl}
+use Rattle.cx_role.specs.Prelude.{nat_lt, Cluster, RoleId, Round, Why, is_in, is_before, same_round, Letter, Record, Pending, Outcome}
+use Rattle.cx_role.specs.Prelude.{only_word, replied, Running, refused_from, IsReply, ProxyVolatile, proxy_rules, pending_at, phase2a_to}
+use Rattle.cx_role.specs.Prelude.{column_for, takes_no_memory}
 use Rattle.cx_role.proofs.Common.why
 use Rattle.cx_grid.specs.Quorum.{with_mark}
-use Rattle.cx_model.specs.Proxy.{ProxyVolatile, proxy_rules, pending_at, raised_to, phase2a_to, column_for, ask, propose_over, vote_counted}
-use Rattle.cx_model.specs.Proxy.{vote_for}
+use Rattle.cx_model.specs.Proxy.{raised_to, ask, propose_over, vote_counted, vote_for}
 use Rattle.cx_ring.specs.Ring.{RingState, raise_ring}
 use Rattle.cx_ring.proofs.Window.{value_at-from}
-use Rattle.cx_role.specs.Role.{takes_no_memory}
 use Rattle.cx_proxy.specs.Declined.{declined, declined_over, uncounted}
 use Rattle.cx_proxy.specs.Holds.{proxy_view}
 use Rattle.cx_proxy.specs.Rows.{row_on_proposal, row_on_vote}

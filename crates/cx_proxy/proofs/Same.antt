@@ -1,7 +1,6 @@
 -- The model's words on pending values are the ring's.
-use Rattle.cx_role.proofs.Common.{◌≡◌, ℕ, ◌==◌, if◌then◌else◌, List, [], ◌∷◌, Option, Some, refl, ap}
-use Rattle.cx_role.proofs.Common.{arith, nat_tests, Pending}
-use Rattle.cx_model.specs.Proxy.{pending_at, with_pending}
+use Rattle.cx_role.proofs.Common.{◌≡◌, ℕ, ◌==◌, if◌then◌else◌, List, [], ◌∷◌, Option, Some, refl, ap, arith, nat_tests, Pending, pending_at}
+use Rattle.cx_model.specs.Proxy.{with_pending}
 use Rattle.cx_proxy.specs.Slots.{slot_of}
 use Rattle.cx_ring.specs.Ring.{value_at, with_value}
 

@@ -1,9 +1,7 @@
 -- Why a proxy leader does not ask for a value, and does not count a vote.
-use Rattle.std.specs.Prelude.{◌&&◌, if◌then◌else◌}
-use Rattle.cx_role.specs.Prelude.{ℕ, not, nat_lt, max, Option, None, Some, Why, Round, is_in}
-use Rattle.cx_role.specs.Prelude.{is_before, same_round, Pending}
+use Rattle.std.specs.Prelude.{◌&&◌, if◌then◌else◌, ℕ, not, nat_lt, max, Option, None, Some}
+use Rattle.cx_role.specs.Prelude.{Why, Round, is_in, is_before, same_round, Pending, pending_at}
 use Rattle.cx_base.specs.declared.why.Why.TheVariants.{Done, Old, Past, Same, Unasked}
-use Rattle.cx_model.specs.Proxy.{pending_at}
 use Rattle.cx_ring.specs.Ring.{RingState}
 
 -- a value of a greater round, or of its own, is pending at its slot

@@ -1,8 +1,6 @@
 -- What a proxy leader holds.
-use Rattle.std.specs.Prelude.{◌≡◌}
-use Rattle.cx_role.specs.Prelude.{ℕ, Bool, true, All, IsTrue, Cluster, RoleId, Pending, Running, in_window}
-use Rattle.cx_base.specs.declared.role.Kind.TheVariants.{Proxy}
-use Rattle.cx_model.specs.Proxy.{ProxyVolatile}
+use Rattle.std.specs.Prelude.{◌≡◌, ℕ, Bool, true, All, IsTrue}
+use Rattle.cx_role.specs.Prelude.{Cluster, RoleId, Pending, Running, in_window, Proxy, ProxyVolatile}
 use Rattle.cx_field.specs.Fields as field
 use Rattle.cx_ring.specs.Ring.{RingState, IsNear}
 

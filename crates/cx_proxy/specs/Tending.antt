@@ -1,7 +1,6 @@
 -- What a node that tends its roles asks of a proxy leader.
-use Rattle.std.specs.List.{list_any}
-use Rattle.cx_role.specs.Prelude.{ℕ, Bool, false, not, List, Option, None, Some, numbers, Pending}
-use Rattle.cx_model.specs.Proxy.{ProxyVolatile, pending_at}
+use Rattle.std.specs.Prelude.{ℕ, Bool, false, not, List, Option, None, Some}
+use Rattle.cx_role.specs.Prelude.{list_any, numbers, Pending, ProxyVolatile, pending_at}
 
 -- whether a value is there that isn't known to be chosen
 abbrev pub is_undecided : Option Pending → Bool

@@ -1,11 +1,9 @@
 -- A read in the place of the earlier one of its client and number.
-use Rattle.cx_role.proofs.Common.{◌≡◌, ◌≤◌, ◌<◌, ℕ, suc, zero, Bool, true, false, List, [], ◌∷◌, length, None, Some}
-use Rattle.cx_role.proofs.Common.{Token, refl, ap, arith, cases_Bool, cond, nat_lt, nat_tests, position, inl, inr}
-use Rattle.std.proofs.Common.{slice_index_or, slice_set}
-use Rattle.std.specs.List.{position_or_len}
 use Rattle.std.proofs.lemmas.List.Quantifiers.{position-Some}
-use Rattle.cx_model.specs.Reader.{Asked, with_asked}
-use Rattle.cx_model.specs.Request.{same_read}
+use Rattle.cx_role.specs.Prelude.{with_asked, same_read}
+use Rattle.cx_role.proofs.Common.{◌≡◌, ◌≤◌, ◌<◌, ℕ, suc, zero, Bool, true, false, List, [], ◌∷◌, length, None, Some, Token, refl, ap, arith}
+use Rattle.cx_role.proofs.Common.{cases_Bool, cond, nat_lt, nat_tests, position, inl, inr, slice_index_or, slice_set, position_or_len}
+use Rattle.cx_role.proofs.Common.{Asked}
 
 module _ (one : Asked) where
   abbrev test : Asked → Bool

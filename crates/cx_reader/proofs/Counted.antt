@@ -1,9 +1,8 @@
 -- Which acceptors were counted, and the rows that they make.
-use Rattle.cx_role.proofs.Common.{◌≡◌, ℕ, ◌==◌, Bool, ◌&&◌, ◌||◌, false, List, [], ◌∷◌, ◌++◌, refl, ap, sym, ◌∙◌, arith}
-use Rattle.cx_role.proofs.Common.{nat_lt, list_all, list_any, list_any-append, nat_tests, is_in, below, Entry}
-use Rattle.cx_role.proofs.Common.{Acked, rows_whole}
+use Rattle.cx_role.proofs.Common.{◌≡◌, ℕ, ◌==◌, Bool, ◌&&◌, ◌||◌, false, List, [], ◌∷◌, ◌++◌, refl, ap, sym, ◌∙◌, arith, nat_lt, list_all}
+use Rattle.cx_role.proofs.Common.{list_any, list_any-append, nat_tests, is_in, below, Entry, rows_whole, acked_by, has_acked}
+use Rattle.cx_model.specs.declared.states.Acked.{Acked}
 use Rattle.cx_grid.specs.Quorum.{row_of, with_mark}
-use Rattle.cx_model.specs.Reader.{acked_by, has_acked}
 
 -- whole rows depend on which acceptors were counted alone
 pub rows_alike : (es : List Entry) (xs ys : List ℕ) → ((id : ℕ) → is_in id xs ≡ is_in id ys)

@@ -1,18 +1,14 @@
 -- A reader keeps what it may keep: its next turn.
+use Rattle.cx_model.specs.Prelude.{is_counted, ask_replicas, asked_anew, asked_for, begin, begin_if, finish, greatest_mark, is_among}
+use Rattle.cx_model.specs.Prelude.{is_first, match_ack_row, pre_read_ack_row, reader_row, reader_takes, request_over, make_token}
 use Rattle.cx_role.proofs.Common.{◌≡◌, ◌≤◌, ◌+◌, ◌==◌, ◌&&◌, not, ℕ, true, false, nat_le, nat_lt, Bool, length, List, [], ◌∷◌, ◌++◌, Option}
-use Rattle.cx_role.proofs.Common.{None, Some, refl}
-use Rattle.cx_role.proofs.Common.{arith, nat_tests, Cluster, RoleId, Round, same_role, Letter, Take, Entry, Msg, names, is_in}
-use Rattle.cx_base.specs.Sets.{is_above}
-use Rattle.cx_model.specs.Matched.{is_counted}
-use Rattle.cx_role.proofs.Common.{Outcome, by_test, IsFit, is_member_of, same_round, greatest_watermark, live_entries, rows_whole, Why}
+use Rattle.cx_role.proofs.Common.{None, Some, refl, arith, nat_tests, Cluster, RoleId, Round, same_role, Letter, Take, Entry, Msg, names}
+use Rattle.cx_role.proofs.Common.{is_in, is_above, Outcome, by_test, IsFit, is_member_of, same_round, greatest_watermark, live_entries}
+use Rattle.cx_role.proofs.Common.{rows_whole, Why, Asking, Asked, Batch, ReaderDurable, ReaderVolatile, acked_by, has_acked, is_matched}
+use Rattle.cx_role.proofs.Common.{is_of_batch, last_turn, match_ack_counted, pre_read_counted, reader_rules}
 use Rattle.cx_role.proofs.Common.msg
 use Rattle.cx_role.proofs.Common.why
-use Rattle.cx_field.specs.declared.parts.Asking.{Asking}
-use Rattle.cx_model.specs.Reader.{Asked, Batch, ReaderDurable, ReaderVolatile, acked_by, ask_replicas, asked_anew, asked_for, begin}
-use Rattle.cx_model.specs.Reader.{begin_if, finish, greatest_mark, has_acked, is_among, is_first}
-use Rattle.cx_model.specs.Reader.{is_matched, is_of_batch, last_turn, match_ack_counted, match_ack_row, matched, pre_read_ack_row}
-use Rattle.cx_model.specs.Reader.{pre_read_counted}
-use Rattle.cx_model.specs.Reader.{reader_row, reader_rules, reader_takes, request_over, request_row, sets_row, make_token, with_asked}
+use Rattle.cx_model.specs.Reader.{matched, request_row, sets_row, with_asked}
 
 abbrev Fits : Cluster → RoleId → ReaderDurable → Outcome ReaderVolatile → Type 0
 Fits c me d o = IsFit reader_rules c me d o.kept

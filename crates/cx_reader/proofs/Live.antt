@@ -1,8 +1,6 @@
 -- What is so of the live entries, answer by answer.
 use Rattle.cx_role.proofs.Common.{◌≡◌, ℕ, Bool, true, ◌&&◌, ◌||◌, List, [], ◌∷◌, filter, refl, list_any, ap, ◌∙◌, sym, arith}
-use Rattle.cx_role.proofs.Common.{list_any-append, Round, is_in, Entry, MatchAnswer, entries_told, is_member_of}
-use Rattle.cx_role.proofs.Common.{nat_tests}
-use Rattle.cx_model.specs.Matchmaker.{entries_since}
+use Rattle.cx_role.proofs.Common.{list_any-append, Round, is_in, Entry, MatchAnswer, entries_told, is_member_of, nat_tests, entries_since}
 use Rattle.cx_reader.specs.Live.{is_live, some_live, some_live_with}
 
 any-filter : {A : Type 0} (p q : A → Bool) (xs : List A) → list_any p (filter q xs) ≡ list_any (λ x. q x && p x) xs

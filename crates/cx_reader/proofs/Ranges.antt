@@ -1,10 +1,9 @@
 -- The ranges of what a batch sends.
+use Rattle.cx_role.specs.Prelude.{Acked, greatest_mark}
 use Rattle.cx_role.proofs.Common.{◌≡◌, ◌<◌, ◌≤◌, ◌+◌, true, length, Option, Some, List, [], ◌∷◌, ◌++◌, refl, arith, nat_lt, nat_tests}
-use Rattle.cx_role.proofs.Common.{lt-ltb}
-use Rattle.cx_role.proofs.Common.{list_all-append, Acked, MatchAnswer, greatest_watermark}
+use Rattle.cx_role.proofs.Common.{lt-ltb, list_all-append, MatchAnswer, greatest_watermark, Asked, Batch}
 use Rattle.cx_wire.specs.Format.{u16, u32, u64}
 use Rattle.cx_field.specs.Fields.{mark, round0}
-use Rattle.cx_model.specs.Reader.{Asked, Batch, greatest_mark}
 use Rattle.cx_reader.specs.Running.{has_fitting_watermarks, is_ack, are_acks, count_running}
 
 -- the greatest of watermarks in their range

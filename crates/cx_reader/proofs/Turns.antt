@@ -1,10 +1,8 @@
 -- The next turn is in its range.
-use Rattle.cx_role.proofs.Common.{◌≡◌, ◌<◌, ◌+◌, ◌^◌, ◌&&◌, ℕ, true, nat_le, nat_lt, max, arith, nat_tests}
+use Rattle.cx_role.proofs.Common.{◌≡◌, ◌<◌, ◌+◌, ◌^◌, ◌&&◌, ℕ, true, nat_le, nat_lt, max, arith, nat_tests, fits, last_turn}
 use Rattle.cx_role.proofs.Common.kept
 use Rattle.cx_wire.specs.Format.{u64}
 use Rattle.cx_field.specs.Fields.{seq}
-use Rattle.cx_letter.specs.Records.{fits}
-use Rattle.cx_model.specs.Reader.{last_turn}
 
 some_below : (n limit : ℕ) → n + 1 < limit → (nat_lt (n + 1) limit && nat_le 1 (n + 1)) ≡ true
 some_below n limit less = grind (arith, nat_tests)

@@ -1,8 +1,7 @@
 -- What is so of every batch, and of every reader.
-use Rattle.std.specs.Prelude.{◌≡◌, ◌+◌, ◌≤◌, ◌&&◌}
-use Rattle.cx_role.specs.Prelude.{ℕ, nat_lt, Bool, List, Option, None, Some, length, IsTrue, list_all, is_in, Acked, MatchAnswer}
-use Rattle.cx_field.specs.Fields.{mark, round0, seq}
-use Rattle.cx_model.specs.Reader.{Asked, Batch, has_acked, last_turn}
+use Rattle.std.specs.Prelude.{◌≡◌, ◌+◌, ◌≤◌, ◌&&◌, ℕ, nat_lt, Bool, List, Option, None, Some, length, IsTrue}
+use Rattle.cx_role.specs.Prelude.{list_all, is_in, Acked, MatchAnswer, mark, round0, Asked, Batch, has_acked, last_turn}
+use Rattle.cx_field.specs.Fields.{seq}
 
 -- whether the retirement watermarks of matchmakers' answers are in their range
 abbrev pub has_fitting_watermarks : List MatchAnswer → Bool

@@ -1,11 +1,9 @@
 -- Decimal numbers: read back, without breaks, and short.
-use Rattle.std.proofs.Common.{◌≡◌, ◌<◌, ◌≤◌, ◌^◌, ◌==◌, nat_lt, ℕ, Bool, true, false, List, [], ◌∷◌, length, Some, refl, arith}
 use Rattle.std.specs.Prelude.{decimal}
-use Rattle.std.specs.Char.{digit_value, is_ascii_digit}
-use Rattle.std.specs.List.{list_all}
 use Rattle.std.specs.Str.Parse.{AllDigits}
-use Rattle.std.proofs.lemmas.Bool.Decides.{nat_tests}
 use Rattle.std.proofs.lemmas.Fmt.{decimal_is_IsNumeral, length-decimal-le}
+use Rattle.cx_base.proofs.Common.{◌≡◌, ◌<◌, ◌≤◌, ◌^◌, ◌==◌, nat_lt, ℕ, Bool, true, false, List, [], ◌∷◌, length, Some, refl, arith}
+use Rattle.cx_base.proofs.Common.{digit_value, is_ascii_digit, list_all, nat_tests}
 use Rattle.cx_script.specs.Words.{is_empty, is_number, word_number}
 use Rattle.cx_record.proofs.Words.{Avoids, IsWord, is_break}
 

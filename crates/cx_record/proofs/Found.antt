@@ -1,8 +1,7 @@
 -- The last datagram with some bytes, among those that were sent.
 use Rattle.std.specs.Global.{Global}
-use Rattle.std.proofs.Common.{◌≡◌, ◌+◌, ◌∙◌, ℕ, zero, suc, true, false, List, [], ◌∷◌, ◌++◌, Vec, Option, Some, None, if◌then◌else◌, length}
-use Rattle.std.proofs.Common.{slice_get, option_map, bytes_eq, ap, sym, refl, inl, inr, arith, add-zero}
-use Rattle.std.proofs.lemmas.Bool.{cases_Bool}
+use Rattle.cx_base.proofs.Common.{◌≡◌, ◌+◌, ◌∙◌, ℕ, zero, suc, true, false, List, [], ◌∷◌, ◌++◌, Vec, Option, Some, None, if◌then◌else◌}
+use Rattle.cx_base.proofs.Common.{length, slice_get, option_map, bytes_eq, ap, sym, refl, inl, inr, arith, add-zero, cases_Bool}
 use Rattle.cx_letter.specs.Letter.{Letter}
 use Rattle.cx_msg.specs.Datagrams.{spelling}
 use Rattle.cx_record.specs.Numbers.{Numbered, last_from, last_sent, numbered, or_else}

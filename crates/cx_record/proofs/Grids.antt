@@ -1,17 +1,12 @@
 -- The two words of a grid are read back as the grid, and the word of a set of matchmakers as the set.
-use Rattle.std.proofs.Common.{◌≡◌, ◌∙◌, ◌<◌, ◌≤◌, ◌+◌, ◌*◌, ◌^◌, ◌==◌, ◌&&◌, not, nat_lt, nat_le, suc, ℕ, Bool, true, false, List, [], ◌∷◌}
-use Rattle.std.proofs.Common.{◌++◌, length, map, drop, None, Some, Ok, ap, sym, refl, arith, append_assoc, length-append}
-use Rattle.std.specs.Prelude.{codes, decimal, is_none}
-use Rattle.std.specs.Char.{digit_value}
-use Rattle.std.specs.List.{after_first, before_first, join_with_byte, list_all, position_or_len, slice_split}
-use Rattle.std.proofs.lemmas.Bool.{and_parts}
-use Rattle.std.proofs.lemmas.Bool.Decides.{nat_tests}
+use Rattle.std.specs.List.{after_first, before_first}
 use Rattle.std.proofs.lemmas.Fmt.{length-decimal-le}
-use Rattle.std.proofs.lemmas.List.{take_at}
 use Rattle.std.proofs.Math.Nat.{le-mul_of_pos_right, mul-le-mul_right}
-use Rattle.cx_base.specs.declared.cluster.Cluster.{Cluster}
-use Rattle.cx_base.specs.Grid.{IsGrid, Shape, are_new, first_twice, grid_fault, is_in}
-use Rattle.cx_base.specs.Sets.{is_rising}
+use Rattle.cx_base.proofs.Common.{◌≡◌, ◌∙◌, ◌<◌, ◌≤◌, ◌+◌, ◌*◌, ◌^◌, ◌==◌, ◌&&◌, not, nat_lt, nat_le, suc, ℕ, Bool, true, false, List, []}
+use Rattle.cx_base.proofs.Common.{◌∷◌, ◌++◌, length, map, drop, None, Some, Ok, ap, sym, refl, arith, append_assoc, length-append, codes}
+use Rattle.cx_base.proofs.Common.{is_none, digit_value, join_with_byte, list_all, position_or_len, slice_split, and_parts, nat_tests}
+use Rattle.cx_base.proofs.Common.{take_at, IsGrid, Shape, are_new, first_twice, grid_fault, is_in, is_rising}
+use Rattle.cx_letter.specs.Prelude.{decimal, Cluster}
 use Rattle.cx_script.specs.Names.{names_members, names_set}
 use Rattle.cx_script.specs.Places.{ids_of, members_word, set_word, sides_fit, sides_word}
 use Rattle.cx_script.specs.Words.{is_empty}

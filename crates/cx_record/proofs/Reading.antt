@@ -1,25 +1,10 @@
 -- The lines of events are read as these events.
-use Rattle.std.proofs.Common.{◌≡◌, ◌∙◌, ◌≤◌, ◌<◌, ◌+◌, ◌-◌, ◌*◌, ◌^◌, ◌==◌, ◌&&◌, not, nat_lt, ℕ, zero, suc, Bool, true, false, List, []}
-use Rattle.std.proofs.Common.{◌∷◌, length, map, None, Some, Ok, ap, sym, refl, arith, append-nil, true≢false}
-use Rattle.std.specs.Prelude.{codes, slice_index}
-use Rattle.std.specs.List.{All, join_with_byte}
-use Rattle.std.specs.Str.Lines.{strip_carriage_return}
-use Rattle.std.proofs.lemmas.Bool.{and_parts}
-use Rattle.std.proofs.lemmas.Bool.Decides.{nat_tests}
-use Rattle.cx_base.specs.declared.cluster.Cluster.{Cluster}
-use Rattle.cx_base.specs.declared.command.Command.{Command}
-use Rattle.cx_base.specs.declared.command.Op.{Op}
-use Rattle.cx_base.specs.declared.command.Op.TheVariants.{Put, Del, App}
-use Rattle.cx_base.specs.declared.event.Cut.{Cut}
-use Rattle.cx_base.specs.declared.event.Cut.TheVariants.{Whole, Torn, Kept}
-use Rattle.cx_base.specs.declared.event.Event.{Event}
+use Rattle.cx_base.proofs.Common.{◌∙◌, ap, sym, arith, append-nil, true≢false, and_parts, nat_tests}
+use Rattle.cx_letter.specs.Prelude.{◌≡◌, ◌≤◌, ◌<◌, ◌+◌, ◌-◌, ◌*◌, ◌^◌, ◌==◌, ◌&&◌, not, nat_lt, ℕ, zero, suc, Bool, true, false, List, []}
+use Rattle.cx_letter.specs.Prelude.{◌∷◌, length, map, None, Some, Ok, refl, codes, slice_index, All, join_with_byte, strip_carriage_return}
+use Rattle.cx_letter.specs.Prelude.{Cluster, Command, Op, Put, Del, App, Cut, Whole, Torn, Kept, Event, Lead, Change, Collect, Replace}
+use Rattle.cx_letter.specs.Prelude.{Client, Batcher, Leader, Replica, Reader, Replacer, RoleId, count_of, IsGrid, Shape, role_text}
 use Rattle.cx_base.specs.declared.event.Event.TheVariants as event
-use Rattle.cx_base.specs.declared.event.Order.TheVariants.{Lead, Change, Collect, Replace}
-use Rattle.cx_base.specs.declared.role.Kind.TheVariants.{Client, Batcher, Leader, Replica, Reader, Replacer}
-use Rattle.cx_base.specs.declared.role.RoleId.{RoleId}
-use Rattle.cx_base.specs.Cluster.{count_of}
-use Rattle.cx_base.specs.Grid.{IsGrid, Shape}
-use Rattle.cx_base.specs.Role.{role_text}
 use Rattle.cx_script.specs.Grammar.{collect_event, deliver_event, event_in, event_of, line_event, op_at, read_event, replace_event}
 use Rattle.cx_script.specs.Grammar.{grid_order_of, server_of, session_event, snap_event, write_event}
 use Rattle.cx_script.specs.Lines.{lines_of, schedule_of, spelled_from}

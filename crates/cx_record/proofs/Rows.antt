@@ -1,9 +1,6 @@
 -- Words that are written one after the other are words with a byte between them; texts that begin with others.
-use Rattle.std.proofs.Common.{◌≡◌, ◌∙◌, ◌++◌, ℕ, List, [], ◌∷◌, OnOk, Result, append-nil, append_assoc, ap, drop, length, map, refl, subst}
-use Rattle.std.proofs.Common.{sym, take}
-use Rattle.std.specs.Prelude.{decimal}
-use Rattle.std.proofs.lemmas.List.{take-append-drop}
-use Rattle.std.specs.List.{join_with_byte}
+use Rattle.std.proofs.Common.{◌∙◌, append-nil, append_assoc, ap, subst, sym, take-append-drop}
+use Rattle.cx_letter.specs.Prelude.{decimal, ◌≡◌, ◌++◌, ℕ, List, [], ◌∷◌, OnOk, Result, drop, length, map, refl, take, join_with_byte}
 use Rattle.cx_record.specs.Lines.{ids_text}
 use Rattle.cx_record.specs.Pieces.{behind_each, in_row}
 use Rattle.cx_trace.proofs.Begins.{behind}

@@ -1,25 +1,16 @@
 -- What lines spell can be recorded.
-use Rattle.std.proofs.Common.{◌≡◌, ◌<◌, ◌≤◌, ◌+◌, ◌-◌, ◌*◌, ◌^◌, ◌==◌, ◌&&◌, ◌||◌, not, nat_lt, nat_le, ℕ, zero, suc, Bool, true, false}
-use Rattle.std.proofs.Common.{List, [], ◌∷◌, length, codes, Option, None, Some, option_and_then, option_map, ok_or, Result, Ok, Err, IfOk}
-use Rattle.std.proofs.Common.{IfSome, is_none, refl, subst, sym, arith, true≢false, if◌then◌else◌}
-use Rattle.std.specs.Bool.{⊤}
-use Rattle.std.specs.List.{All, list_all, slice_split}
-use Rattle.std.specs.Prelude.{slice_index_or}
-use Rattle.std.specs.Str.{bytes_eq}
-use Rattle.std.proofs.lemmas.Bool.{and_parts, or_parts}
-use Rattle.std.proofs.lemmas.Bool.Decides.{nat_tests}
 use Rattle.std.proofs.lemmas.List.Elements.{All-filter}
-use Rattle.cx_base.specs.declared.cluster.Cluster.{Cluster}
-use Rattle.cx_base.specs.declared.command.Op.TheVariants.{Put, Del, App}
-use Rattle.cx_base.specs.declared.event.Cut.TheVariants.{Whole}
-use Rattle.cx_base.specs.declared.event.Event.{Event}
+use Rattle.cx_base.proofs.Common.{option_and_then, ok_or, subst, sym, arith, true≢false, ⊤, and_parts, or_parts, nat_tests, first_twice}
+use Rattle.cx_base.proofs.Common.{is_name_byte}
+use Rattle.cx_letter.specs.Prelude.{◌≡◌, ◌<◌, ◌≤◌, ◌+◌, ◌-◌, ◌*◌, ◌^◌, ◌==◌, ◌&&◌, ◌||◌, not, nat_lt, nat_le, ℕ, zero, suc, Bool, true}
+use Rattle.cx_letter.specs.Prelude.{false, List, [], ◌∷◌, length, codes, Option, None, Some, option_map, Result, Ok, Err, IfOk, IfSome}
+use Rattle.cx_letter.specs.Prelude.{is_none, refl, if◌then◌else◌, All, list_all, slice_split, slice_index_or, bytes_eq, Cluster, Put, Del}
+use Rattle.cx_letter.specs.Prelude.{App, Whole, Event, Collect, Client, Batcher, Leader, Replica, Reader, Replacer, IsGrid, grid_fault}
+use Rattle.cx_letter.specs.Prelude.{make_grid, IsName}
 use Rattle.cx_base.specs.declared.event.Event.TheVariants as event
-use Rattle.cx_base.specs.declared.event.Order.TheVariants.{Collect}
 use Rattle.cx_base.specs.declared.grid_fault.GridFault.{GridFault}
 use Rattle.cx_base.specs.declared.grid_fault.GridFault.TheVariants.{Empty, Size, Count, Twice}
-use Rattle.cx_base.specs.declared.role.Kind.TheVariants.{Client, Batcher, Leader, Replica, Reader, Replacer}
-use Rattle.cx_base.specs.Grid.{IsGrid, first_twice, grid_fault, make_grid}
-use Rattle.cx_base.specs.Name.{IsName, is_name, is_name_byte, as_name}
+use Rattle.cx_base.specs.Name.{is_name, as_name}
 use Rattle.cx_base.proofs.Members.{new_where_none}
 use Rattle.cx_script.specs.declared.fault.LineFault.{LineFault}
 use Rattle.cx_script.specs.declared.fault.LineFault.TheVariants.{Grid, Key, Long, Number, Word}

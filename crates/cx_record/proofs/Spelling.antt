@@ -1,20 +1,10 @@
 -- What each word of a line says in its place.
-use Rattle.std.proofs.Common.{◌≡◌, ◌∙◌, ◌<◌, ◌≤◌, ◌+◌, ◌-◌, ◌^◌, ◌==◌, not, nat_lt, nat_le, ℕ, Bool, true, false, List, [], ◌∷◌, ◌++◌}
-use Rattle.std.proofs.Common.{length, Ok, ap, refl, arith, append_assoc, eqb-true, if◌then◌else◌}
-use Rattle.std.specs.Prelude.{codes, decimal}
-use Rattle.std.specs.List.{list_all, slice_split}
-use Rattle.std.proofs.lemmas.Bool.{and_parts}
-use Rattle.std.proofs.lemmas.Bool.Decides.{nat_tests}
-use Rattle.cx_base.specs.Asked.{floor_fits}
-use Rattle.cx_base.specs.Cluster.{count_of}
-use Rattle.cx_base.specs.declared.cluster.Cluster.{Cluster}
-use Rattle.cx_base.specs.declared.event.Cut.{Cut}
-use Rattle.cx_base.specs.declared.event.Cut.TheVariants.{Whole, Torn, Kept}
-use Rattle.cx_base.specs.declared.role.Kind.{Kind}
-use Rattle.cx_base.specs.declared.role.Kind.TheVariants.{Client, Batcher, Leader, Proxy, Acceptor, Matchmaker, Replica, Unbatcher, Reader}
-use Rattle.cx_base.specs.declared.role.Kind.TheVariants.{Replacer}
-use Rattle.cx_base.specs.Name.{IsName, is_name, is_name_byte}
-use Rattle.cx_base.specs.Role.{kind_text, role, role_text}
+use Rattle.cx_base.proofs.Common.{◌∙◌, ap, arith, append_assoc, eqb-true, and_parts, nat_tests, is_name_byte, kind_text}
+use Rattle.cx_letter.specs.Prelude.{◌≡◌, ◌<◌, ◌≤◌, ◌+◌, ◌-◌, ◌^◌, ◌==◌, not, nat_lt, nat_le, ℕ, Bool, true, false, List, [], ◌∷◌, ◌++◌}
+use Rattle.cx_letter.specs.Prelude.{length, Ok, refl, if◌then◌else◌, codes, decimal, list_all, slice_split, floor_fits, count_of, Cluster}
+use Rattle.cx_letter.specs.Prelude.{Cut, Whole, Torn, Kept, Kind, Client, Batcher, Leader, Proxy, Acceptor, Matchmaker, Replica, Unbatcher}
+use Rattle.cx_letter.specs.Prelude.{Reader, Replacer, IsName, role, role_text}
+use Rattle.cx_base.specs.Name.{is_name}
 use Rattle.cx_script.specs.Grammar.{cut_at}
 use Rattle.cx_script.specs.Names.{is_client}
 use Rattle.cx_script.specs.Places.{index_word, key_word, number_word, seq_word, server_word, text_word}

@@ -1,9 +1,6 @@
 -- Words of a line: each has a byte and no break, and is short. Such words with one blank between them are cut into these words again.
-use Rattle.std.proofs.Common.{◌≡◌, ◌∙◌, ◌≤◌, ◌+◌, ◌*◌, ◌==◌, ◌||◌, not, ℕ, Bool, true, false, List, [], ◌∷◌, ◌++◌, length, filter, ap, refl}
-use Rattle.std.proofs.Common.{arith, length-append}
-use Rattle.std.specs.List.{join_with_byte, list_all, slice_split}
-use Rattle.std.proofs.lemmas.Bool.{and_parts}
-use Rattle.std.proofs.lemmas.Bool.Decides.{nat_tests}
+use Rattle.cx_base.proofs.Common.{◌≡◌, ◌∙◌, ◌≤◌, ◌+◌, ◌*◌, ◌==◌, ◌||◌, not, ℕ, Bool, true, false, List, [], ◌∷◌, ◌++◌, length, filter, ap}
+use Rattle.cx_base.proofs.Common.{refl, arith, length-append, join_with_byte, list_all, slice_split, and_parts, nat_tests}
 use Rattle.cx_script.specs.Words.{is_blank, is_empty, words_of}
 
 -- no byte of a list passes

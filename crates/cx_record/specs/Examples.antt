@@ -1,10 +1,7 @@
 -- Events, each with its line, written out.
 use Rattle.std.specs.Prelude.{◌≡◌, [], ◌∷◌, codes}
-use Rattle.cx_base.specs.declared.command.Op.TheVariants.{Put, Del}
-use Rattle.cx_base.specs.declared.event.Cut.TheVariants.{Whole, Torn, Kept}
+use Rattle.cx_letter.specs.Prelude.{Put, Del, Whole, Torn, Kept, Lead, Change, Collect, make_grid}
 use Rattle.cx_base.specs.declared.event.Event.TheVariants as event
-use Rattle.cx_base.specs.declared.event.Order.TheVariants.{Lead, Change, Collect}
-use Rattle.cx_base.specs.Grid.{make_grid}
 use Rattle.cx_record.specs.Lines.{line_text}
 
 pub record Worked : Type 0 where

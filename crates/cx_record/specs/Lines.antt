@@ -1,17 +1,9 @@
 -- The line of an event, as a schedule has it.
 use Rattle.std.specs.Prelude.{ℕ, List, [], ◌∷◌, ◌++◌, map, codes, decimal}
-use Rattle.std.specs.List.{join_with_byte}
-use Rattle.cx_base.specs.declared.command.Op.{Op}
-use Rattle.cx_base.specs.declared.command.Op.TheVariants.{Put, Del, App}
-use Rattle.cx_base.specs.declared.event.Cut.{Cut}
-use Rattle.cx_base.specs.declared.event.Cut.TheVariants.{Whole, Torn, Kept}
-use Rattle.cx_base.specs.declared.event.Event.{Event}
+use Rattle.cx_letter.specs.Prelude.{join_with_byte, Op, Put, Del, App, Cut, Whole, Torn, Kept, Event, Lead, Change, Collect, Replace}
+use Rattle.cx_letter.specs.Prelude.{Batcher, Client, Leader, Reader, Replica, Replacer, Shape, role, role_text}
 use Rattle.cx_base.specs.declared.event.Event.TheVariants as event
 use Rattle.cx_base.specs.declared.event.Order.{Order}
-use Rattle.cx_base.specs.declared.event.Order.TheVariants.{Lead, Change, Collect, Replace}
-use Rattle.cx_base.specs.declared.role.Kind.TheVariants.{Batcher, Client, Leader, Reader, Replica, Replacer}
-use Rattle.cx_base.specs.Grid.{Shape}
-use Rattle.cx_base.specs.Role.{role, role_text}
 use Rattle.cx_script.specs.Unended.{lines_text}
 use Rattle.cx_trace.specs.Trace.{seq_text}
 

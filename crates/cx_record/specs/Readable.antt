@@ -1,16 +1,9 @@
 -- Which events can be recorded, and that their lines are read as these events.
 use Rattle.std.specs.Prelude.{◌≡◌, ◌<◌, ◌^◌, Bool, true, false, List, None}
-use Rattle.cx_base.specs.Asked.{is_valid_event}
-use Rattle.cx_base.specs.declared.cluster.Cluster.{Cluster}
-use Rattle.cx_base.specs.declared.command.Op.{Op}
-use Rattle.cx_base.specs.declared.command.Op.TheVariants.{Put, Del, App}
-use Rattle.cx_base.specs.declared.event.Cut.TheVariants.{Torn, Kept}
-use Rattle.cx_base.specs.declared.event.Event.{Event}
+use Rattle.cx_letter.specs.Prelude.{is_valid_event, Cluster, Op, Put, Del, App, Torn, Kept, Event, Lead, Change, Collect, Replace, IsGrid}
+use Rattle.cx_letter.specs.Prelude.{IsName}
 use Rattle.cx_base.specs.declared.event.Event.TheVariants as event
 use Rattle.cx_base.specs.declared.event.Order.{Order}
-use Rattle.cx_base.specs.declared.event.Order.TheVariants.{Lead, Change, Collect, Replace}
-use Rattle.cx_base.specs.Grid.{IsGrid}
-use Rattle.cx_base.specs.Name.{IsName}
 use Rattle.cx_script.specs.Lines.{schedule_of}
 use Rattle.cx_script.specs.Names.{names_event}
 use Rattle.cx_record.specs.Lines.{events_text}

@@ -1,7 +1,6 @@
 -- How many were counted.
-use Rattle.cx_role.proofs.Common.{◌≡◌, ◌≤◌, ◌<◌, ◌+◌, ◌==◌, ℕ, Bool, true, false, nat_lt, List, [], ◌∷◌, length, refl, arith}
-use Rattle.cx_role.proofs.Common.{nat_tests, is_in}
-use Rattle.std.proofs.lemmas.Bool.{or_parts, lt-ltb, le-ltb}
+use Rattle.cx_base.proofs.Common.{◌≡◌, ◌≤◌, ◌<◌, ◌+◌, ◌==◌, ℕ, Bool, true, false, nat_lt, List, [], ◌∷◌, length, refl, arith, nat_tests}
+use Rattle.cx_base.proofs.Common.{is_in, or_parts, lt-ltb, le-ltb}
 use Rattle.cx_grid.specs.Quorum.{with_mark}
 
 swapped : (a b : ℕ) → (b == a) ≡ false → (a == b) ≡ false

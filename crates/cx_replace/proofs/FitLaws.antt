@@ -1,15 +1,12 @@
 -- What a replacer takes, it keeps no record of.
-use Rattle.cx_role.proofs.Common.{◌≡◌, ◌&&◌, ◌||◌, not, nat_lt, List, ℕ, length, Option, refl, subst, sym, Cluster, RoleId, Round}
-use Rattle.cx_role.proofs.Common.{same_role, same_round, is_in, Letter, Record, Entry, Msg, names, Outcome, either_way, IsFit}
+use Rattle.cx_model.specs.Prelude.{◌≡◌, ◌&&◌, ◌||◌, not, nat_lt, List, ℕ, length, Option, refl, Cluster, RoleId, Round, same_role}
+use Rattle.cx_model.specs.Prelude.{same_round, is_in, Letter, Record, Entry, Msg, names, Outcome, IsFit, None, bytes_eq, is_above}
+use Rattle.cx_model.specs.Prelude.{with_mark, enough, ReplacerDurable, ReplacerVolatile, halt_counted, has_halted, is_booting, is_deciding}
+use Rattle.cx_model.specs.Prelude.{is_resting, is_stopping, joined_entries, replacer_row, replacer_rules, replacer_takes, to_decide}
+use Rattle.cx_role.proofs.Common.{subst, sym, either_way}
 use Rattle.cx_role.proofs.Common.msg
-use Rattle.std.specs.Prelude.{None, bytes_eq}
-use Rattle.cx_base.specs.Sets.{is_above}
-use Rattle.cx_grid.specs.Quorum.{with_mark}
 use Rattle.cx_letter.specs.declared.input.Input.TheVariants as input
-use Rattle.cx_model.specs.Matched.{enough}
-use Rattle.cx_model.specs.Replacer.{ReplacerDurable, ReplacerVolatile, boot_b_row, decide, halt_counted, has_halted, is_booting}
-use Rattle.cx_model.specs.Replacer.{is_deciding, is_resting, is_stopping, joined_entries, next_b_row, replacer_row, replacer_rules}
-use Rattle.cx_model.specs.Replacer.{replacer_takes, stop_b_row, to_decide}
+use Rattle.cx_model.specs.Replacer.{boot_b_row, decide, next_b_row, stop_b_row}
 
 abbrev KeepsNone : Outcome ReplacerVolatile → Type 0
 KeepsNone o = o.kept ≡ None

@@ -1,20 +1,15 @@
 -- What the matchmakers that have stopped had, one entry after the other.
-use Rattle.cx_role.proofs.Common.{◌≡◌, ◌≤◌, ◌&&◌, ℕ, Bool, true, false, filter, List, [], ◌∷◌, ◌++◌, length}
-use Rattle.cx_role.proofs.Common.{refl, ap, sym, ◌∙◌, list_all, arith, nat_tests, and_from, and_parts, by_test, either_way}
-use Rattle.cx_role.proofs.Common.{list_all-append, filter-append, is_before, same_round, no_round, Entry, Round}
-use Rattle.cx_role.proofs.Common.{entries_told, greatest_watermark, live_entries}
 use Rattle.std.specs.List.{insert}
-use Rattle.std.specs.Prelude.{slice_get}
-use Rattle.std.specs.Option.{option_map_or}
-use Rattle.std.proofs.lemmas.List.{append-nil}
-use Rattle.std.proofs.lemmas.Grind.{common_steps}
+use Rattle.cx_role.proofs.Common.{◌≡◌, ◌≤◌, ◌&&◌, ℕ, Bool, true, false, filter, List, [], ◌∷◌, ◌++◌, length, refl, ap, sym, ◌∙◌, list_all}
+use Rattle.cx_role.proofs.Common.{arith, nat_tests, and_from, and_parts, by_test, either_way, list_all-append, filter-append, is_before}
+use Rattle.cx_role.proofs.Common.{same_round, no_round, Entry, Round, entries_told, greatest_watermark, live_entries, slice_get}
+use Rattle.cx_role.proofs.Common.{option_map_or, append-nil, common_steps, entries_since, sorted_into}
 use Rattle.cx_wire.specs.Format.{u16, u32}
 use Rattle.cx_field.specs.Fields.{entries, joined, round0}
 use Rattle.cx_field.specs.Ranges.{entry_in_range, rounds_rise}
 use Rattle.cx_field.proofs.ListLaws.{entries_apart, joined_fit}
 use Rattle.cx_model.specs.declared.states.Halt.{Halt}
-use Rattle.cx_model.specs.Matchmaker.{entries_since}
-use Rattle.cx_model.specs.Replacer.{answers_of, joined_entries as joined_of, sorted_into, with_entry}
+use Rattle.cx_model.specs.Replacer.{answers_of, joined_entries as joined_of, with_entry}
 use Rattle.cx_replace.specs.Joining.{earlier}
 use Rattle.cx_replace.specs.State.{halt_fits}
 

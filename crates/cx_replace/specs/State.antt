@@ -1,7 +1,6 @@
 -- What is so of every replacer.
-use Rattle.std.specs.Prelude.{◌≤◌, ◌<◌, ◌&&◌, ◌||◌, ◌∷◌, ◌++◌}
-use Rattle.cx_role.specs.Prelude.{ℕ, Bool, List, [], length, list_all, IsTrue, Cluster, Entry, Round}
-use Rattle.cx_field.specs.Fields.{entries, joined, round, round0}
+use Rattle.std.specs.Prelude.{◌≤◌, ◌<◌, ◌&&◌, ◌||◌, ◌∷◌, ◌++◌, ℕ, Bool, List, [], length, IsTrue}
+use Rattle.cx_letter.specs.Prelude.{list_all, Cluster, Entry, Round, entries, joined, round, round0}
 use Rattle.cx_model.specs.declared.states.Halt.{Halt}
 use Rattle.cx_model.specs.declared.states.Replacing.{Replacing}
 use Rattle.cx_model.specs.Replacer.{ReplacerVolatile, is_resting, is_stopping}

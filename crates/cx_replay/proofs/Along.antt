@@ -1,18 +1,12 @@
 -- What was handed out so far are whole lines that were run, and the definition at what is to come makes the definition at all.
-use Rattle.std.proofs.Common.{◌≡◌, ◌<◌, ◌+◌, ◌++◌, ℕ, true, List, [], ◌∷◌, length, refl, sym, ap, ◌∙◌, subst, append_assoc, append-nil}
-use Rattle.std.proofs.Common.{arith, Option, None, Some, option_to_list, if◌then◌else◌}
-use Rattle.std.specs.Prelude.{IfSome}
-use Rattle.std.specs.Io.KnownBytes.{Appends, Consumes, IsAtEnd}
-use Rattle.std.specs.Str.Lines.{strip_carriage_return}
+use Rattle.std.proofs.Common.{sym, ap, ◌∙◌, subst, append_assoc, append-nil, arith}
 use Rattle.std.proofs.KnownBytes.{Appends-nil, Appends-trans, Consumes-whole}
-use Rattle.cx_base.specs.declared.cluster.Cluster.{Cluster}
-use Rattle.cx_base.specs.declared.event.Event.{Event}
-use Rattle.cx_base.specs.declared.status.Status.{Status}
+use Rattle.cx_model.specs.Prelude.{◌≡◌, ◌<◌, ◌+◌, ◌++◌, ℕ, true, List, [], ◌∷◌, length, refl, Option, None, Some, option_to_list}
+use Rattle.cx_model.specs.Prelude.{if◌then◌else◌, IfSome, Appends, Consumes, IsAtEnd, strip_carriage_return, Cluster, Event, Status, Rises}
+use Rattle.cx_model.specs.Prelude.{World, run, run_from, start}
 use Rattle.cx_base.specs.declared.status.Status.TheVariants as status
-use Rattle.cx_base.specs.Faults.{Rises}
 use Rattle.cx_edge.specs.Lines.{LinesState, Hands, BeginsLong, IsOpenLine, GivesLine, GivesLast}
 use Rattle.cx_edge.specs.Sink.{AppendsPart}
-use Rattle.cx_model.specs.World.{World, run, run_from, start}
 use Rattle.cx_replay.specs.ReplayInput.{ReplayInput, Nothing, BadHeader, Lines}
 use Rattle.cx_replay.specs.Input.{bad_line, header_says, input_of, lines}
 use Rattle.cx_replay.specs.Replay.{summary, trace, trace_of, summary_of, text_of, Prints, PrintsLines, ComesOfReplay, Replayed}

@@ -1,10 +1,7 @@
 -- How a replay ends, by its status.
-use Rattle.std.proofs.Common.{◌≡◌, ℕ, List, Option, None, Some, refl, sym, ap, subst, inl, inr, arith}
-use Rattle.std.specs.Prelude.{IfSome}
-use Rattle.std.specs.Io.KnownBytes.{Appends, IsAtEnd}
-use Rattle.cx_base.specs.declared.status.Status.{Status}
+use Rattle.std.proofs.Common.{sym, ap, subst, inl, inr, arith}
+use Rattle.cx_model.specs.Prelude.{◌≡◌, ℕ, List, Option, None, Some, refl, IfSome, Appends, IsAtEnd, Status, Rises}
 use Rattle.cx_base.specs.declared.status.Status.TheVariants as status
-use Rattle.cx_base.specs.Faults.{Rises}
 use Rattle.cx_edge.specs.Sink.{AppendsPart}
 use Rattle.cx_replay.specs.Input.{bad_line, input_of}
 use Rattle.cx_replay.specs.Replay.{replay_status, trace_of, text_of, Prints, PrintsLines, ComesOfReplay, ReplayCompletes, Replayed}

@@ -1,7 +1,6 @@
 -- Generated events, one by one.
-use Rattle.std.proofs.Common.{◌≡◌, ℕ, zero, suc, ◌+◌, List, [], ◌∷◌, ◌++◌, length, refl, ap, ◌∙◌, add-one}
-use Rattle.cx_base.specs.declared.event.Event.{Event}
-use Rattle.cx_model.specs.World.{World, start, step, run, run_from}
+use Rattle.std.proofs.Common.{ap, ◌∙◌, add-one}
+use Rattle.cx_model.specs.Prelude.{◌≡◌, ℕ, zero, suc, ◌+◌, List, [], ◌∷◌, ◌++◌, length, refl, Event, World, start, step, run, run_from}
 use Rattle.cx_replay.specs.Generated.{gen_state, gen_events}
 use Rattle.cx_script.specs.Generator.{gen_cluster, next_event, next_state}
 

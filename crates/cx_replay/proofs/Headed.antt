@@ -1,12 +1,9 @@
 -- What a header says of the whole input, and how a replay ends in it.
-use Rattle.std.proofs.Common.{◌≡◌, ◌++◌, List, [], ℕ, Option, None, Some, refl, sym, ap, ◌∙◌, subst, append_assoc}
-use Rattle.std.specs.Prelude.{IfSome}
-use Rattle.std.specs.Io.KnownBytes.{Appends}
+use Rattle.std.proofs.Common.{sym, ap, ◌∙◌, subst, append_assoc}
 use Rattle.std.proofs.KnownBytes.{Appends-nil, Consumes-whole}
-use Rattle.cx_base.specs.declared.cluster.Cluster.{Cluster}
+use Rattle.cx_model.specs.Prelude.{◌≡◌, ◌++◌, List, [], ℕ, Option, None, Some, refl, IfSome, Appends, Cluster, start}
 use Rattle.cx_base.specs.declared.status.Status.TheVariants as status
 use Rattle.cx_cluster.specs.Reading.{header_cluster}
-use Rattle.cx_model.specs.World.{start}
 use Rattle.cx_replay.specs.ReplayInput.{BadHeader}
 use Rattle.cx_replay.specs.Input.{bad_line, behind, header_says, input_of}
 use Rattle.cx_replay.specs.Replay.{trace_of, Replayed}

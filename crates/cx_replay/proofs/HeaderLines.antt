@@ -1,13 +1,9 @@
 -- The lines of a header, one by one.
-use Rattle.std.proofs.Common.{◌==◌, ◌≡◌, ◌≤◌, ◌<◌, ◌+◌, ◌++◌, ℕ, Bool, true, false, List, [], ◌∷◌, length, map, refl, sym, ap, ◌∙◌, subst}
-use Rattle.std.proofs.Common.{append_assoc, append-nil, arith, nat_lt, nat_le, if◌then◌else◌, Option, None, Some, option_map}
-use Rattle.std.proofs.Common.{option_and_then, length-append}
-use Rattle.std.specs.Prelude.{IfSome}
-use Rattle.std.specs.Io.KnownBytes.{Consumes, IsAtEnd}
-use Rattle.std.specs.Str.Lines.{strip_carriage_return}
+use Rattle.std.specs.Io.KnownBytes.{IsAtEnd}
 use Rattle.std.proofs.KnownBytes.{Consumes-whole}
-use Rattle.std.proofs.lemmas.Bool.{cond_both}
-use Rattle.std.proofs.lemmas.Bool.Decides.{nat_tests}
+use Rattle.cx_base.proofs.Common.{◌==◌, ◌≡◌, ◌≤◌, ◌<◌, ◌+◌, ◌++◌, ℕ, Bool, true, false, List, [], ◌∷◌, length, map, refl, sym, ap, ◌∙◌}
+use Rattle.cx_base.proofs.Common.{subst, append_assoc, append-nil, arith, nat_lt, nat_le, if◌then◌else◌, Option, None, Some, option_map}
+use Rattle.cx_base.proofs.Common.{option_and_then, length-append, IfSome, Consumes, strip_carriage_return, cond_both, nat_tests}
 use Rattle.cx_edge.specs.Lines.{Hands, BeginsLong, IsOpenLine}
 use Rattle.cx_replay.specs.ReplayInput.{Nothing, BadHeader}
 use Rattle.cx_replay.specs.Input.{header_says, lines}

@@ -1,16 +1,9 @@
 -- The run of each input is lawful, since each run is, and its events are such as the world takes.
-use Rattle.std.proofs.Common.{◌≡◌, ◌∙◌, ℕ, zero, suc, Bool, true, false, List, [], ◌∷◌, Option, None, Some, Result, Ok, Err, ap, refl, sym}
-use Rattle.std.specs.Prelude.{length, if◌then◌else◌}
-use Rattle.std.specs.List.{list_all}
-use Rattle.std.proofs.lemmas.Bool.{and_parts}
-use Rattle.std.proofs.lemmas.List.Folds.{list_all-append}
-use Rattle.cx_base.specs.Asked.{is_valid_event}
-use Rattle.cx_base.specs.declared.cluster.Cluster.{Cluster}
-use Rattle.cx_base.specs.declared.event.Event.{Event}
+use Rattle.cx_base.proofs.Common.{◌∙◌, ap, sym, and_parts, list_all-append}
+use Rattle.cx_model.specs.Prelude.{◌≡◌, ℕ, zero, suc, Bool, true, false, List, [], ◌∷◌, Option, None, Some, Result, Ok, Err, refl, length}
+use Rattle.cx_model.specs.Prelude.{if◌then◌else◌, list_all, is_valid_event, Cluster, Event, Begins, run}
 use Rattle.cx_cluster.specs.declared.fault.ClusterFault.{ClusterFault}
 use Rattle.cx_cluster.specs.Reading.{header_cluster}
-use Rattle.cx_model.specs.Member.{Begins}
-use Rattle.cx_model.specs.World.{run}
 use Rattle.cx_promises.proofs.Lawful.{lawful}
 use Rattle.cx_replay.specs.Generated.{gen_events, gen_state}
 use Rattle.cx_replay.specs.Input.{behind, header_says, input_says}

@@ -1,6 +1,5 @@
 -- Numbers in rising order.
-use Rattle.std.proofs.Common.{◌≡◌, ℕ, suc, ◌+◌, ◌-◌, ◌<◌, ◌∷◌, refl, arith}
-use Rattle.cx_base.specs.Lists.{numbers}
+use Rattle.cx_base.proofs.Common.{◌≡◌, ℕ, suc, ◌+◌, ◌-◌, ◌<◌, ◌∷◌, refl, arith, numbers}
 
 -- the numbers from one on below a greater one are itself and those from the next on
 pub numbers_more : (first last : ℕ) → first < last → numbers first (last - first) ≡ first ∷ numbers (first + 1) (last - (first + 1))

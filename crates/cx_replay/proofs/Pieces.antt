@@ -1,18 +1,13 @@
 -- A text is written piece by piece.
-use Rattle.std.proofs.Common.{◌≡◌, ◌+◌, ◌<◌, ◌++◌, ◌∷◌, [], ℕ, List, length, drop, map, slice_get, Option, Some, Result, Ok, Err, IsOk}
-use Rattle.std.proofs.Common.{OnOk, inl, inr, refl, ap, sym, ◌∙◌, subst, append_assoc, append-nil, arith}
-use Rattle.std.specs.Io.KnownBytes.{Appends}
+use Rattle.std.proofs.Common.{IsOk, inl, inr, ap, sym, ◌∙◌, subst, append_assoc, append-nil, arith}
 use Rattle.std.proofs.KnownBytes.{Appends-nil, Appends-trans}
 use Rattle.std.proofs.lemmas.Bool.{false≢true}
 use Rattle.std.proofs.lemmas.List.{drop_more}
 use Rattle.std.proofs.lemmas.Option.{slice_get_cases}
-use Rattle.cx_base.specs.Lists.{below}
-use Rattle.cx_base.specs.declared.command.Value.{Value}
-use Rattle.cx_base.specs.declared.status.Status.{Status}
+use Rattle.cx_model.specs.Prelude.{◌≡◌, ◌+◌, ◌<◌, ◌++◌, ◌∷◌, [], ℕ, List, length, drop, map, slice_get, Option, Some, Result, Ok, Err, OnOk}
+use Rattle.cx_model.specs.Prelude.{refl, Appends, below, Value, Status, chosen_prefix, World}
 use Rattle.cx_base.specs.declared.status.Status.TheVariants as status
 use Rattle.cx_edge.specs.Sink.{AppendsPart}
-use Rattle.cx_model.specs.Chosen.{chosen_prefix}
-use Rattle.cx_model.specs.World.{World}
 use Rattle.cx_replay.specs.Replay.{summary}
 use Rattle.cx_replay.specs.Streamed.{StopsWriting, Sums, WritesText}
 use Rattle.cx_replay.proofs.Texts.{part_of_more, then_part}

@@ -1,7 +1,6 @@
 -- The lines of datagrams one by one.
-use Rattle.std.proofs.Common.{◌≡◌, ◌≤◌, ◌<◌, ◌+◌, ◌∙◌, ℕ, zero, suc, List, [], ◌∷◌, ◌++◌, length, length-take, take, drop, refl, ap, arith}
-use Rattle.std.specs.List.{slice_get}
-use Rattle.std.proofs.lemmas.List.{take-append-le}
+use Rattle.cx_base.proofs.Common.{◌≡◌, ◌≤◌, ◌<◌, ◌+◌, ◌∙◌, ℕ, zero, suc, List, [], ◌∷◌, ◌++◌, length, length-take, take, drop, refl, ap}
+use Rattle.cx_base.proofs.Common.{arith, slice_get, take-append-le}
 use Rattle.cx_letter.specs.Letter.{Letter}
 use Rattle.cx_trace.specs.Trace.{datagrams_text}
 use Rattle.cx_replay.specs.Sending.{sent_line_text}

@@ -1,14 +1,9 @@
 -- The text of a run is written in parts.
-use Rattle.std.proofs.Common.{◌≡◌, ◌+◌, ◌++◌, ℕ, List, [], ◌∷◌, length, take, take_all, Option, refl, sym, ap, ◌∙◌, subst, inl, inr, arith}
-use Rattle.std.proofs.Common.{append_assoc}
-use Rattle.std.specs.Io.KnownBytes.{Appends}
-use Rattle.std.proofs.KnownBytes.{Appends-nil, Appends-trans}
-use Rattle.std.proofs.lemmas.Bool.{cases_lt}
-use Rattle.std.proofs.lemmas.List.{take-append-le}
-use Rattle.std.proofs.Math.Seq.{take-append-add, take-append_seam}
-use Rattle.cx_base.specs.declared.event.Event.{Event}
+use Rattle.std.proofs.KnownBytes.{Appends-nil}
+use Rattle.cx_base.proofs.Common.{◌≡◌, ◌+◌, ◌++◌, ℕ, List, [], ◌∷◌, length, take, take_all, Option, refl, sym, ap, ◌∙◌, subst, inl, inr}
+use Rattle.cx_base.proofs.Common.{arith, append_assoc, Appends, Appends-trans, cases_lt, take-append-le, take-append-add, take-append_seam}
+use Rattle.cx_model.specs.Prelude.{Event, World, step, run_from}
 use Rattle.cx_edge.specs.Sink.{AppendsPart}
-use Rattle.cx_model.specs.World.{World, step, run_from}
 use Rattle.cx_replay.specs.Replay.{step_text, trace}
 
 pub trace_append : (w : World) (es more : List Event) → trace w (es ++ more) ≡ trace w es ++ trace (run_from w es) more

@@ -1,11 +1,7 @@
 -- Whole lines as text, what comes after them, and what counts of both.
-use Rattle.std.proofs.Common.{◌==◌, ◌≡◌, ◌≤◌, ◌<◌, ◌++◌, ℕ, Bool, true, false, List, [], ◌∷◌, length, refl, sym, ap, ◌∙◌, subst}
-use Rattle.std.proofs.Common.{append_assoc, append-nil, arith, nat_lt, if◌then◌else◌, Option, None, Some, length-append}
-use Rattle.std.specs.Prelude.{IfSome}
-use Rattle.std.specs.Io.KnownBytes.{Consumes}
-use Rattle.std.specs.Str.Lines.{strip_carriage_return}
-use Rattle.std.proofs.KnownBytes.{Consumes-trans}
-use Rattle.std.proofs.lemmas.Bool.Decides.{nat_tests}
+use Rattle.cx_base.proofs.Common.{◌==◌, ◌≡◌, ◌≤◌, ◌<◌, ◌++◌, ℕ, Bool, true, false, List, [], ◌∷◌, length, refl, sym, ap, ◌∙◌, subst}
+use Rattle.cx_base.proofs.Common.{append_assoc, append-nil, arith, nat_lt, if◌then◌else◌, Option, None, Some, length-append, IfSome}
+use Rattle.cx_base.proofs.Common.{Consumes, strip_carriage_return, Consumes-trans, nat_tests}
 use Rattle.cx_edge.specs.Lines.{Hands}
 use Rattle.cx_script.specs.Lines.{lines_of}
 use Rattle.cx_script.specs.Unended.{last_part, but_last, lines_text, unended, whole_lines, settled_text}

@@ -1,14 +1,9 @@
 -- Generated runs: their events, and the short summary of a run.
 use Rattle.std.specs.Prelude.{◌≡◌, ◌⊎◌, ℕ, zero, suc, List, [], ◌∷◌, ◌++◌, map, length, codes, decimal, Option}
-use Rattle.std.specs.Io.KnownBytes.{Keeps, Appends}
-use Rattle.cx_base.specs.declared.event.Event.{Event}
-use Rattle.cx_base.specs.declared.status.Status.{Status}
+use Rattle.std.specs.Io.KnownBytes.{Keeps}
+use Rattle.cx_model.specs.Prelude.{Appends, Event, Status, Rises, below, chosen_prefix, World, run}
 use Rattle.cx_base.specs.declared.status.Status.TheVariants as status
-use Rattle.cx_base.specs.Faults.{Rises}
-use Rattle.cx_base.specs.Lists.{below}
 use Rattle.cx_edge.specs.Sink.{AppendsPart}
-use Rattle.cx_model.specs.Chosen.{chosen_prefix}
-use Rattle.cx_model.specs.World.{World, run}
 use Rattle.cx_script.specs.Generator.{GeneratorState, gen_cluster, next_event, next_state}
 use Rattle.cx_trace.specs.Summary.{replicas_text}
 use Rattle.cx_history.specs.Answers.{answers_in, read_answers_in}

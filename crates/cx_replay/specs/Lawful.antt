@@ -1,11 +1,6 @@
 -- What is promised of the run of an input, however far it was run.
 use Rattle.std.specs.Prelude.{◌≡◌, ℕ, List, Bool, true, Option}
-use Rattle.std.specs.List.{list_all}
-use Rattle.std.specs.Io.KnownBytes.{Consumes}
-use Rattle.cx_base.specs.Asked.{is_valid_event}
-use Rattle.cx_base.specs.declared.cluster.Cluster.{Cluster}
-use Rattle.cx_base.specs.declared.event.Event.{Event}
-use Rattle.cx_model.specs.Member.{Begins}
+use Rattle.cx_model.specs.Prelude.{list_all, Consumes, is_valid_event, Cluster, Event, Begins}
 use Rattle.cx_promises.specs.Lawful.{IsLawful}
 use Rattle.cx_replay.specs.Generated.{gen_events}
 use Rattle.cx_replay.specs.Input.{input_says}

@@ -1,14 +1,8 @@
 -- The text of a run, and what a replay may come to.
 use Rattle.std.specs.Prelude.{◌≡◌, ◌⊎◌, ℕ, Bool, true, false, List, [], ◌∷◌, ◌++◌, map, length, Option, None, Some, is_none, IfSome}
-use Rattle.std.specs.Io.KnownBytes.{Appends, Consumes, IsAtEnd}
-use Rattle.cx_base.specs.declared.event.Event.{Event}
-use Rattle.cx_base.specs.declared.status.Status.{Status}
+use Rattle.cx_model.specs.Prelude.{Appends, Consumes, IsAtEnd, Event, Status, Rises, below, chosen_prefix, World, change, step, run, start}
 use Rattle.cx_base.specs.declared.status.Status.TheVariants as status
-use Rattle.cx_base.specs.Faults.{Rises}
-use Rattle.cx_base.specs.Lists.{below}
 use Rattle.cx_edge.specs.Sink.{AppendsPart}
-use Rattle.cx_model.specs.Chosen.{chosen_prefix}
-use Rattle.cx_model.specs.World.{World, change, step, run, start}
 use Rattle.cx_replay.specs.Input.{bad_line, input_of, lines}
 use Rattle.cx_replay.specs.ReplayInput.{ReplayInput, Nothing, BadHeader, Lines}
 use Rattle.cx_trace.specs.Trace.{event_text, datagrams_text}

@@ -1,15 +1,10 @@
 -- What was read of an input so far, line by line, and what of it was written.
 use Rattle.std.specs.Prelude.{◌≡◌, ◌≤◌, ◌<◌, ◌+◌, ℕ, Bool, false, true, List, [], ◌∷◌, ◌++◌, length, Option, None, Some, option_to_list}
 use Rattle.std.specs.Prelude.{IfSome, Result, Ok, Err}
-use Rattle.std.specs.Io.KnownBytes.{Appends, Consumes, IsAtEnd}
-use Rattle.cx_base.specs.declared.cluster.Cluster.{Cluster}
-use Rattle.cx_base.specs.declared.event.Event.{Event}
-use Rattle.cx_base.specs.declared.status.Status.{Status}
+use Rattle.cx_model.specs.Prelude.{Appends, Consumes, IsAtEnd, Cluster, Event, Status, Rises, World, run, run_from, start}
 use Rattle.cx_base.specs.declared.status.Status.TheVariants as status
-use Rattle.cx_base.specs.Faults.{Rises}
 use Rattle.cx_cluster.specs.declared.fault.ClusterFault.{ClusterFault}
 use Rattle.cx_edge.specs.Sink.{AppendsPart}
-use Rattle.cx_model.specs.World.{World, run, run_from, start}
 use Rattle.cx_replay.specs.ReplayInput.{Nothing, Lines}
 use Rattle.cx_replay.specs.Input.{input_of, lines}
 use Rattle.cx_replay.specs.Replay.{summary, text_of, trace, ComesOfReplay, Replayed}

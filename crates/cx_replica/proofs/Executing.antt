@@ -1,25 +1,15 @@
 -- What a command is answered, and that its answer fits.
-use Rattle.std.proofs.Common.{◌≡◌, ℕ, ◌+◌, ◌<◌, ◌≤◌, ◌^◌, Bool, true, false, not, ◌&&◌, List, [], ◌∷◌, ◌++◌, length}
-use Rattle.std.proofs.Common.{Option, None, Some, ap, ◌∙◌, refl, arith}
-use Rattle.std.specs.Prelude.{nat_lt, if◌then◌else◌}
-use Rattle.std.proofs.lemmas.Bool.{and_parts}
-use Rattle.std.proofs.lemmas.Bool.Decides.{nat_tests}
-use Rattle.std.proofs.lemmas.List.{length-append}
-use Rattle.std.proofs.lemmas.List.Folds.{list_all-append}
-use Rattle.cx_base.specs.declared.command.Answered.{Answered}
-use Rattle.cx_base.specs.declared.command.Command.{Command}
-use Rattle.cx_base.specs.declared.command.Op.{Op}
-use Rattle.cx_base.specs.declared.command.Op.TheVariants.{Put, Del, App}
-use Rattle.cx_base.specs.declared.command.Pair.{Pair}
-use Rattle.cx_base.specs.declared.command.Reply.{Reply}
-use Rattle.cx_base.specs.declared.command.Reply.TheVariants.{Len, Full}
-use Rattle.cx_base.specs.Fold.{reply_of, reply_removed, reply_appended, text_at}
-use Rattle.cx_base.specs.Noted.{Table, floor_of, is_done, is_answer_done, noted_for, with_answer, with_note, with_told}
-use Rattle.cx_wire.specs.Format.{u8, u16, u64}
-use Rattle.cx_field.specs.Fields.{at, slot, seq, name, command, command_with, floor_below, told_floor, told_op, reply}
-use Rattle.cx_field.specs.Fields.{answered}
+use Rattle.cx_letter.specs.Prelude.{Op, Put, Del, App, Reply, Len, reply_of, text_at, is_done, is_answer_done, noted_for, with_answer}
+use Rattle.cx_letter.specs.Prelude.{with_note, with_told, u16, seq, reply}
+use Rattle.cx_role.proofs.Common.{◌≡◌, ℕ, ◌+◌, ◌<◌, ◌≤◌, ◌^◌, Bool, true, false, not, ◌&&◌, List, [], ◌∷◌, ◌++◌, length, Option, None, Some}
+use Rattle.cx_role.proofs.Common.{ap, ◌∙◌, refl, arith, nat_lt, if◌then◌else◌, and_parts, nat_tests, length-append, list_all-append}
+use Rattle.cx_role.proofs.Common.{Answered, Command, Pair, Table, floor_of, Machine, execute, execute_all}
+use Rattle.cx_base.specs.declared.command.Reply.TheVariants.{Full}
+use Rattle.cx_base.specs.Fold.{reply_removed, reply_appended}
+use Rattle.cx_wire.specs.Format.{u8, u64}
+use Rattle.cx_field.specs.Fields.{at, slot, name, command, command_with, floor_below, told_floor, told_op, answered}
 use Rattle.cx_field.specs.Ranges.{is_text_len}
-use Rattle.cx_model.specs.Replica.{Machine, execute, execute_all, execute_noted, not_acting}
+use Rattle.cx_model.specs.Replica.{execute_noted, not_acting}
 use Rattle.cx_replica.specs.Sound.{are_answers}
 use Rattle.cx_table.specs.Judged.{judge_noted, judge_of}
 use Rattle.cx_table.specs.declared.judge.Judge.TheVariants as judge

@@ -1,12 +1,8 @@
 -- What a replica reports to each leader.
-use Rattle.std.proofs.Common.{◌≡◌, ℕ, suc, ◌+◌, ◌-◌, ◌<◌, List, [], ◌∷◌, ◌++◌, map, append_assoc, arith, refl}
-use Rattle.cx_base.specs.Lists.{numbers}
-use Rattle.cx_base.specs.Role.{role}
-use Rattle.cx_base.specs.declared.role.Kind.TheVariants.{Leader, Replica}
-use Rattle.cx_base.specs.declared.role.RoleId.{RoleId}
-use Rattle.cx_letter.specs.Letter.{Letter, letter}
+use Rattle.std.proofs.Common.{append_assoc, arith}
+use Rattle.cx_role.specs.Prelude.{◌≡◌, ℕ, suc, ◌+◌, ◌-◌, ◌<◌, List, [], ◌∷◌, ◌++◌, map, refl, numbers, role, Leader, Replica, RoleId}
+use Rattle.cx_role.specs.Prelude.{Letter, letter, held_to}
 use Rattle.cx_letter.specs.declared.message.Msg.TheVariants as msg
-use Rattle.cx_model.specs.Replica.{held_to}
 
 numbers_step : (i n : ℕ) → i < n → numbers i (n - i) ≡ i ∷ numbers (i + 1) (n - (i + 1))
 numbers_step i n below = let e : n - i ≡ suc (n - (i + 1)) = omega arith in rw e refl

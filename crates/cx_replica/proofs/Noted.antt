@@ -1,29 +1,18 @@
 -- What the client table of values of a cluster has, after more values.
-use Rattle.std.proofs.Common.{◌≡◌, ◌⊎◌, ℕ, ◌+◌, ◌≤◌, Bool, true, false, not, ◌&&◌, ◌||◌, List, [], ◌∷◌, ◌++◌, length, map, inl, inr, sym}
-use Rattle.std.proofs.Common.{subst, ◌∙◌, refl, arith}
-use Rattle.std.specs.Prelude.{◌==◌, nat_le, nat_lt, if◌then◌else◌, Option, None, Some}
-use Rattle.std.specs.List.{list_all, list_any}
-use Rattle.std.proofs.lemmas.Bool.{and_from, and_parts, both_ways, cases_Bool, eqb-true}
-use Rattle.std.proofs.lemmas.Bool.Decides.{nat_tests}
-use Rattle.cx_base.specs.declared.cluster.Cluster.{Cluster}
-use Rattle.cx_base.specs.declared.command.Answered.{Answered}
-use Rattle.cx_base.specs.declared.command.Command.{Command}
-use Rattle.cx_base.specs.declared.command.Floor.{Floor}
-use Rattle.cx_base.specs.declared.command.Note.{Note}
-use Rattle.cx_base.specs.declared.command.Value.{Value}
-use Rattle.cx_base.specs.Lists.{rises}
-use Rattle.std.proofs.lemmas.List.Folds.{list_all-append}
+use Rattle.cx_base.proofs.Common.{both_ways, comes_before, is_answer_of, is_done, is_answer_done, noted_for, still_noted, with_floor}
+use Rattle.cx_base.proofs.Common.{with_note, with_told}
+use Rattle.cx_role.proofs.Common.{◌≡◌, ◌⊎◌, ℕ, ◌+◌, ◌≤◌, Bool, true, false, not, ◌&&◌, ◌||◌, List, [], ◌∷◌, ◌++◌, length, map, inl, inr}
+use Rattle.cx_role.proofs.Common.{sym, subst, ◌∙◌, refl, arith, ◌==◌, nat_le, nat_lt, if◌then◌else◌, Option, None, Some, list_all, list_any}
+use Rattle.cx_role.proofs.Common.{and_from, and_parts, cases_Bool, eqb-true, nat_tests, Cluster, Answered, Command, Floor, Note, Value}
+use Rattle.cx_role.proofs.Common.{rises, list_all-append, floor_fits, Table, are_rising, floor_of, names_value, IsOrdered, Machine}
+use Rattle.cx_role.proofs.Common.{are_client_notes, execute, execute_all, machine_from, value}
 use Rattle.cx_replica.proofs.Rises.{rises_below}
 use Rattle.cx_base.specs.declared.command.Value.TheVariants.{Noop, Batch}
-use Rattle.cx_base.specs.Asked.{floor_fits}
-use Rattle.cx_base.specs.Noted.{Table, are_rising, comes_before, floor_of, is_answer_of, is_done, is_answer_done, noted_for, still_noted}
-use Rattle.cx_base.specs.Noted.{with_floor, with_note, with_told}
-use Rattle.cx_model.specs.Names.{names_command, names_value}
+use Rattle.cx_model.specs.Names.{names_command}
 use Rattle.cx_model.specs.Ordered.{answer_ordered, told_ordered}
-use Rattle.cx_model.specs.Renewed.{IsOrdered, fits_told, is_above_client_floor, is_near, is_over}
-use Rattle.cx_model.specs.Replica.{Machine, answer_of, are_client_notes, with_client, execute, execute_all, execute_noted, execute_value}
-use Rattle.cx_model.specs.Replica.{machine_from}
-use Rattle.cx_field.specs.Fields.{command, value}
+use Rattle.cx_model.specs.Renewed.{fits_told, is_above_client_floor, is_near, is_over}
+use Rattle.cx_model.specs.Replica.{answer_of, with_client, execute_noted, execute_value}
+use Rattle.cx_field.specs.Fields.{command}
 use Rattle.cx_table.specs.Entries.{max_floor}
 use Rattle.cx_table.proofs.Rising.{all_with}
 use Rattle.cx_table.proofs.Telling.{floor_told}

@@ -1,13 +1,7 @@
 -- How far commands have been executed.
-use Rattle.std.proofs.Common.{◌≡◌, ℕ, ◌+◌, ◌<◌, ◌≤◌, List, ◌++◌, length, drop, get_or, append_assoc, arith, IsTrue}
-use Rattle.cx_base.specs.declared.command.Answered.{Answered}
-use Rattle.cx_base.specs.declared.command.Command.{Command}
-use Rattle.cx_base.specs.declared.cluster.Cluster.{Cluster}
-use Rattle.cx_base.specs.declared.command.Value.{Value}
-use Rattle.cx_base.specs.declared.role.RoleId.{RoleId}
-use Rattle.cx_base.specs.Fold.{command_list, commands_of}
-use Rattle.cx_letter.specs.Letter.{Letter}
-use Rattle.cx_model.specs.Replica.{Machine, execute, execute_all, execute_value, machine_from, results_at, results_from}
+use Rattle.cx_role.proofs.Common.{◌≡◌, ℕ, ◌+◌, ◌<◌, ◌≤◌, List, ◌++◌, length, drop, get_or, append_assoc, arith, IsTrue, Answered, Command}
+use Rattle.cx_role.proofs.Common.{Cluster, Value, RoleId, command_list, commands_of, Letter, Machine, execute, execute_all, machine_from}
+use Rattle.cx_model.specs.Replica.{execute_value, results_at, results_from}
 use Rattle.cx_replica.specs.Room.{HasRoom, LeavesRoom, MachineState}
 use Rattle.cx_replica.specs.Sound.{are_answers}
 use Rattle.cx_replica.proofs.Roomy.{next_one}

@@ -1,15 +1,9 @@
 -- What is sent once values are executed, and the state then.
-use Rattle.std.proofs.Common.{◌≡◌, ℕ, ◌+◌, Bool, true, List, [], ◌++◌, length, length-append, ap, ◌∙◌, arith}
-use Rattle.cx_base.specs.declared.cluster.Cluster.{Cluster}
-use Rattle.cx_base.specs.declared.command.Placed.{Placed}
-use Rattle.cx_base.specs.declared.command.Value.{Value}
-use Rattle.cx_base.specs.declared.role.RoleId.{RoleId}
-use Rattle.cx_base.specs.Log.{ready_values, still_early}
-use Rattle.cx_letter.specs.Letter.{Letter}
-use Rattle.cx_model.specs.declared.states.Deferred.{Deferred}
-use Rattle.cx_model.specs.Replica.{Machine, machine_from, read_answers, replica_rules, results_from}
-use Rattle.cx_model.specs.Replica.{still_deferred}
-use Rattle.cx_model.specs.Rules.{running_after}
+use Rattle.cx_role.proofs.Common.{◌≡◌, ℕ, ◌+◌, Bool, true, List, [], ◌++◌, length, length-append, ap, ◌∙◌, arith, Cluster, Placed, Value}
+use Rattle.cx_role.proofs.Common.{RoleId, ready_values, Letter, Deferred, Machine, machine_from, replica_rules, still_deferred}
+use Rattle.cx_role.proofs.Common.{running_after}
+use Rattle.cx_base.specs.Log.{still_early}
+use Rattle.cx_model.specs.Replica.{read_answers, results_from}
 use Rattle.cx_replica.specs.Answering.{answers_at}
 use Rattle.cx_replica.specs.Rows.{applied_in, replica_view}
 use Rattle.cx_replica.specs.declared.wanted.Wanted.{Wanted}

@@ -1,21 +1,11 @@
 -- A replica opens from its own renewed list.
-use Rattle.std.proofs.Common.{◌≡◌, ℕ, zero, suc, ◌-◌, ◌≤◌, Bool, true, List, [], ◌∷◌, drop, length-drop, None, Some, refl, ap, sym, subst}
-use Rattle.std.proofs.Common.{◌∙◌, arith}
-use Rattle.std.proofs.lemmas.Bool.{and_parts}
-use Rattle.cx_base.specs.declared.cluster.Cluster.{Cluster}
-use Rattle.cx_base.specs.declared.role.RoleId.{RoleId}
-use Rattle.cx_base.specs.Lists.{rises}
+use Rattle.cx_role.proofs.Common.{◌≡◌, ℕ, zero, suc, ◌-◌, ◌≤◌, Bool, true, List, [], ◌∷◌, drop, length-drop, None, Some, refl, ap, sym}
+use Rattle.cx_role.proofs.Common.{subst, ◌∙◌, arith, and_parts, Cluster, RoleId, rises, Deferred, Machine, replica_renewed, replica_rules}
+use Rattle.cx_role.proofs.Common.{Running, refused, Value, IsOrdered, ReplicaDurable, ReplicaVolatile, snapped_by}
 use Rattle.cx_kv.specs.Rising.{has_lower_key}
-use Rattle.cx_model.specs.declared.states.Deferred.{Deferred}
 use Rattle.cx_model.specs.RenewedLaws.{renewed_fits, renewed_folds}
-use Rattle.cx_model.specs.Replica.{Machine, replica_renewed, replica_rules}
-use Rattle.cx_model.specs.Rules.{Running, refused}
-use Rattle.cx_base.specs.declared.command.Value.{Value}
-use Rattle.cx_model.specs.Renewed.{IsOrdered}
-use Rattle.cx_model.specs.Replica.{ReplicaDurable, ReplicaVolatile}
 use Rattle.cx_replica.specs.Rows.{replica_durable, replica_view}
 use Rattle.cx_replica.specs.Sound.{IsSound, are_own, is_cluster_value}
-use Rattle.cx_role.specs.Snap.{snapped_by}
 use Rattle.cx_replica.specs.declared.wanted.Wanted.{Wanted}
 use Rattle.cx_replica.proofs.Rows.{both_parts}
 use Rattle.cx_rlog.specs.State.{LogState, from_slot, held}

@@ -1,17 +1,7 @@
 -- Lists that rise, seen by each value and the one before it.
-use Rattle.std.proofs.Common.{◌≡◌, ◌⊎◌, ℕ, zero, suc, ◌+◌, ◌≤◌, Bool, true, false, ◌&&◌, List, [], ◌∷◌, ◌++◌, inl, inr, ap, sym, ◌∙◌, refl}
-use Rattle.std.proofs.Common.{arith, length, get_or}
-use Rattle.std.specs.Prelude.{◌==◌, nat_le, nat_lt, None, is_some}
-use Rattle.std.specs.List.{list_all}
-use Rattle.std.proofs.lemmas.Bool.{and_from, and_parts, cases_Bool}
-use Rattle.std.proofs.lemmas.Bool.Decides.{nat_tests}
-use Rattle.cx_base.specs.Asked.{floor_fits}
-use Rattle.cx_model.specs.Replica.{are_client_notes}
-use Rattle.cx_base.specs.declared.command.Floor.{Floor}
-use Rattle.cx_base.specs.declared.command.Note.{Note}
-use Rattle.cx_base.specs.declared.command.Pair.{Pair}
-use Rattle.cx_base.specs.Lists.{rises}
-use Rattle.cx_base.specs.Noted.{are_rising, floor_of}
+use Rattle.cx_role.proofs.Common.{◌≡◌, ◌⊎◌, ℕ, zero, suc, ◌+◌, ◌≤◌, Bool, true, false, ◌&&◌, List, [], ◌∷◌, ◌++◌, inl, inr, ap, sym, ◌∙◌}
+use Rattle.cx_role.proofs.Common.{refl, arith, length, get_or, ◌==◌, nat_le, nat_lt, None, is_some, list_all, and_from, and_parts}
+use Rattle.cx_role.proofs.Common.{cases_Bool, nat_tests, floor_fits, are_client_notes, Floor, Note, Pair, rises, are_rising, floor_of}
 use Rattle.cx_kv.specs.Rising.{has_lower_key}
 use Rattle.cx_kv.proofs.Keys.{is_less-trans}
 use Rattle.cx_table.specs.Entries.{has_lower}

@@ -1,13 +1,8 @@
 -- Room for commands, of which some are executed.
-use Rattle.std.proofs.Common.{◌≡◌, ◌⊎◌, ℕ, suc, ◌+◌, ◌*◌, ◌<◌, ◌≤◌, Bool, true, false, List, [], ◌∷◌, ◌++◌, length}
-use Rattle.std.proofs.Common.{inl, inr, ap, sym, subst, ◌∙◌, refl, arith, append-nil, add-one, drop, drop-cons, get_or}
-use Rattle.std.proofs.Common.{take}
-use Rattle.std.specs.Prelude.{◌==◌, if◌then◌else◌}
-use Rattle.std.proofs.lemmas.Bool.{cases_Bool, eqb-true}
-use Rattle.std.proofs.lemmas.List.{append_assoc, length-append, take_more}
-use Rattle.cx_base.specs.Fold.{command_list, commands_of}
-use Rattle.cx_base.specs.declared.command.Command.{Command}
-use Rattle.cx_base.specs.declared.command.Value.{Value}
+use Rattle.std.proofs.Common.{add-one, drop-cons}
+use Rattle.cx_role.proofs.Common.{◌≡◌, ◌⊎◌, ℕ, suc, ◌+◌, ◌*◌, ◌<◌, ◌≤◌, Bool, true, false, List, [], ◌∷◌, ◌++◌, length, inl, inr, ap, sym}
+use Rattle.cx_role.proofs.Common.{subst, ◌∙◌, refl, arith, append-nil, drop, get_or, take, ◌==◌, if◌then◌else◌, cases_Bool, eqb-true}
+use Rattle.cx_role.proofs.Common.{append_assoc, length-append, take_more, command_list, commands_of, Command, Value}
 use Rattle.cx_table.specs.State.{KeepsRoom, Room, room_for}
 use Rattle.cx_replica.specs.Room.{HasRoom, IsRoomFor, MachineState, command_count_of}
 

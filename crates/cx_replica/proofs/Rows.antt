@@ -1,35 +1,18 @@
 -- What is so of the values that are ready, and of a replica after them.
-use Rattle.std.proofs.Common.{◌≡◌, ℕ, zero, suc, ◌+◌, ◌-◌, ◌<◌, ◌≤◌, ◌^◌, ◌==◌, ◌&&◌, Bool, true, false, List, [], ◌∷◌}
-use Rattle.std.proofs.Common.{◌++◌}
-use Rattle.std.proofs.Common.{length, Option, None, Some, refl, ap, sym, ◌∙◌, subst, inl, inr, arith}
-use Rattle.std.specs.Prelude.{nat_lt, nat_le, min}
-use Rattle.std.specs.List.{list_all, slice_get}
-use Rattle.std.proofs.lemmas.Bool.{and_from, and_parts, cases_Bool, eqb-true}
-use Rattle.std.proofs.lemmas.Bool.Decides.{nat_tests}
 use Rattle.std.proofs.Math.Bool.{and-false}
-use Rattle.std.proofs.lemmas.List.{length-append}
-use Rattle.std.proofs.lemmas.List.Folds.{list_all-append}
 use Rattle.std.proofs.lemmas.List.Sums.{count_by-le-length, length-filter}
-use Rattle.std.proofs.lemmas.Option.{same_Some}
-use Rattle.cx_base.specs.declared.cluster.Cluster.{Cluster}
-use Rattle.cx_base.specs.declared.command.Placed.{Placed}
-use Rattle.cx_base.specs.declared.command.Value.{Value}
-use Rattle.cx_base.specs.declared.role.RoleId.{RoleId}
-use Rattle.cx_base.specs.Log.{value_for, before_following, following, ready_values, still_early}
-use Rattle.cx_base.specs.declared.command.Note.{Note}
+use Rattle.cx_role.proofs.Common.{◌≡◌, ℕ, zero, suc, ◌+◌, ◌-◌, ◌<◌, ◌≤◌, ◌^◌, ◌==◌, ◌&&◌, Bool, true, false, List, [], ◌∷◌, ◌++◌, length}
+use Rattle.cx_role.proofs.Common.{Option, None, Some, refl, ap, sym, ◌∙◌, subst, inl, inr, arith, nat_lt, nat_le, min, list_all, slice_get}
+use Rattle.cx_role.proofs.Common.{and_from, and_parts, cases_Bool, eqb-true, nat_tests, length-append, list_all-append, same_Some, Cluster}
+use Rattle.cx_role.proofs.Common.{Placed, Value, RoleId, ready_values, Note, IsOrdered, value, Deferred, names_value, Outcome, by_test}
+use Rattle.cx_role.proofs.Common.{Machine, ReplicaDurable, ReplicaVolatile, are_client_notes, machine_from, are_rising, replica_rules}
+use Rattle.cx_role.proofs.Common.{still_deferred, Running, MayKeep}
+use Rattle.cx_base.specs.Log.{value_for, before_following, following, still_early}
 use Rattle.cx_wire.specs.Format.{u8, u32, u64}
-use Rattle.cx_model.specs.Renewed.{IsOrdered}
-use Rattle.cx_field.specs.Fields.{mark, value, token}
+use Rattle.cx_field.specs.Fields.{mark, token}
 use Rattle.cx_letter.specs.Records.{kept_record, fits as record_fits}
 use Rattle.cx_letter.specs.declared.kept.Record.TheVariants as kept
-use Rattle.cx_model.specs.declared.states.Deferred.{Deferred}
-use Rattle.cx_model.specs.Names.{names_value}
-use Rattle.cx_model.specs.Outcome.{Outcome, by_test}
-use Rattle.cx_model.specs.Replica.{Machine, ReplicaDurable, ReplicaVolatile, are_client_notes, held as held_of, is_renewal_whole}
-use Rattle.cx_model.specs.Replica.{machine_from, with_client}
-use Rattle.cx_base.specs.Noted.{are_rising}
-use Rattle.cx_model.specs.Replica.{replica_rules, replica_fits, still_deferred}
-use Rattle.cx_model.specs.Rules.{Running}
+use Rattle.cx_model.specs.Replica.{held as held_of, is_renewal_whole, with_client, replica_fits}
 use Rattle.cx_field.proofs.Rising.{list_all-filter}
 use Rattle.cx_replica.specs.Rows.{chosen_row_in}
 use Rattle.cx_replica.specs.Sound.{is_cluster_value, are_own, are_own_early, are_notes, are_reads, are_values, IsTableOfCluster, IsSound}
@@ -38,7 +21,6 @@ use Rattle.cx_replica.specs.declared.wanted.Wanted.{Wanted}
 use Rattle.cx_replica.proofs.Noted.{values_noted}
 use Rattle.cx_rlog.specs.State.{LogState, held}
 use Rattle.cx_rlog.proofs.Following.{still_early-filter}
-use Rattle.cx_role.specs.Role.{MayKeep}
 use Rattle.cx_rlog.specs.Taken.{taken_at}
 use Rattle.cx_rlog.specs.declared.taken.Taken.TheVariants as taken
 

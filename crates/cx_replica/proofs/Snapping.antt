@@ -1,30 +1,16 @@
 -- A renewed list, record by record.
-use Rattle.std.proofs.Common.{◌≡◌, ◌⊎◌, ℕ, zero, suc, ◌+◌, ◌-◌, ◌<◌, ◌≤◌, ◌^◌, Bool, true, false, ◌&&◌, List, [], ◌∷◌, ◌++◌, length, map}
-use Rattle.std.proofs.Common.{filter, take, drop, inl, inr, ap, sym, subst, ◌∙◌, refl, arith, length-drop, append_assoc, append-nil}
-use Rattle.std.proofs.Common.{take-append-drop}
-use Rattle.std.specs.Prelude.{◌==◌, if◌then◌else◌, nat_le, nat_lt, min, Option, None, Some, slice_get, slice_index_or}
-use Rattle.std.specs.List.{list_all, list_any}
 use Rattle.std.proofs.Math.ListN.{drop_of_length-le}
-use Rattle.std.proofs.lemmas.Bool.{and_from, and_parts, cases_Bool, eqb-true}
-use Rattle.std.proofs.lemmas.Bool.Decides.{nat_tests}
-use Rattle.std.proofs.lemmas.List.{drop-drop, get_or-drop, length-map, length-take, take_all, take_more}
-use Rattle.std.proofs.lemmas.List.Folds.{list_all-append}
-use Rattle.std.proofs.lemmas.Option.{get_or_from_slice_get, slice_get_within}
-use Rattle.cx_base.specs.declared.cluster.Cluster.{Cluster}
-use Rattle.cx_base.specs.declared.command.Answered.{Answered}
-use Rattle.cx_base.specs.declared.command.Floor.{Floor}
-use Rattle.cx_base.specs.declared.command.Note.{Note}
-use Rattle.cx_base.specs.declared.command.Pair.{Pair}
-use Rattle.cx_base.specs.declared.command.Value.{Value}
-use Rattle.cx_base.specs.Asked.{floor_fits}
-use Rattle.cx_base.specs.Lists.{rises}
-use Rattle.cx_base.specs.Noted.{Table, are_rising, comes_before, floor_of}
-use Rattle.cx_field.specs.Fields.{answered, mark, note, notes, pair, pairs, value}
-use Rattle.cx_keep.specs.Keeper.{all_fit}
-use Rattle.cx_model.specs.Names.{names_value}
-use Rattle.cx_model.specs.Renewed.{IsOrdered, all_left, is_near, rises_left}
-use Rattle.cx_model.specs.Replica.{note_of, pieces, pieces_of}
-use Rattle.cx_letter.specs.declared.kept.Record.{Record}
+use Rattle.std.proofs.lemmas.Option.{get_or_from_slice_get}
+use Rattle.cx_base.proofs.Common.{take-append-drop, drop-drop, get_or-drop, length-take, comes_before}
+use Rattle.cx_role.proofs.Common.{◌≡◌, ◌⊎◌, ℕ, zero, suc, ◌+◌, ◌-◌, ◌<◌, ◌≤◌, ◌^◌, Bool, true, false, ◌&&◌, List, [], ◌∷◌, ◌++◌, length}
+use Rattle.cx_role.proofs.Common.{map, filter, take, drop, inl, inr, ap, sym, subst, ◌∙◌, refl, arith, length-drop, append_assoc}
+use Rattle.cx_role.proofs.Common.{append-nil, ◌==◌, if◌then◌else◌, nat_le, nat_lt, min, Option, None, Some, slice_get, slice_index_or}
+use Rattle.cx_role.proofs.Common.{list_all, list_any, and_from, and_parts, cases_Bool, eqb-true, nat_tests, length-map, take_all, take_more}
+use Rattle.cx_role.proofs.Common.{list_all-append, slice_get_within, Cluster, Answered, Floor, Note, Pair, Value, floor_fits, rises, Table}
+use Rattle.cx_role.proofs.Common.{are_rising, floor_of, value, all_fit, names_value, IsOrdered, note_of, pieces, Record}
+use Rattle.cx_field.specs.Fields.{answered, mark, note, notes, pair, pairs}
+use Rattle.cx_model.specs.Renewed.{all_left, is_near, rises_left}
+use Rattle.cx_model.specs.Replica.{pieces_of}
 use Rattle.cx_letter.specs.declared.kept.Record.TheVariants as kept
 use Rattle.cx_letter.specs.Records.{kept_record, fits as record_fits}
 use Rattle.cx_table.specs.Entries.{of_client}

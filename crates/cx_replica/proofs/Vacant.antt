@@ -1,8 +1,7 @@
 -- Vectors without answers, one more and one less.
-use Rattle.std.proofs.Common.{◌≡◌, ◌≤◌, List, [], ◌∷◌, ◌++◌, Some, Vec, vec_capacity}
-use Rattle.std.specs.List.{All}
 use Rattle.std.specs.declared.alloc.Global.{Global}
-use Rattle.std.proofs.lemmas.List.Elements.{All-pop, All-push}
+use Rattle.std.proofs.lemmas.List.Elements.{All-pop}
+use Rattle.cx_base.proofs.Common.{◌≡◌, ◌≤◌, List, [], ◌∷◌, ◌++◌, Some, Vec, vec_capacity, All, All-push}
 use Rattle.cx_base.specs.declared.command.Answered.{Answered}
 use Rattle.cx_replica.specs.Room.{IsVacant}
 

@@ -1,18 +1,10 @@
 -- The commands and the answers of a value, one by one.
-use Rattle.std.proofs.Common.{◌≡◌, ℕ, ◌<◌, ◌≤◌, ◌^◌, Bool, true, ◌&&◌, List, [], ◌∷◌, ◌++◌, length, refl, ap, sym, ◌∙◌}
-use Rattle.std.proofs.Common.{arith}
-use Rattle.std.specs.List.{list_all}
-use Rattle.std.proofs.lemmas.Bool.{and_from, and_parts}
-use Rattle.std.proofs.lemmas.Bool.Decides.{nat_tests}
-use Rattle.cx_base.specs.declared.command.Answered.{Answered}
-use Rattle.cx_base.specs.declared.command.Command.{Command}
-use Rattle.cx_base.specs.declared.command.Value.{Value}
+use Rattle.cx_role.proofs.Common.{◌≡◌, ℕ, ◌<◌, ◌≤◌, ◌^◌, Bool, true, ◌&&◌, List, [], ◌∷◌, ◌++◌, length, refl, ap, sym, ◌∙◌, arith, list_all}
+use Rattle.cx_role.proofs.Common.{and_from, and_parts, nat_tests, Answered, Command, Value, Note}
 use Rattle.cx_base.specs.declared.command.Value.TheVariants.{Batch}
-use Rattle.cx_base.specs.declared.command.Note.{Note}
 use Rattle.cx_model.specs.Replica.{answer_of}
 use Rattle.cx_wire.specs.Format.{Format, u8, u16, u64, each_fits}
-use Rattle.cx_field.specs.Fields.{slot, mark, command, command_with, commands_with, value, value_with, answered, note, notes}
-use Rattle.cx_field.specs.Fields.{answers}
+use Rattle.cx_field.specs.Fields.{slot, mark, command, command_with, commands_with, value, value_with, answered, note, notes, answers}
 use Rattle.cx_field.specs.Fields.{values}
 use Rattle.cx_replica.specs.Sound.{are_answers, are_commands, are_notes, are_values}
 

@@ -1,13 +1,7 @@
 -- What a replica answers a read.
 use Rattle.std.specs.Prelude.{ℕ, nat_le, map, filter, List}
-use Rattle.cx_base.specs.declared.command.Pair.{Pair}
-use Rattle.cx_base.specs.declared.role.Kind.TheVariants.{Client}
-use Rattle.cx_base.specs.declared.role.RoleId.{RoleId}
-use Rattle.cx_base.specs.Fold.{text_at}
-use Rattle.cx_base.specs.Role.{role}
-use Rattle.cx_letter.specs.Letter.{Letter, letter}
+use Rattle.cx_role.specs.Prelude.{Pair, Client, RoleId, text_at, role, Letter, letter, Deferred}
 use Rattle.cx_letter.specs.declared.message.Msg.TheVariants as msg
-use Rattle.cx_model.specs.declared.states.Deferred.{Deferred}
 
 -- the key's text in a map, where `held` slots are held
 abbrev pub answer_at : RoleId → ℕ → List Pair → Deferred → Letter

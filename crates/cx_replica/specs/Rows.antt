@@ -1,13 +1,8 @@
 -- A replica as contracts see it, and what it does with a value.
 use Rattle.std.specs.Prelude.{ℕ, Bool, List}
-use Rattle.cx_base.specs.declared.cluster.Cluster.{Cluster}
-use Rattle.cx_base.specs.declared.command.Value.{Value}
-use Rattle.cx_base.specs.declared.role.RoleId.{RoleId}
-use Rattle.cx_base.specs.Log.{ready_values}
-use Rattle.cx_model.specs.declared.states.Deferred.{Deferred}
-use Rattle.cx_model.specs.Outcome.{Outcome}
-use Rattle.cx_model.specs.Replica.{Machine, ReplicaDurable, ReplicaVolatile, apply, chosen_row, held}
-use Rattle.cx_model.specs.Rules.{Running}
+use Rattle.cx_role.specs.Prelude.{Cluster, Value, RoleId, ready_values, Deferred, Outcome, Machine, ReplicaDurable, ReplicaVolatile, held}
+use Rattle.cx_role.specs.Prelude.{Running}
+use Rattle.cx_model.specs.Replica.{apply, chosen_row}
 use Rattle.cx_replica.specs.declared.wanted.Wanted.{Wanted}
 use Rattle.cx_rlog.specs.State.{LogState}
 

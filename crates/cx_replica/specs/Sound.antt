@@ -1,23 +1,9 @@
 -- What is so of every replica, and of what it executes.
-use Rattle.std.specs.Prelude.{◌≡◌, ℕ, ◌+◌, ◌<◌, ◌≤◌, ◌^◌, ◌==◌, Bool, true, false, ◌&&◌, nat_lt}
-use Rattle.std.specs.Prelude.{List, [], length, map, IsTrue}
-use Rattle.std.specs.List.{list_all, list_any}
-use Rattle.cx_base.specs.declared.cluster.Cluster.{Cluster}
-use Rattle.cx_base.specs.declared.command.Answered.{Answered}
-use Rattle.cx_base.specs.declared.command.Command.{Command}
-use Rattle.cx_base.specs.declared.command.Floor.{Floor}
-use Rattle.cx_base.specs.declared.command.Note.{Note}
-use Rattle.cx_base.specs.declared.command.Placed.{Placed}
-use Rattle.cx_base.specs.declared.command.Value.{Value}
-use Rattle.cx_base.specs.declared.role.Kind.TheVariants.{Replica}
-use Rattle.cx_base.specs.declared.role.RoleId.{RoleId}
-use Rattle.cx_base.specs.declared.command.Pair.{Pair}
-use Rattle.cx_field.specs.Fields.{answered, command, pair, value, token}
-use Rattle.cx_model.specs.declared.states.Deferred.{Deferred}
-use Rattle.cx_model.specs.Names.{names_value}
-use Rattle.cx_base.specs.Noted.{Table}
-use Rattle.cx_model.specs.Renewed.{IsOrdered, is_near}
-use Rattle.cx_model.specs.Replica.{Machine, answer_of}
+use Rattle.std.specs.Prelude.{◌≡◌, ℕ, ◌+◌, ◌<◌, ◌≤◌, ◌^◌, ◌==◌, Bool, true, false, ◌&&◌, nat_lt, List, [], length, map, IsTrue}
+use Rattle.cx_role.specs.Prelude.{list_all, list_any, Cluster, Answered, Command, Floor, Note, Placed, Value, Replica, RoleId, Pair}
+use Rattle.cx_role.specs.Prelude.{answered, command, value, token, Deferred, names_value, Table, IsOrdered, Machine, answer_of}
+use Rattle.cx_field.specs.Fields.{pair}
+use Rattle.cx_model.specs.Renewed.{is_near}
 use Rattle.cx_replica.specs.declared.wanted.Wanted.{Wanted}
 use Rattle.cx_rlog.specs.State.{LogState, held as held_in}
 

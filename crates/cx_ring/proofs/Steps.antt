@@ -1,11 +1,8 @@
 -- What a ring's places hold after each step.
-use Rattle.std.proofs.Common.{◌≡◌, ◌≢◌, ℕ, zero, suc, ◌+◌, ◌-◌, ◌*◌, ◌/◌, ◌%◌, ◌^◌, ◌<◌, ◌≤◌, ◌⊎◌, inl, inr, Bool, true, ◌==◌, min, List}
-use Rattle.std.proofs.Common.{[], ◌∷◌, length, get_or, replicate, All, Option, Some, None, refl, ap, sym, ◌∙◌, arith, slice_set}
-use Rattle.std.proofs.lemmas.Bool.Decides.{nat_tests}
-use Rattle.std.proofs.lemmas.Nat.{div-add-mod', mod_below}
-use Rattle.std.proofs.lemmas.List.{get_or-set_other, get_or-set_same, length-set}
-use Rattle.std.proofs.lemmas.List.Elements.{All-nil}
 use Rattle.std.proofs.Math.Nat.{add-mul-mod_self_right}
+use Rattle.cx_base.proofs.Common.{◌≡◌, ◌≢◌, ℕ, zero, suc, ◌+◌, ◌-◌, ◌*◌, ◌/◌, ◌%◌, ◌^◌, ◌<◌, ◌≤◌, ◌⊎◌, inl, inr, Bool, true, ◌==◌, min}
+use Rattle.cx_base.proofs.Common.{List, [], ◌∷◌, length, get_or, replicate, All, Option, Some, None, refl, ap, sym, ◌∙◌, arith, slice_set}
+use Rattle.cx_base.proofs.Common.{nat_tests, div-add-mod', mod_below, get_or-set_other, get_or-set_same, length-set, All-nil}
 use Rattle.cx_ring.specs.Ring.{IsNear, IsRing, value_at, with_value, values_from_slot}
 use Rattle.cx_ring.specs.Places.{emptied}
 use Rattle.cx_ring.proofs.Window.{places_apart, outside, value_at-with_same, value_at-with_other, All-with_value, value_at-from, near_from}

@@ -1,11 +1,7 @@
 -- Values of a window, and the places where they are.
-use Rattle.std.proofs.Common.{◌≡◌, ◌≢◌, ℕ, zero, suc, ◌+◌, ◌%◌, ◌<◌, ◌≤◌, ◌⊎◌, inl, inr, true, false, ◌==◌, List, [], ◌∷◌, length, get_or}
-use Rattle.std.proofs.Common.{All, Option, Some, None, refl, ap, sym, ◌∙◌, arith, nat_le, slice_set}
-use Rattle.std.proofs.lemmas.Bool.{cases_Bool}
-use Rattle.std.proofs.lemmas.Bool.Decides.{nat_tests}
-use Rattle.std.proofs.lemmas.Nat.{div-add-mod'}
-use Rattle.std.proofs.lemmas.List.{get_or-set_other, length-set}
-use Rattle.std.proofs.lemmas.List.Elements.{All-nil, All-cons, All-head, All-tail}
+use Rattle.cx_base.proofs.Common.{◌≡◌, ◌≢◌, ℕ, zero, suc, ◌+◌, ◌%◌, ◌<◌, ◌≤◌, ◌⊎◌, inl, inr, true, false, ◌==◌, List, [], ◌∷◌, length}
+use Rattle.cx_base.proofs.Common.{get_or, All, Option, Some, None, refl, ap, sym, ◌∙◌, arith, nat_le, slice_set, cases_Bool, nat_tests}
+use Rattle.cx_base.proofs.Common.{div-add-mod', get_or-set_other, length-set, All-nil, All-cons, All-head, All-tail}
 use Rattle.cx_ring.specs.Ring.{IsNear, value_at, with_value, values_from_slot}
 use Rattle.cx_ring.specs.Places.{emptied}
 

@@ -1,8 +1,6 @@
 -- The values that follow, one step on, and those that still wait.
-use Rattle.std.proofs.Common.{◌≡◌, ℕ, suc, ◌+◌, inl, inr, List, [], ◌∷◌, ◌++◌, refl, ap, sym, ◌∙◌, append_assoc, Some}
-use Rattle.std.proofs.Common.{max, filter, nat_le}
-use Rattle.std.proofs.lemmas.Bool.{cases_Bool}
-use Rattle.cx_base.specs.Log.{following, still_early, value_for}
+use Rattle.cx_base.proofs.Common.{◌≡◌, ℕ, suc, ◌+◌, inl, inr, List, [], ◌∷◌, ◌++◌, refl, ap, sym, ◌∙◌, append_assoc, Some, max, filter}
+use Rattle.cx_base.proofs.Common.{nat_le, cases_Bool, following, still_early, value_for}
 use Rattle.cx_base.specs.declared.command.Value.{Value}
 use Rattle.cx_base.specs.declared.command.Placed.{Placed}
 use Rattle.cx_ring.specs.Ring.{RingState, raise_ring}

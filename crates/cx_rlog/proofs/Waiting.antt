@@ -1,8 +1,7 @@
 -- Values that wait stay above the slots held.
-use Rattle.std.proofs.Common.{◌≡◌, ℕ, zero, suc, ◌+◌, ◌-◌, ◌^◌, ◌≤◌, ◌⊎◌, inl, inr, ◌==◌, nat_le, List, [], ◌∷◌, ◌++◌}
-use Rattle.std.proofs.Common.{length, refl, ap, add-zero, arith, Option, Some, None, min}
-use Rattle.std.proofs.lemmas.Bool.{cases_Bool, leb-true, eqb-false}
-use Rattle.cx_base.specs.Log.{following, ready_values, still_early, value_for}
+use Rattle.cx_base.proofs.Common.{◌≡◌, ℕ, zero, suc, ◌+◌, ◌-◌, ◌^◌, ◌≤◌, ◌⊎◌, inl, inr, ◌==◌, nat_le, List, [], ◌∷◌, ◌++◌, length, refl, ap}
+use Rattle.cx_base.proofs.Common.{add-zero, arith, Option, Some, None, min, cases_Bool, leb-true, eqb-false, following, ready_values}
+use Rattle.cx_base.proofs.Common.{still_early, value_for}
 use Rattle.cx_base.specs.declared.command.Value.{Value}
 use Rattle.cx_base.specs.declared.command.Placed.{Placed}
 use Rattle.cx_rlog.specs.State.{AreEarly, IsEarly, AreReadyValues, LogState, held as held_in}

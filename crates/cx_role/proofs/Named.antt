@@ -1,11 +1,6 @@
 -- What is named of a datagram that a role takes.
-use Rattle.std.proofs.Common.{◌≡◌, ◌&&◌, true, arith}
-use Rattle.std.proofs.lemmas.Bool.Decides.{nat_tests}
-use Rattle.cx_base.specs.declared.cluster.Cluster.{Cluster}
-use Rattle.cx_base.specs.declared.role.RoleId.{RoleId}
-use Rattle.cx_base.specs.Role.{same_role}
-use Rattle.cx_model.specs.Names.{names, names_body}
-use Rattle.cx_letter.specs.Letter.{Letter}
+use Rattle.cx_base.proofs.Common.{arith, nat_tests}
+use Rattle.cx_model.specs.Prelude.{◌≡◌, ◌&&◌, true, Cluster, RoleId, same_role, names, names_body, Letter}
 
 -- each name in its message lies in the cluster
 pub body_named : (c : Cluster) (me : RoleId) (l : Letter) → (same_role l.to me && names c l) ≡ true

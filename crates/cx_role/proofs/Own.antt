@@ -1,10 +1,6 @@
 -- A role opens from what its own steps appended.
-use Rattle.std.proofs.Common.{◌≡◌, ◌+◌, ℕ, true, List, [], ◌∷◌, ◌++◌, None, refl, arith}
-use Rattle.std.proofs.lemmas.Bool.Decides.{nat_tests}
-use Rattle.cx_base.specs.declared.cluster.Cluster.{Cluster}
-use Rattle.cx_base.specs.declared.role.RoleId.{RoleId}
-use Rattle.cx_model.specs.Rules.{Rules, folded, folded_from, refused, refused_from}
-use Rattle.cx_letter.specs.declared.kept.Record.{Record}
+use Rattle.cx_role.proofs.Common.{◌≡◌, ◌+◌, ℕ, true, List, [], ◌∷◌, ◌++◌, None, refl, arith, nat_tests, Cluster, RoleId, Rules, folded}
+use Rattle.cx_role.proofs.Common.{folded_from, refused, refused_from, Record}
 use Rattle.cx_role.specs.Own.{FitAlong}
 
 module _ {D V : Type 0} (rules : Rules D V) (c : Cluster) (me : RoleId) where

@@ -1,8 +1,6 @@
 -- The ranges of rounds and of numbers of slots.
-use Rattle.std.proofs.Common.{◌≡◌, ℕ, true, max, arith}
-use Rattle.std.proofs.lemmas.Bool.Decides.{nat_tests}
+use Rattle.cx_base.proofs.Common.{◌≡◌, ℕ, true, max, arith, nat_tests, is_before}
 use Rattle.cx_base.specs.declared.round.Round.{Round}
-use Rattle.cx_base.specs.Round.{is_before}
 use Rattle.cx_field.specs.Fields.{mark, round, round0}
 
 pub real_or_none : (i : Round) → round.fits i ≡ true → round0.fits i ≡ true

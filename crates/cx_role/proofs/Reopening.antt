@@ -1,8 +1,5 @@
 -- A role that is being opened again.
-use Rattle.std.proofs.Common.{◌≡◌, ℕ, true, List}
-use Rattle.cx_model.specs.Rules.{Rules, Running, folded_from, refused_from}
-use Rattle.cx_letter.specs.declared.kept.Record.{Record}
-use Rattle.cx_role.specs.Wake.{refused_behind}
+use Rattle.cx_role.specs.Prelude.{◌≡◌, ℕ, true, List, Rules, Running, folded_from, refused_from, Record, refused_behind}
 
 -- The records from this place on are left: they leave what all records leave after the role that was there before, and the
 -- first of them that is refused is the first of all.

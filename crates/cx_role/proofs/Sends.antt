@@ -1,9 +1,7 @@
 -- Sending to rising numbers below a count, and to those of them that pass a test.
-use Rattle.std.proofs.Common.{◌≡◌, ◌≤◌, ◌<◌, ◌+◌, ◌-◌, ℕ, suc, Bool, true, false, List, [], ◌∷◌, ◌++◌, map, filter}
-use Rattle.std.proofs.Common.{refl, append_assoc, arith}
-use Rattle.cx_base.specs.Lists.{numbers, below}
-use Rattle.cx_letter.specs.Letter.{Letter}
-use Rattle.cx_role.specs.Outbox.{Outgoing}
+use Rattle.std.proofs.Common.{append_assoc, arith}
+use Rattle.cx_role.specs.Prelude.{◌≡◌, ◌≤◌, ◌<◌, ◌+◌, ◌-◌, ℕ, suc, Bool, true, false, List, [], ◌∷◌, ◌++◌, map, filter, refl, numbers}
+use Rattle.cx_role.specs.Prelude.{below, Letter, Outgoing}
 
 -- what was sent, and what is to be sent to those from i on, is all that is to be sent, and each takes room for one
 pub record IsSending (f : ℕ → Letter) (begun out : Outgoing) (i n : ℕ) : Type 0 where

@@ -1,11 +1,8 @@
 -- The exits of a step: it was made, it was out of memory, or its append failed.
-use Rattle.std.proofs.Common.{◌≡◌, Bool, false, List, Ok, Err, refl, sym, subst}
-use Rattle.cx_base.specs.declared.why.Why.{Why}
-use Rattle.cx_keep.specs.declared.keeper.KeepFault.TheVariants.{Failed, NoMemory}
-use Rattle.cx_model.specs.Outcome.{Outcome}
-use Rattle.cx_model.specs.Rules.{Rules, Running}
-use Rattle.cx_letter.specs.Letter.{Letter}
-use Rattle.cx_role.specs.Role.{Appending, FailsAt, IsStep, Keeps, KeepsDurable, Replies, StaysAt, Steps, takes_no_memory}
+use Rattle.std.proofs.Common.{sym, subst}
+use Rattle.cx_role.specs.Prelude.{◌≡◌, Bool, false, List, Ok, Err, refl, Why, Failed, NoMemory, Outcome, Rules, Running, Letter, Appending}
+use Rattle.cx_role.specs.Prelude.{IsStep, KeepsDurable, Replies, takes_no_memory}
+use Rattle.cx_role.specs.Role.{FailsAt, Keeps, StaysAt, Steps}
 
 module _ {K D V : Type 0} {gives : Appending K} {tells : K → Bool} {rules : Rules D V} {before after : Running D V} {row : Outcome V}
     {old new : K} {sent : List Letter} where

@@ -1,9 +1,6 @@
 -- What a role's own steps append.
 use Rattle.std.specs.Prelude.{List, [], ◌∷◌, Some}
-use Rattle.cx_base.specs.declared.cluster.Cluster.{Cluster}
-use Rattle.cx_base.specs.declared.role.RoleId.{RoleId}
-use Rattle.cx_model.specs.Rules.{Rules, IsFit}
-use Rattle.cx_letter.specs.declared.kept.Record.{Record}
+use Rattle.cx_model.specs.Prelude.{Cluster, RoleId, Rules, IsFit, Record}
 
 -- each of these records is one that the role may append, in the state that those before it leave
 abbrev pub FitAlong : {D V : Type 0} → Rules D V → Cluster → RoleId → D → List Record → Type 0

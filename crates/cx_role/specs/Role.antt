@@ -1,13 +1,9 @@
 -- The law of a role's step.
 use Rattle.std.specs.Prelude.{◌≡◌, ◌⊎◌, Bool, true, false, List, [], Option, None, Some, Result, Ok, Err, IfOk, IsErrOf, OnErr}
-use Rattle.cx_base.specs.declared.why.Why.{Why}
+use Rattle.cx_model.specs.Prelude.{Why, Outcome, Rules, Running, IsFit, running_after, Letter, Record}
 use Rattle.cx_base.specs.declared.why.Why.TheVariants as why
 use Rattle.cx_keep.specs.declared.keeper.KeepFault.{KeepFault}
 use Rattle.cx_keep.specs.declared.keeper.KeepFault.TheVariants.{Failed, NoMemory}
-use Rattle.cx_model.specs.Outcome.{Outcome}
-use Rattle.cx_model.specs.Rules.{Rules, Running, IsFit, running_after}
-use Rattle.cx_letter.specs.Letter.{Letter}
-use Rattle.cx_letter.specs.declared.kept.Record.{Record}
 
 -- what an append may answer, and leave
 abbrev pub Appending : Type 0 → Type 1

@@ -1,13 +1,10 @@
 -- The law of a snap: a role forgets values, and its list is put anew.
 use Rattle.std.specs.Prelude.{◌≡◌, ◌⊎◌, ℕ, Bool, false, List, [], Option, None, Some, Result, Ok, Err, IfOk, IsErrOf}
-use Rattle.cx_base.specs.declared.why.Why.{Why}
+use Rattle.cx_model.specs.Prelude.{Why, Rules, Running, written_after, Letter, Record}
 use Rattle.cx_base.specs.declared.why.Why.TheVariants as why
 use Rattle.cx_keep.specs.declared.keeper.KeepFault.{KeepFault}
 use Rattle.cx_keep.specs.declared.keeper.KeepFault.TheVariants.{Failed, NoMemory}
-use Rattle.cx_model.specs.Rules.{Rules, Running, written_after}
-use Rattle.cx_letter.specs.Letter.{Letter}
 use Rattle.cx_letter.specs.declared.input.Written.TheVariants as written
-use Rattle.cx_letter.specs.declared.kept.Record.{Record}
 use Rattle.cx_role.specs.Role.{KeepsDurable, takes_no_memory}
 
 -- what a renewal may answer, and leave

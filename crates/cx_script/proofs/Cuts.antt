@@ -1,12 +1,9 @@
 -- The parts of a list round the first place where a test passes.
-use Rattle.std.proofs.Common.{◌≡◌, ℕ, ◌<◌, ◌+◌, Bool, true, false, List, [], ◌∷◌, take, drop, get_or, length, None, Some, refl, ap, subst}
-use Rattle.std.proofs.Common.{◌∙◌, if◌then◌else◌, nat_lt, arith}
-use Rattle.std.specs.List.{slice_split, position, position_or_len, list_any, onto_first}
-use Rattle.std.proofs.lemmas.Bool.{or_parts}
-use Rattle.std.proofs.lemmas.Bool.Decides.{nat_tests}
 use Rattle.std.proofs.lemmas.List.Elements.{All-from_get_or}
 use Rattle.std.proofs.lemmas.List.Splits.{slice_split_none, slice_split_first, slice_split-cons_no}
-use Rattle.std.proofs.lemmas.List.Sums.{fails_before_first}
+use Rattle.cx_base.proofs.Common.{◌≡◌, ℕ, ◌<◌, ◌+◌, Bool, true, false, List, [], ◌∷◌, take, drop, get_or, length, None, Some, refl, ap}
+use Rattle.cx_base.proofs.Common.{subst, ◌∙◌, if◌then◌else◌, nat_lt, arith, slice_split, position, position_or_len, list_any, onto_first}
+use Rattle.cx_base.proofs.Common.{or_parts, nat_tests, fails_before_first}
 
 -- a number that comes where a test passes
 chosen : (b : Bool) (n i : ℕ) → (if b then Some n else None) ≡ Some i → (b ≡ true) × (n ≡ i)

@@ -1,13 +1,9 @@
 -- A number, digit by digit.
-use Rattle.std.proofs.Common.{◌≡◌, ◌≤◌, ◌+◌, ◌*◌, ◌^◌, ◌&&◌, ℕ, Bool, true, false, List, [], ◌∷◌, Option, Some, None, nat_lt, if◌then◌else◌}
-use Rattle.std.proofs.Common.{◌<◌, length, refl, inl, inr, arith}
-use Rattle.std.proofs.lemmas.Bool.{cases_Bool}
-use Rattle.std.proofs.lemmas.Bool.Decides.{nat_tests}
-use Rattle.cx_script.specs.Words.{word_number}
-use Rattle.std.specs.Char.{is_ascii_digit}
-use Rattle.std.specs.List.{list_all}
 use Rattle.std.specs.Str.Parse.{digits_value_after}
-use Rattle.std.specs.Char.{digit_value}
+use Rattle.cx_base.proofs.Common.{◌≡◌, ◌≤◌, ◌+◌, ◌*◌, ◌^◌, ◌&&◌, ℕ, Bool, true, false, List, [], ◌∷◌, Option, Some, None, nat_lt}
+use Rattle.cx_base.proofs.Common.{if◌then◌else◌, ◌<◌, length, refl, inl, inr, arith, cases_Bool, nat_tests, is_ascii_digit, list_all}
+use Rattle.cx_base.proofs.Common.{digit_value}
+use Rattle.cx_script.specs.Words.{word_number}
 
 -- the number of the digits so far, and those that follow
 abbrev pub after : ℕ → List ℕ → Option ℕ

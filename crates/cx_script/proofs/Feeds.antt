@@ -1,13 +1,10 @@
 -- Whole lines, a line that isn't ended, and the bytes after them, as parts round the line feeds.
-use Rattle.std.proofs.Common.{◌≡◌, ◌≤◌, ◌<◌, ◌+◌, ◌-◌, ◌==◌, ◌++◌, ℕ, Bool, true, false, cond, List, [], ◌∷◌, length, map, take, refl, sym}
-use Rattle.std.proofs.Common.{ap, ◌∙◌, append_assoc, append-nil, arith, length-append}
 use Rattle.std.specs.Cmp.Lexicographic.{bytes_decides}
-use Rattle.std.specs.List.{join_with_byte, list_any, onto_first, slice_index}
-use Rattle.std.specs.Prelude.{codes}
-use Rattle.std.specs.Str.Lines.{strip_carriage_return}
-use Rattle.std.proofs.lemmas.Bool.{or_parts, or_from, cond_both}
-use Rattle.std.proofs.lemmas.Grind.{common_steps}
-use Rattle.std.proofs.lemmas.List.Splits.{join_with_byte-slice_split, slice_split-cons_no}
+use Rattle.std.proofs.lemmas.List.Splits.{slice_split-cons_no}
+use Rattle.cx_base.proofs.Common.{◌≡◌, ◌≤◌, ◌<◌, ◌+◌, ◌-◌, ◌==◌, ◌++◌, ℕ, Bool, true, false, cond, List, [], ◌∷◌, length, map, take, refl}
+use Rattle.cx_base.proofs.Common.{sym, ap, ◌∙◌, append_assoc, append-nil, arith, length-append, join_with_byte, list_any, onto_first}
+use Rattle.cx_base.proofs.Common.{slice_index, codes, strip_carriage_return, or_parts, or_from, cond_both, common_steps}
+use Rattle.cx_base.proofs.Common.{join_with_byte-slice_split}
 use Rattle.cx_script.specs.Header.{is_rule}
 use Rattle.cx_script.specs.Lines.{lines_in, lines_of}
 use Rattle.cx_script.specs.Unended.{last_part, but_last, lines_text}

@@ -1,18 +1,10 @@
 -- Which words and lines tell a floor.
-use Rattle.std.proofs.Common.{◌≡◌, ℕ, ◌<◌, ◌+◌, ◌-◌, Bool, true, false, not, nat_lt, List, [], ◌∷◌, length, codes, filter, get_or, drop}
-use Rattle.std.proofs.Common.{Option, None, Some, option_and_then, ok_or, Result, Ok, Err, IfOk, IfSome, refl, sym, subst, ◌==◌, ◌&&◌, inl}
-use Rattle.std.proofs.Common.{inr, arith, eqb-true, if◌then◌else◌}
-use Rattle.std.specs.Bool.{⊤}
-use Rattle.std.specs.Char.{is_ascii_digit}
-use Rattle.std.specs.List.{list_all, list_any, onto_first, position, slice_split}
-use Rattle.std.specs.Option.{option_map_or}
-use Rattle.std.specs.Str.{bytes_eq}
-use Rattle.std.proofs.lemmas.Bool.{cases_Bool, or_parts, or_from}
-use Rattle.std.proofs.lemmas.Bool.Decides.{nat_tests}
 use Rattle.std.proofs.lemmas.List.Folds.{list_all_at}
-use Rattle.std.proofs.lemmas.List.Quantifiers.{position-Some}
-use Rattle.std.proofs.lemmas.List.Splits.{length-slice_split}
-use Rattle.cx_base.specs.Asked.{floor_fits}
+use Rattle.cx_base.proofs.Common.{◌≡◌, ℕ, ◌<◌, ◌+◌, ◌-◌, Bool, true, false, not, nat_lt, List, [], ◌∷◌, length, codes, filter, get_or, drop}
+use Rattle.cx_base.proofs.Common.{Option, None, Some, option_and_then, ok_or, Result, Ok, Err, IfOk, IfSome, refl, sym, subst, ◌==◌, ◌&&◌}
+use Rattle.cx_base.proofs.Common.{inl, inr, arith, eqb-true, if◌then◌else◌, ⊤, is_ascii_digit, list_all, list_any, onto_first, position}
+use Rattle.cx_base.proofs.Common.{slice_split, option_map_or, bytes_eq, cases_Bool, or_parts, or_from, nat_tests, position-Some}
+use Rattle.cx_base.proofs.Common.{length-slice_split, floor_fits}
 use Rattle.cx_base.specs.declared.cluster.Cluster.{Cluster}
 use Rattle.cx_base.specs.declared.event.Event.{Event}
 use Rattle.cx_base.specs.declared.event.Event.TheVariants as event

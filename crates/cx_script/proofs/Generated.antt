@@ -1,14 +1,9 @@
 -- The world takes each generated event, and its names lie in the generator's cluster.
-use Rattle.std.proofs.Common.{◌≡◌, ◌<◌, ◌+◌, ◌%◌, ◌==◌, ℕ, Bool, true, false, nat_lt, nat_le, refl, inl, inr, arith, if◌then◌else◌}
-use Rattle.std.proofs.Common.{true≢false}
-use Rattle.std.proofs.lemmas.Bool.{cases_Bool}
-use Rattle.std.proofs.lemmas.Bool.Decides.{nat_tests}
 use Rattle.std.proofs.lemmas.List.Folds.{list_all_at}
-use Rattle.cx_base.specs.Asked.{floor_fits}
+use Rattle.cx_base.proofs.Common.{◌≡◌, ◌<◌, ◌+◌, ◌%◌, ◌==◌, ℕ, Bool, true, false, nat_lt, nat_le, refl, inl, inr, arith, if◌then◌else◌}
+use Rattle.cx_base.proofs.Common.{true≢false, cases_Bool, nat_tests, floor_fits, Shape, role}
 use Rattle.cx_base.specs.declared.event.Event.{Event}
 use Rattle.cx_base.specs.declared.role.Kind.TheVariants.{Batcher}
-use Rattle.cx_base.specs.Grid.{Shape}
-use Rattle.cx_base.specs.Role.{role}
 use Rattle.cx_script.specs.Generator.{GeneratorState, gen_cluster, gen_servers, gen_server, gen_first_grid, gen_grid, later_event}
 use Rattle.cx_script.specs.Generator.{gen_event, drawn, second_draw, third_draw, fourth_draw, next_event}
 use Rattle.cx_script.specs.Names.{names_members, names_server}

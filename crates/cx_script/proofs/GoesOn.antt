@@ -1,10 +1,7 @@
 -- What whole lines spell stays as other bytes come after them.
-use Rattle.std.proofs.Common.{◌≡◌, ◌<◌, ◌+◌, ◌++◌, ℕ, Bool, true, false, List, [], ◌∷◌, length, map, refl, sym, ap, ◌∙◌, subst}
-use Rattle.std.proofs.Common.{append_assoc, append-nil, arith, nat_lt, if◌then◌else◌, Option, Some, None, option_map, option_to_list}
-use Rattle.std.proofs.Common.{Result, Ok, Err}
-use Rattle.std.specs.Str.Lines.{strip_carriage_return}
-use Rattle.std.proofs.lemmas.Bool.{cond_both}
-use Rattle.std.proofs.lemmas.Bool.Decides.{nat_tests}
+use Rattle.cx_base.proofs.Common.{◌≡◌, ◌<◌, ◌+◌, ◌++◌, ℕ, Bool, true, false, List, [], ◌∷◌, length, map, refl, sym, ap, ◌∙◌, subst}
+use Rattle.cx_base.proofs.Common.{append_assoc, append-nil, arith, nat_lt, if◌then◌else◌, Option, Some, None, option_map, option_to_list}
+use Rattle.cx_base.proofs.Common.{Result, Ok, Err, strip_carriage_return, cond_both, nat_tests}
 use Rattle.cx_base.specs.declared.cluster.Cluster.{Cluster}
 use Rattle.cx_base.specs.declared.event.Event.{Event}
 use Rattle.cx_script.specs.declared.fault.LineFault.{LineFault}

@@ -1,11 +1,7 @@
 -- The header of whole lines, as other bytes come after them, and how long it is.
-use Rattle.std.proofs.Common.{◌≡◌, ◌==◌, ◌≤◌, ◌<◌, ◌+◌, ◌++◌, ℕ, Bool, true, false, List, [], ◌∷◌, length, map, refl, sym, ap, ◌∙◌}
-use Rattle.std.proofs.Common.{append_assoc, arith, nat_lt, nat_le, if◌then◌else◌, Option, Some, None, IfSome, option_map, option_and_then}
-use Rattle.std.proofs.Common.{length-append}
-use Rattle.std.specs.Str.Lines.{strip_carriage_return}
-use Rattle.std.proofs.lemmas.Bool.{cond_both}
-use Rattle.std.proofs.lemmas.Bool.Decides.{nat_tests}
-use Rattle.std.proofs.lemmas.List.Splits.{join_with_byte-slice_split}
+use Rattle.cx_base.proofs.Common.{◌≡◌, ◌==◌, ◌≤◌, ◌<◌, ◌+◌, ◌++◌, ℕ, Bool, true, false, List, [], ◌∷◌, length, map, refl, sym, ap, ◌∙◌}
+use Rattle.cx_base.proofs.Common.{append_assoc, arith, nat_lt, nat_le, if◌then◌else◌, Option, Some, None, IfSome, option_map}
+use Rattle.cx_base.proofs.Common.{option_and_then, length-append, strip_carriage_return, cond_both, nat_tests, join_with_byte-slice_split}
 use Rattle.cx_script.specs.Header.{header_in, header_and_rest, of_length}
 use Rattle.cx_script.specs.Lines.{lines_of}
 use Rattle.cx_script.specs.Unended.{lines_text, is_long_header}

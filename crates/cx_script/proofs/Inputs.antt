@@ -1,8 +1,7 @@
 -- The header of an input and what comes after it, in the bytes that count and as other bytes come after them.
-use Rattle.std.proofs.Common.{◌≡◌, ◌≤◌, ◌<◌, ◌+◌, ◌++◌, ℕ, Bool, true, false, List, [], length, refl, sym, ap, ◌∙◌, subst, append_assoc}
-use Rattle.std.proofs.Common.{append-nil, arith, nat_lt, nat_le, if◌then◌else◌, Option, Some, None, IfSome, length-append}
-use Rattle.std.specs.Str.Lines.{strip_carriage_return}
-use Rattle.std.proofs.lemmas.Bool.Decides.{nat_tests}
+use Rattle.cx_base.proofs.Common.{◌≡◌, ◌≤◌, ◌<◌, ◌+◌, ◌++◌, ℕ, Bool, true, false, List, [], length, refl, sym, ap, ◌∙◌, subst, append_assoc}
+use Rattle.cx_base.proofs.Common.{append-nil, arith, nat_lt, nat_le, if◌then◌else◌, Option, Some, None, IfSome, length-append}
+use Rattle.cx_base.proofs.Common.{strip_carriage_return, nat_tests}
 use Rattle.cx_script.specs.Header.{header_in, header_and_rest}
 use Rattle.cx_script.specs.Unended.{but_last, last_part, lines_text, unended, whole_lines, settled_text, is_long_header}
 use Rattle.cx_script.proofs.Feeds.{IsFree, AreFree, bytes_cut, whole_free, unended_free}

@@ -1,9 +1,7 @@
 -- How long lines can be of which none is bad.
-use Rattle.std.proofs.Common.{◌≡◌, ◌≤◌, ◌<◌, ◌+◌, ◌*◌, ◌++◌, ℕ, Bool, true, false, List, [], ◌∷◌, length, map, refl, sym, ap, ◌∙◌, subst}
-use Rattle.std.proofs.Common.{arith, nat_lt, if◌then◌else◌, Option, Some, None, IfSome, option_map, length-append, Result, Ok, Err}
-use Rattle.std.specs.Str.Lines.{strip_carriage_return}
-use Rattle.std.proofs.lemmas.Bool.{cond_both}
-use Rattle.std.proofs.lemmas.Bool.Decides.{nat_tests}
+use Rattle.cx_base.proofs.Common.{◌≡◌, ◌≤◌, ◌<◌, ◌+◌, ◌*◌, ◌++◌, ℕ, Bool, true, false, List, [], ◌∷◌, length, map, refl, sym, ap, ◌∙◌}
+use Rattle.cx_base.proofs.Common.{subst, arith, nat_lt, if◌then◌else◌, Option, Some, None, IfSome, option_map, length-append, Result, Ok}
+use Rattle.cx_base.proofs.Common.{Err, strip_carriage_return, cond_both, nat_tests}
 use Rattle.cx_base.specs.declared.cluster.Cluster.{Cluster}
 use Rattle.cx_base.specs.declared.event.Event.{Event}
 use Rattle.cx_script.specs.declared.fault.LineFault.{LineFault}

@@ -1,21 +1,14 @@
 -- What holds of all that a part of a line may say.
-use Rattle.std.proofs.Common.{◌≡◌, ℕ, Bool, true, false, not, nat_lt, List, [], ◌∷◌, Option, None, Some, option_map, option_and_then, ok_or}
-use Rattle.std.proofs.Common.{Result, Ok, Err, IfOk, IfSome, is_none, find, length, refl, inl, inr, ◌-◌, ◌+◌, ◌*◌, ◌==◌, ◌&&◌}
-use Rattle.std.proofs.Common.{if◌then◌else◌}
-use Rattle.std.specs.Bool.{⊤}
-use Rattle.std.proofs.lemmas.Bool.{cases_Bool, and_parts}
-use Rattle.std.specs.List.{list_all, slice_split}
-use Rattle.std.specs.Str.{bytes_eq}
-use Rattle.cx_base.specs.Asked.{floor_fits}
+use Rattle.std.proofs.Common.{find}
+use Rattle.cx_base.proofs.Common.{◌≡◌, ℕ, Bool, true, false, not, nat_lt, List, [], ◌∷◌, Option, None, Some, option_map, option_and_then}
+use Rattle.cx_base.proofs.Common.{ok_or, Result, Ok, Err, IfOk, IfSome, is_none, length, refl, inl, inr, ◌-◌, ◌+◌, ◌*◌, ◌==◌, ◌&&◌}
+use Rattle.cx_base.proofs.Common.{if◌then◌else◌, ⊤, cases_Bool, and_parts, list_all, slice_split, bytes_eq, floor_fits, grid_fault}
+use Rattle.cx_base.proofs.Common.{make_grid, kind_text, role, is_rising, count_of}
 use Rattle.cx_base.specs.declared.cluster.Cluster.{Cluster}
 use Rattle.cx_base.specs.declared.role.Kind.{Kind}
-use Rattle.cx_base.specs.Grid.{grid_fault, make_grid}
-use Rattle.cx_base.specs.Role.{kind_text, role}
-use Rattle.cx_base.specs.Sets.{is_rising}
 use Rattle.cx_script.specs.declared.fault.LineFault.{LineFault}
 use Rattle.cx_script.specs.declared.fault.LineFault.TheVariants.{Number, Role, Grid}
 use Rattle.cx_script.specs.Grammar.{◌>>=◌, next_word, ended, grid_at}
-use Rattle.cx_base.specs.Cluster.{count_of}
 use Rattle.cx_script.specs.Names.{is_client, names_server, names_members, names_set}
 use Rattle.cx_script.specs.Places.{fitting, seq_and_floor, seq_word, number_if_below, index_below, kind_part, index_part, index_word}
 use Rattle.cx_script.specs.Places.{server_kinds, server_kind, server_in, server_word, sides_word, ids_of, grid_from_ids, members_word}

@@ -1,12 +1,8 @@
 -- The numbers of each client rise among the requests that lines spell.
-use Rattle.std.proofs.Common.{◌≡◌, ◌<◌, ◌+◌, ◌==◌, ◌++◌, ℕ, Bool, true, false, nat_lt, max, List, [], ◌∷◌, length, get_or, filter, Option}
-use Rattle.std.proofs.Common.{None, Some, Result, Ok, Err, refl, sym, ap, subst, ◌∙◌, inl, inr, arith, append-nil, eqb-true, if◌then◌else◌}
-use Rattle.std.specs.Prelude.{slice_set}
-use Rattle.std.specs.List.{list_all}
-use Rattle.std.proofs.lemmas.Bool.{cases_Bool, and_parts}
-use Rattle.std.proofs.lemmas.Bool.Decides.{nat_tests}
-use Rattle.std.proofs.lemmas.List.{get_or-set_same, get_or-set_other}
-use Rattle.cx_base.specs.Asked.{is_valid_event}
+use Rattle.cx_base.proofs.Common.{◌≡◌, ◌<◌, ◌+◌, ◌==◌, ◌++◌, ℕ, Bool, true, false, nat_lt, max, List, [], ◌∷◌, length, get_or, filter}
+use Rattle.cx_base.proofs.Common.{Option, None, Some, Result, Ok, Err, refl, sym, ap, subst, ◌∙◌, inl, inr, arith, append-nil, eqb-true}
+use Rattle.cx_base.proofs.Common.{if◌then◌else◌, slice_set, list_all, cases_Bool, and_parts, nat_tests, get_or-set_same, get_or-set_other}
+use Rattle.cx_base.proofs.Common.{is_valid_event}
 use Rattle.cx_base.specs.declared.cluster.Cluster.{Cluster}
 use Rattle.cx_base.specs.declared.event.Event.{Event}
 use Rattle.cx_base.specs.declared.event.Event.TheVariants.{Write, Read, Session}

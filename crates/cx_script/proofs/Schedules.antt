@@ -1,10 +1,7 @@
 -- The parts of a schedule round its line feeds, one by one.
-use Rattle.std.proofs.Common.{◌≡◌, ◌≤◌, ◌<◌, ◌==◌, ◌++◌, ℕ, List, [], ◌∷◌, Option, None, Some, option_map, option_and_then, unwrap_or}
-use Rattle.std.proofs.Common.{length, true, false, nat_le, refl, sym, ap, ◌∙◌, append-nil, arith}
-use Rattle.std.proofs.lemmas.Bool.Decides.{nat_tests}
-use Rattle.std.proofs.lemmas.List.Splits.{join_with_byte-slice_split, length-slice_split}
-use Rattle.std.specs.List.{slice_split, join_with_byte}
-use Rattle.std.specs.Str.Lines.{strip_carriage_return}
+use Rattle.cx_base.proofs.Common.{◌≡◌, ◌≤◌, ◌<◌, ◌==◌, ◌++◌, ℕ, List, [], ◌∷◌, Option, None, Some, option_map, option_and_then, unwrap_or}
+use Rattle.cx_base.proofs.Common.{length, true, false, nat_le, refl, sym, ap, ◌∙◌, append-nil, arith, nat_tests, join_with_byte-slice_split}
+use Rattle.cx_base.proofs.Common.{length-slice_split, slice_split, join_with_byte, strip_carriage_return}
 use Rattle.cx_base.specs.declared.event.Event.{Event}
 use Rattle.cx_script.specs.Header.{is_rule, header_in, of_length}
 use Rattle.cx_script.specs.Lines.{ParsedLines, lines_in, lines_of}

@@ -1,10 +1,6 @@
 -- The words of a line, from the first on.
-use Rattle.std.proofs.Common.{◌≡◌, ℕ, zero, suc, ◌<◌, ◌+◌, true, false, not, List, [], ◌∷◌, get_or, take, drop, length, None, Some, refl}
-use Rattle.std.proofs.Common.{sym, ap, ◌∙◌, arith, true≢false}
-use Rattle.std.specs.List.{position}
-use Rattle.std.proofs.lemmas.Bool.{not-false}
-use Rattle.std.proofs.lemmas.List.{drop_more, drop_all}
-use Rattle.std.proofs.lemmas.List.Quantifiers.{position-Some}
+use Rattle.cx_base.proofs.Common.{◌≡◌, ℕ, zero, suc, ◌<◌, ◌+◌, true, false, not, List, [], ◌∷◌, get_or, take, drop, length, None, Some}
+use Rattle.cx_base.proofs.Common.{refl, sym, ap, ◌∙◌, arith, true≢false, position, not-false, drop_more, drop_all, position-Some}
 use Rattle.cx_script.specs.Words.{is_blank, words_of}
 use Rattle.cx_script.proofs.Cuts.{none_passes, split_none, split_some}
 

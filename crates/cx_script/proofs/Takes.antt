@@ -1,9 +1,6 @@
 -- The world takes each event that a line or a schedule spells, and its names lie in the cluster.
-use Rattle.std.proofs.Common.{◌≡◌, ◌&&◌, ◌+◌, ℕ, Bool, true, false, nat_lt, List, [], ◌∷◌, length, codes, Option, None, Some, Result, Ok}
-use Rattle.std.proofs.Common.{Err, IfOk, IfSome, refl, subst, if◌then◌else◌}
-use Rattle.std.specs.List.{list_all}
-use Rattle.std.specs.Str.{bytes_eq}
-use Rattle.cx_base.specs.Asked.{is_valid_event}
+use Rattle.cx_base.proofs.Common.{◌≡◌, ◌&&◌, ◌+◌, ℕ, Bool, true, false, nat_lt, List, [], ◌∷◌, length, codes, Option, None, Some, Result}
+use Rattle.cx_base.proofs.Common.{Ok, Err, IfOk, IfSome, refl, subst, if◌then◌else◌, list_all, bytes_eq, is_valid_event, Shape}
 use Rattle.cx_base.specs.declared.cluster.Cluster.{Cluster}
 use Rattle.cx_base.specs.declared.event.Event.{Event}
 use Rattle.cx_base.specs.declared.event.Event.TheVariants as event
@@ -11,7 +8,6 @@ use Rattle.cx_base.specs.declared.event.Event.TheVariants.{Write, Read, Session}
 use Rattle.cx_base.specs.declared.event.Order.TheVariants.{Collect}
 use Rattle.cx_base.specs.declared.event.Cut.{Cut}
 use Rattle.cx_base.specs.declared.event.Cut.TheVariants.{Whole}
-use Rattle.cx_base.specs.Grid.{Shape}
 use Rattle.cx_base.specs.declared.role.Kind.TheVariants.{Client, Batcher, Leader, Replica, Reader, Replacer}
 use Rattle.cx_script.specs.declared.fault.LineFault.{LineFault}
 use Rattle.cx_script.specs.declared.fault.LineFault.TheVariants.{Long}

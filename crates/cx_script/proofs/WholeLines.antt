@@ -1,10 +1,8 @@
 -- Bytes as whole lines and a line that isn't ended.
-use Rattle.std.proofs.Common.{◌≡◌, ◌≤◌, ◌<◌, ◌+◌, ◌==◌, ◌++◌, ℕ, List, [], ◌∷◌, Some, length, take, drop, get_or, refl, sym, ap, ◌∙◌}
-use Rattle.std.proofs.Common.{append_assoc, arith, ◌-◌, take-add, eqb-true, drop-drop, length-drop}
-use Rattle.std.specs.List.{position, slice_split}
-use Rattle.std.proofs.lemmas.List.{take_more}
-use Rattle.std.proofs.lemmas.List.Quantifiers.{position-Some}
-use Rattle.std.proofs.lemmas.List.Splits.{length-slice_split}
+use Rattle.std.proofs.Common.{take-add}
+use Rattle.cx_base.proofs.Common.{◌≡◌, ◌≤◌, ◌<◌, ◌+◌, ◌==◌, ◌++◌, ℕ, List, [], ◌∷◌, Some, length, take, drop, get_or, refl, sym, ap, ◌∙◌}
+use Rattle.cx_base.proofs.Common.{append_assoc, arith, ◌-◌, eqb-true, drop-drop, length-drop, position, slice_split, take_more}
+use Rattle.cx_base.proofs.Common.{position-Some, length-slice_split}
 use Rattle.cx_script.specs.Unended.{last_part, but_last, lines_text}
 use Rattle.cx_script.proofs.Cuts.{split_some}
 

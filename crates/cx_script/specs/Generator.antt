@@ -1,6 +1,7 @@
 -- The generator of events: a linear congruential sequence, four draws an event.
 use Rattle.std.specs.Prelude.{ℕ, ◌+◌, ◌-◌, ◌*◌, ◌/◌, ◌%◌, ◌^◌, min, ◌==◌, nat_le, List, [], ◌∷◌, map, flat_map, get_or, None, if◌then◌else◌}
 use Rattle.std.proofs.Common.{lit≤}
+use Rattle.cx_base.specs.Prelude.{Shape, make_grid, below, role, count_of}
 use Rattle.cx_base.specs.declared.cluster.Cluster.{Cluster}
 use Rattle.cx_base.specs.declared.command.Op.{Op}
 use Rattle.cx_base.specs.declared.command.Op.TheVariants.{Put, Del, App}
@@ -11,10 +12,6 @@ use Rattle.cx_base.specs.declared.event.Event.TheVariants.{Write, Read, Deliver,
 use Rattle.cx_base.specs.declared.event.Order.TheVariants.{Lead, Change, Collect}
 use Rattle.cx_base.specs.declared.role.Kind.TheVariants.{Batcher}
 use Rattle.cx_base.specs.declared.role.RoleId.{RoleId}
-use Rattle.cx_base.specs.Grid.{Shape, make_grid}
-use Rattle.cx_base.specs.Lists.{below}
-use Rattle.cx_base.specs.Role.{role}
-use Rattle.cx_base.specs.Cluster.{count_of}
 use Rattle.cx_script.specs.Places.{server_kinds}
 
 -- the cluster of generated events

@@ -1,9 +1,7 @@
 -- The text of a header, and the bytes after it.
 use Rattle.std.specs.Prelude.{ℕ, Bool, ◌==◌, nat_le, List, [], ◌∷◌, ◌++◌, length, codes, Option, None, Some, option_map, option_and_then}
-use Rattle.std.specs.Prelude.{if◌then◌else◌}
-use Rattle.std.specs.List.{slice_split, join_with_byte}
-use Rattle.std.specs.Str.{bytes_eq}
-use Rattle.std.specs.Str.Lines.{strip_carriage_return}
+use Rattle.std.specs.Prelude.{if◌then◌else◌, bytes_eq}
+use Rattle.cx_base.specs.Prelude.{slice_split, join_with_byte, strip_carriage_return}
 
 -- the line that ends a header
 abbrev pub is_rule : List ℕ → Bool

@@ -1,8 +1,7 @@
 -- The lines of a schedule after its header, and the events that they spell.
 use Rattle.std.specs.Prelude.{ℕ, ◌+◌, ◌==◌, nat_lt, List, [], ◌∷◌, ◌++◌, map, Option, None, Some, option_to_list, Result, Ok, Err}
 use Rattle.std.specs.Prelude.{if◌then◌else◌}
-use Rattle.std.specs.List.{slice_split}
-use Rattle.std.specs.Str.Lines.{strip_carriage_return}
+use Rattle.cx_base.specs.Prelude.{slice_split, strip_carriage_return}
 use Rattle.cx_base.specs.declared.cluster.Cluster.{Cluster}
 use Rattle.cx_base.specs.declared.event.Event.{Event}
 use Rattle.cx_script.specs.declared.fault.LineFault.{LineFault}

@@ -1,6 +1,6 @@
 -- Which names of an event lie in a cluster.
 use Rattle.std.specs.Prelude.{ℕ, ◌+◌, ◌*◌, ◌==◌, Bool, true, false, ◌&&◌, not, nat_lt, List, length}
-use Rattle.std.specs.List.{list_all}
+use Rattle.cx_base.specs.Prelude.{list_all, count_of, Shape, is_rising}
 use Rattle.cx_base.specs.declared.cluster.Cluster.{Cluster}
 use Rattle.cx_base.specs.declared.event.Event.{Event}
 use Rattle.cx_base.specs.declared.event.Event.TheVariants as event
@@ -11,9 +11,6 @@ use Rattle.cx_base.specs.declared.role.Kind.{Kind}
 use Rattle.cx_base.specs.declared.role.Kind.TheVariants.{Client, Batcher, Leader, Proxy, Acceptor, Matchmaker, Replica, Unbatcher, Reader}
 use Rattle.cx_base.specs.declared.role.Kind.TheVariants.{Replacer}
 use Rattle.cx_base.specs.declared.role.RoleId.{RoleId}
-use Rattle.cx_base.specs.Cluster.{count_of}
-use Rattle.cx_base.specs.Grid.{Shape}
-use Rattle.cx_base.specs.Sets.{is_rising}
 
 abbrev pub is_client : Kind → Bool
 is_client Client = true

@@ -1,20 +1,15 @@
 -- What a word says in its place, or the place's fault.
 use Rattle.std.specs.Prelude.{ℕ, ◌-◌, ◌+◌, ◌*◌, Bool, ◌==◌, ◌&&◌, nat_le, nat_lt, List, [], ◌∷◌, length, find, is_none, Option, Some, None}
-use Rattle.std.specs.Prelude.{option_map, option_and_then, ok_or, Result, Err, if◌then◌else◌}
-use Rattle.std.specs.List.{before_first, after_first, slice_split}
-use Rattle.std.specs.Str.{bytes_eq}
-use Rattle.cx_base.specs.Asked.{floor_fits}
+use Rattle.std.specs.Prelude.{option_map, option_and_then, ok_or, Result, Err, if◌then◌else◌, bytes_eq}
+use Rattle.cx_base.specs.Prelude.{before_first, after_first, slice_split, floor_fits, Shape, make_grid, grid_fault, kind_text, role}
+use Rattle.cx_base.specs.Prelude.{is_rising, count_of}
 use Rattle.cx_base.specs.declared.cluster.Cluster.{Cluster}
 use Rattle.cx_base.specs.declared.role.Kind.{Kind}
 use Rattle.cx_base.specs.declared.role.Kind.TheVariants.{Batcher, Leader, Proxy, Acceptor, Matchmaker, Replica, Unbatcher, Reader, Replacer}
 use Rattle.cx_base.specs.declared.role.RoleId.{RoleId}
-use Rattle.cx_base.specs.Grid.{Shape, make_grid, grid_fault}
 use Rattle.cx_base.specs.Name.{as_name}
-use Rattle.cx_base.specs.Role.{kind_text, role}
-use Rattle.cx_base.specs.Sets.{is_rising}
 use Rattle.cx_script.specs.declared.fault.LineFault.{LineFault}
 use Rattle.cx_script.specs.declared.fault.LineFault.TheVariants.{Number, Role, Grid, Key}
-use Rattle.cx_base.specs.Cluster.{count_of}
 use Rattle.cx_script.specs.Words.{word_number}
 
 -- SEQ or SEQ/FLOOR: a request's number and the floor that it tells, which is the number before where SEQ stands alone

@@ -1,7 +1,6 @@
 -- What counts of bytes after which others may come: their whole lines, and the last line too where it is too long already.
 use Rattle.std.specs.Prelude.{ℕ, Bool, ◌==◌, nat_lt, List, [], ◌∷◌, ◌++◌, length, if◌then◌else◌}
-use Rattle.std.specs.List.{slice_split}
-use Rattle.std.specs.Str.Lines.{strip_carriage_return}
+use Rattle.cx_base.specs.Prelude.{slice_split, strip_carriage_return}
 use Rattle.cx_script.specs.Lines.{lines_of}
 
 -- the last of the parts round the line feeds, and those before it

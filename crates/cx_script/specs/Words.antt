@@ -1,9 +1,8 @@
 -- The words of a line, and the numbers among them.
 use Rattle.std.specs.Prelude.{ℕ, ◌^◌, Bool, true, false, ◌==◌, ◌&&◌, ◌||◌, not, nat_lt, List, [], ◌∷◌, filter, Option, Some, None}
 use Rattle.std.specs.Prelude.{if◌then◌else◌}
-use Rattle.std.specs.Char.{is_ascii_digit}
-use Rattle.std.specs.List.{list_all, slice_split}
 use Rattle.std.specs.Str.Parse.{digits_value}
+use Rattle.cx_base.specs.Prelude.{is_ascii_digit, list_all, slice_split}
 
 -- a space or a tab
 abbrev pub is_blank : ℕ → Bool

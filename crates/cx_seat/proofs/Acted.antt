@@ -1,12 +1,8 @@
 -- What a seat's role did is what the seat shows.
-use Rattle.std.proofs.Common.{◌≡◌, ℕ, List, ap, sym, ◌∙◌}
-use Rattle.cx_letter.specs.Letter.{Letter}
-use Rattle.cx_letter.specs.declared.input.Input.{Input}
-use Rattle.cx_course.specs.declared.doing.Doing.{Doing}
-use Rattle.cx_course.specs.declared.doing.Doing.TheVariants.{Give}
+use Rattle.cx_inv_run.proofs.Common.{◌≡◌, ℕ, List, ap, sym, ◌∙◌, Letter, Input}
+use Rattle.cx_seat.specs.Prelude.{Doing, Give, hosted_of, Step}
 use Rattle.cx_seat.specs.declared.guest.Guest.{Guest}
-use Rattle.cx_seat.specs.Guest.{hosted_of}
-use Rattle.cx_course.specs.Hosted.{Step, does, given}
+use Rattle.cx_course.specs.Hosted.{does, given}
 
 -- what a role that the seat shows was given is what was to be done
 pub given_is : {K : Type 0} (h self : Guest K) (what : Doing) (n : ℕ) (i : Input) → h ≡ self → what ≡ Give n i

@@ -1,15 +1,10 @@
 -- A client's name stays.
-use Rattle.std.proofs.Common.{◌≡◌, ◌&&◌, ℕ, Option, None, Some, ap, refl}
-use Rattle.cx_base.specs.declared.why.Why.TheVariants.{Heard, Stranger}
-use Rattle.cx_base.specs.Role.{same_role}
-use Rattle.cx_client.specs.Client.{ClientMoved, ClientState, answer_number, client_completes, client_takes, client_ticks}
-use Rattle.cx_client.specs.Client.{client_told, hearing, left, client_stays}
+use Rattle.cx_role.proofs.Common.{◌≡◌, ◌&&◌, ℕ, Option, None, Some, ap, refl, Stranger, same_role, mark_told, names, either_way, Letter}
+use Rattle.cx_base.specs.declared.why.Why.TheVariants.{Heard}
+use Rattle.cx_client.specs.Client.{ClientMoved, ClientState, answer_number, client_completes, client_takes, client_ticks, client_told}
+use Rattle.cx_client.specs.Client.{hearing, left, client_stays}
 use Rattle.cx_client.specs.Window.{is_outstanding}
 use Rattle.cx_client.proofs.Steps.{ticks_same}
-use Rattle.cx_model.specs.Heard.{mark_told}
-use Rattle.cx_model.specs.Names.{names}
-use Rattle.cx_model.specs.Outcome.{either_way}
-use Rattle.cx_letter.specs.Letter.{Letter}
 
 told_name : (s : ClientState) (at : ℕ) (o : Option ℕ) → (client_told s at o).state.me ≡ s.me
 told_name s at None = refl

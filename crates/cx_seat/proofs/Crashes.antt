@@ -1,64 +1,32 @@
 -- What a cut event keeps, and the store of its run.
-use Rattle.std.proofs.Common.{◌≡◌, ◌∙◌, ℕ, Bool, true, false, List, [], ◌∷◌, ◌++◌, Option, None, Some, Result, is_some}
-use Rattle.std.proofs.Common.{ap, sym, refl, subst, inl, inr, append-nil}
-use Rattle.std.specs.Prelude.{◌-◌, drop, length, map, slice_get}
-use Rattle.std.specs.List.{list_all}
-use Rattle.std.specs.Option.{option_map}
-use Rattle.std.proofs.lemmas.List.Folds.{list_all-append}
-use Rattle.std.proofs.lemmas.Bool.{cases_Bool}
-use Rattle.cx_base.specs.declared.cluster.Cluster.{Cluster}
-use Rattle.cx_base.specs.declared.event.Cut.{Cut}
-use Rattle.cx_base.specs.declared.event.Cut.TheVariants.{Whole, Torn, Kept}
-use Rattle.cx_base.specs.declared.event.Event.{Event}
+use Rattle.cx_inv_run.proofs.Common.{◌≡◌, ◌∙◌, ℕ, Bool, true, false, List, [], ◌∷◌, ◌++◌, Option, None, Some, ap, sym, refl, subst, inl}
+use Rattle.cx_inv_run.proofs.Common.{inr, append-nil, ◌-◌, drop, length, map, slice_get, list_all, option_map, list_all-append, cases_Bool}
+use Rattle.cx_inv_run.proofs.Common.{Cluster, Cut, Whole, Torn, Kept, Event, Kind, RoleId, role, same_role, same_role-true, Member, Outcome}
+use Rattle.cx_inv_run.proofs.Common.{ReplicaDurable, held, replica_renewed, replica_rules, Rules, folded, snap_turn, turn, turn_with, World}
+use Rattle.cx_inv_run.proofs.Common.{act_of, change, come, durable_part, kept_by, list_after, run, State, replica_volatile, IsKeeper}
+use Rattle.cx_inv_run.proofs.Common.{kinds_are_so, Member-second, run_append, Letter, Act, Give, Snap, Input, KeptRecord, Written, Record}
+use Rattle.cx_journal.proofs.Common.{Result, is_some, fits, record_shape, all_kept_by, is_kept_by, may_keep, all_kept-push, both_so}
+use Rattle.cx_role.specs.Prelude.{notes_of, pieces, Append, KeeperChange, Renewal, KeepFault}
+use Rattle.cx_seat.specs.Prelude.{Files, files_records, IsStoreChange, store_told, RecordStore, One, Two, has_second, is_two}
 use Rattle.cx_base.specs.declared.event.Event.TheVariants as event
 use Rattle.cx_base.specs.declared.event.Order.TheVariants as order
-use Rattle.cx_base.specs.declared.role.Kind.{Kind}
 use Rattle.cx_base.specs.declared.role.Kind.TheVariants as kind
-use Rattle.cx_base.specs.declared.role.RoleId.{RoleId}
-use Rattle.cx_base.specs.Role.{role, same_role}
-use Rattle.cx_model.specs.Lists.{same_role-true}
-use Rattle.cx_model.specs.Member.{Member}
-use Rattle.cx_model.specs.Outcome.{Outcome}
-use Rattle.cx_model.specs.Replica.{ReplicaDurable, held, notes_of, pieces, replica_renewed, replica_rules}
-use Rattle.cx_model.specs.Rules.{Rules, folded}
-use Rattle.cx_model.specs.Turn.{snap_turn, turn, turn_with}
-use Rattle.cx_model.specs.World.{World, act_of, change, come, durable_part, kept_by, list_after, list_after_kept, run}
-use Rattle.cx_model.specs.World.{step}
-use Rattle.cx_model.specs.State.{State, replica_volatile}
+use Rattle.cx_model.specs.World.{list_after_kept, step}
 use Rattle.cx_inv_open.specs.Reopened.{stored_as}
-use Rattle.cx_inv_run.specs.Kinds.{IsKeeper, IsWriter}
-use Rattle.cx_inv_run.proofs.KindLaws.{kinds_are_so}
-use Rattle.cx_inv_run.proofs.Members.{Member-second}
-use Rattle.cx_inv_run.proofs.Steps.{run_append}
-use Rattle.cx_letter.specs.Letter.{Letter}
-use Rattle.cx_letter.specs.declared.input.Act.{Act}
-use Rattle.cx_letter.specs.declared.input.Act.TheVariants.{Give, Snap}
-use Rattle.cx_letter.specs.declared.input.Input.{Input}
+use Rattle.cx_inv_run.specs.Kinds.{IsWriter}
 use Rattle.cx_letter.specs.declared.input.Input.TheVariants as input
-use Rattle.cx_letter.specs.declared.input.KeptRecord.{KeptRecord}
-use Rattle.cx_letter.specs.declared.input.Written.{Written}
 use Rattle.cx_letter.specs.declared.input.Written.TheVariants as written
-use Rattle.cx_letter.specs.declared.kept.Record.{Record}
 use Rattle.cx_letter.specs.declared.kept.Record.TheVariants as kept_record
-use Rattle.cx_letter.specs.Records.{fits, record_shape}
-use Rattle.cx_journal.specs.Payload.{all_kept_by, is_kept_by, may_keep}
 use Rattle.cx_disk.specs.declared.disk.Disk.{Ghosts as DiskGhosts}
-use Rattle.cx_journal.specs.Files.{Files, IsFilesImageOf, files_records, one_told}
-use Rattle.cx_journal.specs.Store.{IsStoreChange, store_told}
+use Rattle.cx_journal.specs.Files.{IsFilesImageOf, one_told}
 use Rattle.cx_journal.specs.StoreLaw.{both_records, one_records, one_tells}
-use Rattle.cx_journal.specs.declared.store.RecordStore.{RecordStore}
-use Rattle.cx_journal.specs.declared.store.RecordStore.TheVariants.{One, Two}
 use Rattle.cx_journal.proofs.Stores.{two_tell}
-use Rattle.cx_keep.specs.Keeper.{Append, KeeperChange, Renewal, list_after as change_after}
-use Rattle.cx_keep.specs.declared.keeper.KeepFault.{KeepFault}
-use Rattle.cx_journal.proofs.Gates.{all_kept-push}
-use Rattle.cx_journal.proofs.Payloads.{both_so}
+use Rattle.cx_keep.specs.Keeper.{list_after as change_after}
 use Rattle.cx_promises.proofs.Lawful.{lawful}
 use Rattle.cx_course.specs.Changing.{change_for}
 use Rattle.cx_course.proofs.Roles.{MayWrite, acts_by, stored_by}
 use Rattle.cx_course.proofs.Stores.{own_written}
 use Rattle.cx_seat.specs.Stops.{IsOfRun, MayChange, with_cut}
-use Rattle.cx_seat.specs.Stores.{has_second, is_two}
 
 -- cut events keep nothing, or the change
 pub record CutKeeps (me : RoleId) (what : Written) (torn kept : List KeptRecord) : Type 0 where

@@ -1,16 +1,8 @@
 -- What a step or a snap of a role that ended early is for its seat.
-use Rattle.std.proofs.Common.{◌≡◌, ◌⊎◌, Bool, List, [], Option, Some, Err, refl, sym, ap, subst, inl, inr}
-use Rattle.std.specs.Prelude.{slice_get}
-use Rattle.std.specs.Option.{option_map}
-use Rattle.cx_base.specs.declared.role.RoleId.{RoleId}
-use Rattle.cx_keep.specs.Keeper.{Append, KeeperChange, Renewal}
-use Rattle.cx_keep.specs.declared.keeper.KeepFault.{KeepFault}
-use Rattle.cx_keep.specs.declared.keeper.KeepFault.TheVariants.{Failed, NoMemory}
-use Rattle.cx_model.specs.Outcome.{Outcome}
-use Rattle.cx_model.specs.Replica.{ReplicaDurable, ReplicaVolatile, replica_renewed, replica_rules}
-use Rattle.cx_model.specs.Rules.{Rules, Running}
-use Rattle.cx_letter.specs.Letter.{Letter}
-use Rattle.cx_letter.specs.declared.kept.Record.{Record}
+use Rattle.cx_role.proofs.Common.{◌≡◌, ◌⊎◌, Bool, List, [], Option, Some, Err, refl, sym, ap, subst, inl, inr, slice_get, option_map}
+use Rattle.cx_role.proofs.Common.{RoleId, Append, KeeperChange, Renewal, KeepFault, Failed, Outcome, ReplicaDurable, ReplicaVolatile}
+use Rattle.cx_role.proofs.Common.{replica_renewed, replica_rules, Rules, Running, Letter, Record}
+use Rattle.cx_keep.specs.declared.keeper.KeepFault.TheVariants.{NoMemory}
 use Rattle.cx_role.specs.Role.{Appending, IsStep, Refuses as RefusesAppend}
 use Rattle.cx_role.specs.Snap.{IsSnap, Renewing}
 use Rattle.cx_seat.specs.declared.guest.Guest.TheVariants as guest

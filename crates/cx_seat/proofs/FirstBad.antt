@@ -1,23 +1,11 @@
 -- The first role whose store is none of its own: opening stops at it, and it is one role, bad at one place.
-use Rattle.std.proofs.Common.{◌≡◌, ◌⊎◌, ◌<◌, ◌≤◌, ◌++◌, ℕ, arith, true, List, length, take, get_or, Option, None}
-use Rattle.std.proofs.Common.{Some, Bool, Ok, Err, sym, ap, ◌∙◌, subst, inl, inr}
-use Rattle.std.specs.Prelude.{slice_get}
-use Rattle.std.proofs.lemmas.Option.{same_Some, slice_get_cases}
-use Rattle.cx_base.specs.declared.cluster.Cluster.{Cluster}
-use Rattle.cx_base.specs.declared.event.Event.{Event}
-use Rattle.cx_base.specs.declared.role.Kind.{Kind}
-use Rattle.cx_base.specs.declared.role.Kind.TheVariants.{Client, Batcher, Proxy, Unbatcher}
-use Rattle.cx_base.specs.declared.role.RoleId.{RoleId}
+use Rattle.cx_journal.proofs.Common.{front_in, Image, frames, payloads}
+use Rattle.cx_role.proofs.Common.{◌≡◌, ◌⊎◌, ◌<◌, ◌≤◌, ◌++◌, ℕ, arith, true, List, length, take, get_or, Option, None, Some, Bool, Ok, Err}
+use Rattle.cx_role.proofs.Common.{sym, ap, ◌∙◌, subst, inl, inr, slice_get, same_Some, slice_get_cases, Cluster, Event, Kind, Client}
+use Rattle.cx_role.proofs.Common.{Batcher, Proxy, Unbatcher, RoleId, Record}
+use Rattle.cx_seat.specs.Prelude.{ClientOptions, Files, RecordStore, AreOpened, IsBadAs, IsFirstBad}
 use Rattle.cx_inv_open.specs.Reopened.{refused_as}
-use Rattle.cx_client.specs.declared.asking.ClientOptions.{ClientOptions}
-use Rattle.cx_journal.specs.Files.{Files, front_in}
-use Rattle.cx_journal.specs.Image.{Image}
-use Rattle.cx_journal.specs.Journal.{frames}
-use Rattle.cx_journal.specs.Payload.{payloads}
-use Rattle.cx_journal.specs.declared.store.RecordStore.{RecordStore}
-use Rattle.cx_letter.specs.declared.kept.Record.{Record}
 use Rattle.cx_seat.specs.declared.guest.Guest.{Guest}
-use Rattle.cx_seat.specs.Opening.{AreOpened, IsBadAs, IsFirstBad}
 use Rattle.cx_seat.proofs.OpenedRoles.{IsBadFor, good_opened}
 
 -- ---- one place

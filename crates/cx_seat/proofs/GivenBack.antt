@@ -1,28 +1,16 @@
 -- What a depot holds and counts when the disks of roles were given back.
-use Rattle.std.proofs.Common.{◌≡◌, ◌≤◌, ◌⊎◌, ℕ, zero, suc, arith, true, List, [], ◌∷◌, ◌++◌, length, refl, sym, ap, subst, ◌∙◌}
-use Rattle.std.proofs.Common.{Option, None, Some, inl, inr, slice_get, option_map}
-use Rattle.std.proofs.lemmas.Bool.{cases_Bool}
-use Rattle.std.proofs.lemmas.List.{map-append}
-use Rattle.std.proofs.lemmas.Option.{none-some, same_Some, slice_get-map}
-use Rattle.cx_base.specs.declared.role.RoleId.{RoleId}
-use Rattle.cx_base.specs.Faults.{Rises}
-use Rattle.cx_base.specs.Role.{same_role}
+use Rattle.cx_role.proofs.Common.{◌≡◌, ◌≤◌, ◌⊎◌, ℕ, zero, suc, arith, true, List, [], ◌∷◌, ◌++◌, length, refl, sym, ap, subst, ◌∙◌, Option}
+use Rattle.cx_role.proofs.Common.{None, Some, inl, inr, slice_get, option_map, cases_Bool, map-append, none-some, same_Some, slice_get-map}
+use Rattle.cx_role.proofs.Common.{RoleId, Rises, same_role, same_role-true}
+use Rattle.cx_seat.specs.Prelude.{shelf, Shelf, RecordStore, One, Two, AreDistinct, hosted_in, hosted_of, keeper_of, who, disks_in, lent_to}
+use Rattle.cx_seat.specs.Prelude.{Lent, disks_of, places_of}
 use Rattle.cx_edge.proofs.ShelfLaws.{same_shelf-itself}
 use Rattle.cx_edge.specs.Depot.{IsOut, without}
-use Rattle.cx_edge.specs.Shelf.{shelf}
-use Rattle.cx_edge.specs.declared.shelf.Shelf.{Shelf}
-use Rattle.cx_journal.specs.declared.store.RecordStore.{RecordStore}
-use Rattle.cx_journal.specs.declared.store.RecordStore.TheVariants.{One, Two}
 use Rattle.cx_journal.specs.State.{JournalState}
 use Rattle.cx_journal.specs.Twin.{TwinState}
-use Rattle.cx_model.specs.Lists.{same_role-true}
 use Rattle.cx_seat.specs.declared.guest.Guest.{Guest}
 use Rattle.cx_seat.proofs.Lent.{others_differ, role_of_disk}
 use Rattle.cx_seat.proofs.StoresBack.{Shown, IsGivenBack, GiveBack}
-use Rattle.cx_course.specs.Alike.{AreDistinct}
-use Rattle.cx_seat.specs.Guest.{hosted_in, hosted_of, keeper_of, who}
-use Rattle.cx_seat.specs.Opening.{disks_in, lent_to}
-use Rattle.cx_seat.specs.Stores.{Lent, disks_of, places_of}
 
 pub no_items : {T : Type 0} (xs : List T) (n : ℕ) → length xs ≡ n → n ≡ 0 → xs ≡ []
 no_items [] n size none = refl

@@ -1,18 +1,11 @@
 -- What is left of a depot by the opening of one role.
-use Rattle.std.proofs.Common.{◌≡◌, ◌≤◌, ◌⊎◌, ℕ, arith, true, false, List, ◌++◌, Some, Result, Ok, Err, inl, inr}
-use Rattle.std.proofs.Common.{sym, ap, subst, ◌∙◌}
-use Rattle.std.proofs.lemmas.Bool.{cases_Bool}
-use Rattle.cx_base.specs.declared.role.RoleId.{RoleId}
-use Rattle.cx_base.specs.Role.{same_role}
-use Rattle.cx_edge.specs.Shelf.{shelf}
+use Rattle.cx_role.proofs.Common.{◌≡◌, ◌≤◌, ◌⊎◌, ℕ, arith, true, false, List, ◌++◌, Some, Result, Ok, Err, inl, inr, sym, ap, subst, ◌∙◌}
+use Rattle.cx_role.proofs.Common.{cases_Bool, RoleId, same_role, same_role-true}
+use Rattle.cx_seat.specs.Prelude.{shelf, Shelf, files_records, files_of}
 use Rattle.cx_edge.specs.declared.depot.Depot.{Ghosts as DepotGhosts}
-use Rattle.cx_edge.specs.declared.shelf.Shelf.{Shelf}
-use Rattle.cx_journal.specs.Files.{files_records}
-use Rattle.cx_model.specs.Lists.{same_role-true}
 use Rattle.cx_seat.specs.declared.opening.OpenStop.{OpenStop}
 use Rattle.cx_seat.specs.declared.opening.OpenStop.TheVariants as open_stop
 use Rattle.cx_seat.specs.Opening.{LendsFor}
-use Rattle.cx_seat.specs.Stores.{files_of}
 use Rattle.cx_seat.proofs.Lent.{none_falls, others_differ, records_stay, same_records}
 
 -- Nothing of another role changes, and this one's count doesn't fall.

@@ -1,32 +1,17 @@
 -- The stores that are out, as they are lent and given back, and what stores hold that were given back.
-use Rattle.std.proofs.Common.{◌≡◌, ◌≤◌, ℕ, zero, suc, arith, Bool, true, false, List, [], ◌∷◌, ◌++◌, length}
-use Rattle.std.proofs.Common.{refl, sym, ap, subst, ◌∙◌, append_assoc, append-nil, Option, None, Some, Result, Ok, Err}
-use Rattle.std.proofs.Common.{is_some, inl, inr, slice_get}
-use Rattle.std.specs.List.{list_any}
-use Rattle.std.proofs.lemmas.Bool.{cases_Bool}
-use Rattle.std.proofs.lemmas.Grind.{flat_map-append}
-use Rattle.std.proofs.lemmas.List.{map-append}
-use Rattle.std.proofs.lemmas.Option.{none-some, same_Some, slice_get_within}
-use Rattle.cx_base.specs.declared.cluster.Cluster.{Cluster}
-use Rattle.cx_base.specs.declared.event.Event.{Event}
-use Rattle.cx_base.specs.declared.role.RoleId.{RoleId}
-use Rattle.cx_base.specs.Role.{same_role}
-use Rattle.cx_client.specs.declared.asking.ClientOptions.{ClientOptions}
+use Rattle.cx_journal.proofs.Common.{TwoFiles, SameImage, SamePair}
+use Rattle.cx_role.proofs.Common.{◌≡◌, ◌≤◌, ℕ, zero, suc, arith, Bool, true, false, List, [], ◌∷◌, ◌++◌, length, refl, sym, ap, subst, ◌∙◌}
+use Rattle.cx_role.proofs.Common.{append_assoc, append-nil, Option, None, Some, Result, Ok, Err, is_some, inl, inr, slice_get, list_any}
+use Rattle.cx_role.proofs.Common.{cases_Bool, flat_map-append, map-append, none-some, same_Some, slice_get_within, Cluster, Event, RoleId}
+use Rattle.cx_role.proofs.Common.{same_role, same_role-true, same_role-itself}
+use Rattle.cx_seat.specs.Prelude.{ClientOptions, shelf, Shelf, Files, OneFile, files_records, records_or_none, RecordStore, One, Two}
+use Rattle.cx_seat.specs.Prelude.{keeper_of, who, AreOpened, IsOpened, disks_in, lent_to, Lent, disks_of, files_of, has_second, places_of}
 use Rattle.cx_edge.proofs.ShelfLaws.{out_last, same_shelf-itself, without_last}
 use Rattle.cx_edge.specs.Depot.{IsOut, without}
-use Rattle.cx_edge.specs.Shelf.{same_shelf, shelf}
-use Rattle.cx_edge.specs.declared.shelf.Shelf.{Shelf}
-use Rattle.cx_journal.specs.Files.{Files, OneFile, TwoFiles, files_records}
-use Rattle.cx_journal.specs.Image.{SameImage}
-use Rattle.cx_journal.specs.State.{records_or_none}
-use Rattle.cx_journal.specs.Twin.{SamePair}
-use Rattle.cx_journal.specs.declared.store.RecordStore.{RecordStore}
-use Rattle.cx_journal.specs.declared.store.RecordStore.TheVariants.{One, Two}
-use Rattle.cx_model.specs.Lists.{same_role-true, same_role-itself}
+use Rattle.cx_edge.specs.Shelf.{same_shelf}
 use Rattle.cx_seat.specs.declared.guest.Guest.{Guest}
-use Rattle.cx_seat.specs.Guest.{keeper_of, who}
-use Rattle.cx_seat.specs.Opening.{AreOpened, IsOpened, NoneIsOut, disks_in, lent_to}
-use Rattle.cx_seat.specs.Stores.{Lent, SameRecords, disks_of, files_by, files_of, has_second, places_of}
+use Rattle.cx_seat.specs.Opening.{NoneIsOut}
+use Rattle.cx_seat.specs.Stores.{SameRecords, files_by}
 use Rattle.cx_seat.proofs.OpenedRoles.{name_is}
 
 true_is_false : true ≡ false → ⊥

@@ -1,10 +1,8 @@
 -- A hosted role under its own name is itself.
-use Rattle.std.proofs.Common.{◌≡◌, IsTrue, ap, sym, ◌∙◌, refl, subst}
-use Rattle.cx_base.specs.declared.role.RoleId.{RoleId}
+use Rattle.cx_role.proofs.Common.{◌≡◌, IsTrue, ap, sym, ◌∙◌, refl, subst, RoleId}
+use Rattle.cx_seat.specs.Prelude.{hosted_of, keeper_of, who, is_live_role}
 use Rattle.cx_seat.specs.declared.guest.Guest.{Guest}
 use Rattle.cx_seat.specs.declared.guest.Guest.TheVariants as guest
-use Rattle.cx_seat.specs.Guest.{hosted_of, keeper_of, who}
-use Rattle.cx_course.specs.Hosted.{is_live_role}
 use Rattle.cx_seat.specs.Seat.{IsNamed, named}
 
 own_named : {K : Type 0} (h : Guest K) → named (who h) h ≡ h

@@ -1,30 +1,14 @@
 -- Roles that were opened: they are who they were named to be, they may run, and what each was opened from.
-use Rattle.std.proofs.Common.{◌≡◌, ◌⊎◌, ◌++◌, ℕ, zero, suc, arith, Bool, true, false, List, [], ◌∷◌, length, map, take, Option, None}
-use Rattle.std.proofs.Common.{Some, option_map, Ok, Err, refl, sym, ap, ◌∙◌, subst, inl, inr}
-use Rattle.std.specs.Prelude.{slice_get, IsTrue}
-use Rattle.std.specs.List.{list_all}
-use Rattle.std.proofs.lemmas.Option.{none-some, same_Some}
-use Rattle.cx_base.specs.declared.cluster.Cluster.{Cluster}
-use Rattle.cx_base.specs.declared.event.Event.{Event}
-use Rattle.cx_base.specs.declared.role.Kind.{Kind}
-use Rattle.cx_base.specs.declared.role.Kind.TheVariants.{Client, Batcher, Proxy, Unbatcher}
-use Rattle.cx_base.specs.declared.role.RoleId.{RoleId}
+use Rattle.cx_journal.proofs.Common.{front_in, Image, frames, payloads, both_so}
+use Rattle.cx_role.proofs.Common.{◌≡◌, ◌⊎◌, ◌++◌, ℕ, zero, suc, arith, Bool, true, false, List, [], ◌∷◌, length, map, take, Option, None}
+use Rattle.cx_role.proofs.Common.{Some, option_map, Ok, Err, refl, sym, ap, ◌∙◌, subst, inl, inr, slice_get, IsTrue, list_all, none-some}
+use Rattle.cx_role.proofs.Common.{same_Some, Cluster, Event, Kind, Client, Batcher, Proxy, Unbatcher, RoleId, names_role, Record}
+use Rattle.cx_seat.specs.Prelude.{ClientOptions, Files, files_image, RecordStore, AreDistinct, AreReady, hosted_in, hosted_of, keeper_of}
+use Rattle.cx_seat.specs.Prelude.{who, is_live_role, kind_at, name_of, AreApart, AreOpened, IsBadAs, IsOpened, is_durable, opened_as}
+use Rattle.cx_seat.specs.Prelude.{has_second}
 use Rattle.cx_inv_open.specs.Reopened.{refused_as}
-use Rattle.cx_client.specs.declared.asking.ClientOptions.{ClientOptions}
-use Rattle.cx_journal.specs.Files.{Files, files_image, front_in}
-use Rattle.cx_journal.specs.Image.{Image}
-use Rattle.cx_journal.specs.Journal.{frames}
-use Rattle.cx_journal.specs.Payload.{payloads}
-use Rattle.cx_journal.specs.declared.store.RecordStore.{RecordStore}
-use Rattle.cx_journal.proofs.Payloads.{both_so}
-use Rattle.cx_model.specs.Names.{names_role}
-use Rattle.cx_letter.specs.declared.kept.Record.{Record}
 use Rattle.cx_seat.specs.declared.guest.Guest.{Guest}
-use Rattle.cx_course.specs.Alike.{AreDistinct}
-use Rattle.cx_seat.specs.Guest.{AreReady, hosted_in, hosted_of, keeper_of, who}
-use Rattle.cx_course.specs.Hosted.{is_live_role, kind_at, name_of}
-use Rattle.cx_seat.specs.Opening.{AreApart, AreOpened, HasRecords, HasStore, IsBadAs, IsOpened, is_durable, opened_as}
-use Rattle.cx_seat.specs.Stores.{has_second}
+use Rattle.cx_seat.specs.Opening.{HasRecords, HasStore}
 
 -- ---- places in two lists
 

@@ -1,11 +1,6 @@
 -- A record that is refused stands in the list, or the list ends too early, and its end is refused.
-use Rattle.std.proofs.Common.{◌≡◌, ◌+◌, ◌≤◌, ℕ, List, [], ◌∷◌, length, None, Some, arith, inl, inr}
-use Rattle.std.proofs.lemmas.Bool.{cases_Bool}
-use Rattle.std.proofs.lemmas.Option.{same_Some}
-use Rattle.cx_base.specs.declared.cluster.Cluster.{Cluster}
-use Rattle.cx_base.specs.declared.role.RoleId.{RoleId}
-use Rattle.cx_model.specs.Rules.{Rules, refused, refused_from}
-use Rattle.cx_letter.specs.declared.kept.Record.{Record}
+use Rattle.cx_inv_run.proofs.Common.{◌≡◌, ◌+◌, ◌≤◌, ℕ, List, [], ◌∷◌, length, None, Some, arith, inl, inr, cases_Bool, same_Some, Cluster}
+use Rattle.cx_inv_run.proofs.Common.{RoleId, Rules, refused, refused_from, Record}
 
 refused_before : {D V : Type 0} (rules : Rules D V) (c : Cluster) (me : RoleId) (d : D) (start : ℕ) (rs : List Record)
     (i : ℕ) → refused_from rules c me d start rs ≡ Some i → i ≤ start + length rs

@@ -1,11 +1,8 @@
 -- Disks that are given back to their depot, one after the other.
-use Rattle.std.specs.Prelude.{◌≡◌, ◌≤◌, ℕ, Bool, true, List, [], ◌∷◌, Option, Some}
-use Rattle.cx_base.specs.declared.role.RoleId.{RoleId}
-use Rattle.cx_base.specs.Faults.{Rises}
+use Rattle.cx_letter.specs.Prelude.{◌≡◌, ◌≤◌, ℕ, Bool, true, List, [], ◌∷◌, Option, Some, RoleId, Rises}
+use Rattle.cx_seat.specs.Prelude.{Shelf, Lent}
 use Rattle.cx_disk.specs.declared.disk.Disk.{Ghosts as DiskGhosts}
 use Rattle.cx_edge.specs.declared.depot.Depot.{Ghosts as DepotGhosts}
-use Rattle.cx_edge.specs.declared.shelf.Shelf.{Shelf}
-use Rattle.cx_seat.specs.Stores.{Lent}
 
 -- what a depot shows: what it holds, whether that is known, and its counts
 pub record Shown (D S : Type 0) : Type 0 where

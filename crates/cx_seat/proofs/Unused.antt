@@ -1,22 +1,13 @@
 -- Stores without records, the first one that has some, and the roles that are opened from stores without any.
-use Rattle.std.proofs.Common.{◌≡◌, ◌<◌, ◌+◌, ◌==◌, ◌&&◌, not, ℕ, zero, suc, arith, Bool, true, false, List, [], ◌∷◌, length}
-use Rattle.std.proofs.Common.{Option, None, Some, Ok, refl, sym, ap, ◌∙◌, subst}
-use Rattle.std.specs.Prelude.{slice_get, if◌then◌else◌}
 use Rattle.std.proofs.lemmas.Bool.{eq-eqb, ne_eqb}
-use Rattle.std.proofs.lemmas.Option.{none-some, same_Some}
-use Rattle.cx_base.specs.declared.cluster.Cluster.{Cluster}
-use Rattle.cx_base.specs.declared.event.Event.{Event}
-use Rattle.cx_base.specs.declared.role.RoleId.{RoleId}
-use Rattle.cx_client.specs.declared.asking.ClientOptions.{ClientOptions}
-use Rattle.cx_journal.specs.Files.{Files, files_image}
-use Rattle.cx_journal.specs.State.{has_some, records_or_none}
-use Rattle.cx_journal.specs.declared.store.RecordStore.{RecordStore}
-use Rattle.cx_letter.specs.declared.kept.Record.{Record}
+use Rattle.cx_role.proofs.Common.{◌≡◌, ◌<◌, ◌+◌, ◌==◌, ◌&&◌, not, ℕ, zero, suc, arith, Bool, true, false, List, [], ◌∷◌, length, Option}
+use Rattle.cx_role.proofs.Common.{None, Some, Ok, refl, sym, ap, ◌∙◌, subst, slice_get, if◌then◌else◌, none-some, same_Some, Cluster, Event}
+use Rattle.cx_role.proofs.Common.{RoleId, Record}
+use Rattle.cx_seat.specs.Prelude.{ClientOptions, Files, files_image, records_or_none, RecordStore, keeper_of, who, AreOpened, IsBadAs}
+use Rattle.cx_seat.specs.Prelude.{IsFirstUsed, IsOpened, first_holding, is_durable, is_store_used, has_second}
+use Rattle.cx_journal.specs.State.{has_some}
 use Rattle.cx_seat.specs.declared.guest.Guest.{Guest}
-use Rattle.cx_seat.specs.Guest.{keeper_of, who}
-use Rattle.cx_seat.specs.Opening.{AreOpened, HasStore, IsBadAs, IsFirstUsed, IsOpened, first_holding, holds_record, is_durable}
-use Rattle.cx_seat.specs.Opening.{is_store_used}
-use Rattle.cx_seat.specs.Stores.{has_second}
+use Rattle.cx_seat.specs.Opening.{HasStore, holds_record}
 use Rattle.cx_seat.proofs.OpenedRoles.{get_beside, good_opened, name_is}
 
 -- no store of these roles has a record

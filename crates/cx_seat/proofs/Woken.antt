@@ -1,22 +1,11 @@
 -- A role that could not be woken: the place in its store, and why it wasn't opened.
-use Rattle.std.proofs.Common.{◌≡◌, ◌++◌, ℕ, true, List, length, take, Option, Some, Ok, ap, subst, sym, ◌∙◌, inr}
-use Rattle.cx_base.specs.declared.cluster.Cluster.{Cluster}
-use Rattle.cx_base.specs.declared.role.Kind.{Kind}
-use Rattle.cx_base.specs.declared.role.RoleId.{RoleId}
-use Rattle.cx_edge.specs.Shelf.{shelf}
-use Rattle.cx_edge.specs.declared.shelf.Shelf.{Shelf}
-use Rattle.cx_journal.specs.Files.{TwoFiles, front_in}
-use Rattle.cx_journal.specs.Journal.{frames}
-use Rattle.cx_journal.specs.Pair.{front_of}
-use Rattle.cx_journal.specs.Payload.{payloads}
-use Rattle.cx_journal.specs.Twin.{pair_image}
-use Rattle.cx_model.specs.Rules.{Rules, refused}
-use Rattle.cx_letter.specs.declared.kept.Record.{Record}
+use Rattle.cx_model.specs.Prelude.{Cluster, RoleId, Rules, refused}
+use Rattle.cx_journal.proofs.Common.{◌≡◌, ◌++◌, ℕ, true, List, length, take, Option, Some, Ok, ap, subst, sym, ◌∙◌, inr, Kind, TwoFiles}
+use Rattle.cx_journal.proofs.Common.{front_in, frames, front_of, payloads, pair_image, Record}
+use Rattle.cx_seat.specs.Prelude.{shelf, Shelf, unwoken_stop, files_of, has_second}
 use Rattle.cx_seat.specs.declared.opening.OpenStop.TheVariants as open_stop
 use Rattle.cx_seat.specs.declared.waking.WakeStop.{WakeStop}
 use Rattle.cx_seat.specs.declared.waking.WakeStop.TheVariants as wake_stop
-use Rattle.cx_seat.specs.Opening.{unwoken_stop}
-use Rattle.cx_seat.specs.Stores.{files_of, has_second}
 use Rattle.cx_seat.specs.Wake.{IsBadStore}
 use Rattle.cx_seat.proofs.Lent.{two_files}
 

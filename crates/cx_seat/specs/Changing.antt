@@ -1,9 +1,6 @@
 -- What the store of a hosted role is asked to do with its list, and what it answers.
 use Rattle.std.specs.Prelude.{◌≡◌, ◌⊎◌, Result, Err}
-use Rattle.cx_keep.specs.Keeper.{KeeperChange, Append, Renewal}
-use Rattle.cx_keep.specs.declared.keeper.KeepFault.{KeepFault}
-use Rattle.cx_keep.specs.declared.keeper.KeepFault.TheVariants.{NoMemory}
-use Rattle.cx_role.specs.Role.{Appending}
+use Rattle.cx_role.specs.Prelude.{KeeperChange, Append, Renewal, KeepFault, NoMemory, Appending}
 use Rattle.cx_role.specs.Snap.{Renewing}
 
 -- what a change may answer, and leave

@@ -1,7 +1,6 @@
 -- What the giving back of stores leaves of a depot.
 use Rattle.std.specs.Prelude.{◌≡◌, ◌≤◌, ℕ, Bool, true, List, Option, Some, slice_get}
-use Rattle.cx_base.specs.declared.role.RoleId.{RoleId}
-use Rattle.cx_base.specs.Faults.{Rises}
+use Rattle.cx_letter.specs.Prelude.{RoleId, Rises}
 use Rattle.cx_disk.specs.declared.disk.Disk.{Ghosts as DiskGhosts}
 use Rattle.cx_edge.specs.declared.depot.Depot.{Ghosts as DepotGhosts}
 use Rattle.cx_edge.specs.declared.shelf.Shelf.{Shelf}

@@ -1,11 +1,8 @@
 -- A role with records, as it was woken from its store.
 use Rattle.std.specs.Prelude.{◌≡◌, ℕ, Bool, true, List, Option, None, Some, Ok}
-use Rattle.cx_base.specs.declared.cluster.Cluster.{Cluster}
-use Rattle.cx_base.specs.declared.role.RoleId.{RoleId}
+use Rattle.cx_model.specs.Prelude.{Cluster, RoleId, Rules, Running, opened, refused, Record}
 use Rattle.cx_journal.specs.Files.{Files, files_image}
 use Rattle.cx_journal.specs.declared.store.RecordStore.{RecordStore}
-use Rattle.cx_model.specs.Rules.{Rules, Running, opened, refused}
-use Rattle.cx_letter.specs.declared.kept.Record.{Record}
 use Rattle.cx_seat.specs.Opening.{HasRecords}
 use Rattle.cx_seat.specs.Stores.{has_second}
 

@@ -1,23 +1,15 @@
 -- What contracts see of a hosted role, and what its keeper was given.
-use Rattle.std.specs.Prelude.{◌≡◌, ℕ, List, [], ◌∷◌, map, Option, None, Some, Result, Ok, Err, slice_get}
-use Rattle.std.specs.Prelude.{IsErrOf, IsTrue, OnErr, OnOk, true}
-use Rattle.std.specs.Option.{option_map}
-use Rattle.cx_base.specs.declared.cluster.Cluster.{Cluster}
-use Rattle.cx_base.specs.declared.role.RoleId.{RoleId}
-use Rattle.cx_keep.specs.declared.keeper.KeepFault.{KeepFault}
-use Rattle.cx_keep.specs.declared.keeper.KeepFault.TheVariants.{Failed, NoMemory}
-use Rattle.cx_model.specs.Names.{names_role}
-use Rattle.cx_model.specs.Outcome.{Outcome}
-use Rattle.cx_model.specs.Rules.{Rules, Running, running_after}
-use Rattle.cx_letter.specs.Letter.{Letter}
-use Rattle.cx_keep.specs.Keeper.{Append, KeeperChange}
+use Rattle.std.specs.Prelude.{◌≡◌, ℕ, List, [], ◌∷◌, map, Option, None, Some, Result, Ok, Err, slice_get, IsErrOf, IsTrue, OnErr, OnOk}
+use Rattle.std.specs.Prelude.{true, option_map}
+use Rattle.cx_role.specs.Prelude.{Cluster, RoleId, KeepFault, Failed, NoMemory, names_role, Outcome, Rules, Running, running_after, Letter}
+use Rattle.cx_role.specs.Prelude.{Append, KeeperChange}
 use Rattle.cx_course.specs.Changing.{StoreChange, changed_by, changes_of}
 use Rattle.cx_course.specs.Alike.{AreDistinct}
 use Rattle.cx_seat.specs.Changing.{Changing, Refuses}
 use Rattle.cx_seat.specs.declared.guest.Guest.{Guest}
 use Rattle.cx_seat.specs.declared.guest.Guest.TheVariants as guest
-use Rattle.cx_course.specs.Hosted.{Hosted, ClientAt, BatcherAt, LeaderAt, ProxyAt, AcceptorAt, MatchmakerAt, ReplicaAt}
-use Rattle.cx_course.specs.Hosted.{UnbatcherAt, ReaderAt, ReplacerAt, Step, is_live_role, kind_at, name_of}
+use Rattle.cx_course.specs.Hosted.{Hosted, ClientAt, BatcherAt, LeaderAt, ProxyAt, AcceptorAt, MatchmakerAt, ReplicaAt, UnbatcherAt}
+use Rattle.cx_course.specs.Hosted.{ReaderAt, ReplacerAt, Step, is_live_role, kind_at, name_of}
 
 -- the hosted role
 abbrev pub hosted_of : {K : Type 0} → Guest K → Hosted

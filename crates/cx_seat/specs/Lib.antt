@@ -1,5 +1,6 @@
 pub mod Changing
 pub mod Guest
+pub mod Prelude
 pub mod Seat
 pub mod Stores
 pub mod Wake

@@ -1,7 +1,6 @@
 -- How a node that records takes down a step: its events, the datagrams that it sends, and the text.
 use Rattle.std.specs.Prelude.{ℕ, ◌+◌, List, ◌++◌, Option, None, Some}
-use Rattle.cx_base.specs.declared.event.Event.{Event}
-use Rattle.cx_letter.specs.Letter.{Letter}
+use Rattle.cx_letter.specs.Prelude.{Event, Letter}
 use Rattle.cx_record.specs.Lines.{events_text}
 use Rattle.cx_record.specs.Numbers.{Recorded}
 

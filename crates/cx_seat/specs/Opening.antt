@@ -1,13 +1,9 @@
 -- Hosted roles as they are opened, and the stores that are lent to them.
 use Rattle.std.specs.Prelude.{◌≡◌, ◌<◌, ◌≤◌, ◌+◌, ◌++◌, ◌==◌, ℕ, Bool, true, false, not, ◌&&◌, List, length, [], ◌∷◌, Option, None, Some}
-use Rattle.std.specs.Prelude.{Result, Ok, Err}
-use Rattle.std.specs.Prelude.{IfOk, OnErr, OnOk, is_some, slice_get, if◌then◌else◌}
-use Rattle.std.specs.List.{flat_map, list_any}
-use Rattle.cx_base.specs.declared.cluster.Cluster.{Cluster}
-use Rattle.cx_base.specs.declared.event.Event.{Event}
-use Rattle.cx_base.specs.declared.role.Kind.{Kind}
+use Rattle.std.specs.Prelude.{Result, Ok, Err, IfOk, OnErr, OnOk, is_some, slice_get, if◌then◌else◌, flat_map}
+use Rattle.cx_model.specs.Prelude.{list_any, Cluster, Event, Kind, RoleId, acceptor_rules, batcher_rules, leader_rules, matchmaker_rules}
+use Rattle.cx_model.specs.Prelude.{proxy_rules, reader_rules, replacer_rules, replica_rules, opened, unbatcher_rules, Record}
 use Rattle.cx_base.specs.declared.role.Kind.TheVariants as kind
-use Rattle.cx_base.specs.declared.role.RoleId.{RoleId}
 use Rattle.cx_client.specs.declared.asking.ClientOptions.{ClientOptions}
 use Rattle.cx_client.specs.Client.{client_opened}
 use Rattle.cx_edge.specs.declared.depot.Depot.{Ghosts as DepotGhosts}
@@ -18,17 +14,6 @@ use Rattle.cx_journal.specs.Files.{Files, files_image, files_records}
 use Rattle.cx_journal.specs.State.{has_some, records_or_none}
 use Rattle.cx_journal.specs.Store.{store_gates, store_told, store_whole}
 use Rattle.cx_journal.specs.declared.store.RecordStore.{RecordStore}
-use Rattle.cx_model.specs.Acceptor.{acceptor_rules}
-use Rattle.cx_model.specs.Batcher.{batcher_rules}
-use Rattle.cx_model.specs.Leader.{leader_rules}
-use Rattle.cx_model.specs.Matchmaker.{matchmaker_rules}
-use Rattle.cx_model.specs.Proxy.{proxy_rules}
-use Rattle.cx_model.specs.Reader.{reader_rules}
-use Rattle.cx_model.specs.Replacer.{replacer_rules}
-use Rattle.cx_model.specs.Replica.{replica_rules}
-use Rattle.cx_model.specs.Rules.{opened}
-use Rattle.cx_model.specs.Unbatcher.{unbatcher_rules}
-use Rattle.cx_letter.specs.declared.kept.Record.{Record}
 use Rattle.cx_script.specs.Requests.{script_of}
 use Rattle.cx_seat.specs.declared.guest.Guest.{Guest}
 use Rattle.cx_seat.specs.declared.opening.OpenStop.{OpenStop}
@@ -36,8 +21,8 @@ use Rattle.cx_seat.specs.declared.opening.OpenStop.TheVariants as open_stop
 use Rattle.cx_seat.specs.declared.waking.WakeStop.{WakeStop}
 use Rattle.cx_seat.specs.declared.waking.WakeStop.TheVariants as wake_stop
 use Rattle.cx_seat.specs.Guest.{hosted_of, keeper_of, who}
-use Rattle.cx_course.specs.Hosted.{Hosted, ClientAt, BatcherAt, LeaderAt, ProxyAt, AcceptorAt, MatchmakerAt, ReplicaAt}
-use Rattle.cx_course.specs.Hosted.{UnbatcherAt, ReaderAt, ReplacerAt}
+use Rattle.cx_course.specs.Hosted.{Hosted, ClientAt, BatcherAt, LeaderAt, ProxyAt, AcceptorAt, MatchmakerAt, ReplicaAt, UnbatcherAt}
+use Rattle.cx_course.specs.Hosted.{ReaderAt, ReplacerAt}
 use Rattle.cx_seat.specs.Stores.{Lent, NoneFailed, SameRecords, disks_of, files_of, has_second, is_two, places_of}
 use Rattle.cx_seat.specs.Wake.{IsBadStore}
 

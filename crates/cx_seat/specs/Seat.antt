@@ -1,9 +1,6 @@
 -- A hosted role under the name of its seat.
 use Rattle.std.specs.Prelude.{◌≡◌, ◌+◌, ℕ, min, Bool, false, IsTrue, Option, None, Some, if◌then◌else◌}
-use Rattle.std.specs.Option.{option_map_or}
-use Rattle.cx_base.specs.declared.role.RoleId.{RoleId}
-use Rattle.cx_model.specs.Leader.{LeaderDurable, LeaderVolatile}
-use Rattle.cx_model.specs.Rules.{Running}
+use Rattle.cx_role.specs.Prelude.{option_map_or, RoleId, LeaderDurable, LeaderVolatile, Running}
 use Rattle.cx_seat.specs.declared.guest.Guest.{Guest}
 use Rattle.cx_seat.specs.declared.guest.Guest.TheVariants as guest
 use Rattle.cx_seat.specs.Guest.{hosted_of, who}

@@ -1,17 +1,11 @@
 -- How the stop of a role within a change of its store is a crash of the model's run.
 use Rattle.std.specs.Prelude.{◌≡◌, ℕ, true, is_some, List, [], ◌∷◌, ◌++◌, Option, Some, Ok}
-use Rattle.cx_base.specs.declared.cluster.Cluster.{Cluster}
-use Rattle.cx_base.specs.declared.event.Cut.{Cut}
-use Rattle.cx_base.specs.declared.event.Cut.TheVariants.{Whole}
-use Rattle.cx_base.specs.declared.event.Event.{Event}
+use Rattle.cx_model.specs.Prelude.{Cluster, Cut, Whole, Event, RoleId, change, kept_by, run, Written}
 use Rattle.cx_base.specs.declared.event.Event.TheVariants as event
-use Rattle.cx_base.specs.declared.role.RoleId.{RoleId}
 use Rattle.cx_journal.specs.Files.{Files, files_image, files_records}
 use Rattle.cx_journal.specs.Store.{store_told, store_whole}
 use Rattle.cx_journal.specs.declared.store.RecordStore.{RecordStore}
 use Rattle.cx_inv_open.specs.Reopened.{stored_as}
-use Rattle.cx_model.specs.World.{change, kept_by, run}
-use Rattle.cx_letter.specs.declared.input.Written.{Written}
 use Rattle.cx_promises.specs.Lawful.{IsLawful}
 use Rattle.cx_seat.specs.Stores.{has_second, is_two}
 

@@ -1,8 +1,7 @@
 -- The stores of a role in a depot: one, or of a replica two.
 use Rattle.std.specs.Prelude.{◌≡◌, ℕ, Bool, true, false, List, [], ◌∷◌, map, Option, None, Some}
-use Rattle.cx_base.specs.declared.role.Kind.{Kind}
+use Rattle.cx_letter.specs.Prelude.{Kind, RoleId}
 use Rattle.cx_base.specs.declared.role.Kind.TheVariants as kind
-use Rattle.cx_base.specs.declared.role.RoleId.{RoleId}
 use Rattle.cx_edge.specs.declared.shelf.Shelf.{Shelf}
 use Rattle.cx_edge.specs.Shelf.{shelf}
 use Rattle.cx_journal.specs.Files.{Files, OneFile, TwoFiles, files_records}

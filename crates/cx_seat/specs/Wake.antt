@@ -1,12 +1,9 @@
 -- How a role is woken from the bytes of its store.
 use Rattle.std.specs.Prelude.{◌≡◌, ◌⊎◌, ◌+◌, ◌++◌, ℕ, List, length, take, Option, None, Some, Ok, Err, is_some}
-use Rattle.cx_base.specs.declared.cluster.Cluster.{Cluster}
-use Rattle.cx_base.specs.declared.role.RoleId.{RoleId}
+use Rattle.cx_model.specs.Prelude.{Cluster, RoleId, Rules, Running, opened, refused, Record}
 use Rattle.cx_journal.specs.Files.{Files, files_image, files_records, front_in}
 use Rattle.cx_journal.specs.Journal.{frames}
 use Rattle.cx_journal.specs.Payload.{payloads}
-use Rattle.cx_model.specs.Rules.{Rules, Running, opened, refused}
-use Rattle.cx_letter.specs.declared.kept.Record.{Record}
 
 -- A role as the records of a store leave it: they are those of its bytes, each is one that the role could have
 -- appended, and the store has them, each with a gate.

@@ -1,19 +1,13 @@
 -- What is noted once a client's entry has changed.
-use Rattle.std.proofs.Common.{◌≡◌, ◌⊎◌, ℕ, zero, suc, ◌+◌, ◌≤◌, true, false, cond, List, [], ◌∷◌, inl, inr, ap, sym}
-use Rattle.std.proofs.Common.{subst, ◌∙◌, refl, arith}
-use Rattle.std.specs.Prelude.{◌==◌, nat_eq, slice_get, if◌then◌else◌, None, Some}
 use Rattle.std.specs.Cmp.{nat_eq_equiv}
-use Rattle.std.specs.List.{IsDistinct, position_or_len}
-use Rattle.std.specs.Map.{keys_of, lookup, lookup_key, values_of}
-use Rattle.std.proofs.lemmas.Bool.{cases_Bool, eqb-true}
-use Rattle.std.proofs.lemmas.Bool.Decides.{nat_tests}
-use Rattle.std.proofs.lemmas.Option.{same_Some}
+use Rattle.std.specs.List.{IsDistinct}
+use Rattle.std.specs.Map.{keys_of, lookup_key, values_of}
 use Rattle.indexmap.specs.IndexMap.{IndexMap, IsUnique, insert_entry, set_value_at, with_value_at}
 use Rattle.indexmap.proofs.CallerLemmas.{keys-with_value_at, updates-with_value_at}
-use Rattle.cx_base.specs.Lists.{rises}
-use Rattle.cx_base.specs.Noted.{Table, are_rising, comes_before, floor_of}
-use Rattle.cx_table.specs.Entries.{IsEntryAt, AreClientEntries, IsRoomAt, are_above, floor_of_entry, notes_in, of_client, room_in}
-use Rattle.cx_table.specs.Entries.{rooms_in}
+use Rattle.cx_base.proofs.Common.{◌≡◌, ◌⊎◌, ℕ, zero, suc, ◌+◌, ◌≤◌, true, false, cond, List, [], ◌∷◌, inl, inr, ap, sym, subst, ◌∙◌, refl}
+use Rattle.cx_base.proofs.Common.{arith, ◌==◌, nat_eq, slice_get, if◌then◌else◌, None, Some, position_or_len, lookup, cases_Bool, eqb-true}
+use Rattle.cx_base.proofs.Common.{nat_tests, same_Some, rises, Table, are_rising, comes_before, floor_of}
+use Rattle.cx_table.specs.Entries.{IsEntryAt, AreClientEntries, IsRoomAt, are_above, floor_of_entry, notes_in, of_client, room_in, rooms_in}
 use Rattle.cx_table.specs.State.{KeepsRoom, TakesRoom, room_for}
 use Rattle.cx_table.specs.declared.entry.ClientEntry.{ClientEntry}
 

@@ -1,11 +1,8 @@
 -- What the table says of a number, and whether it knows it to be used.
-use Rattle.std.proofs.Common.{◌≡◌, ◌⊎◌, ℕ, Bool, true, false, not, ◌||◌, List, [], ◌∷◌, inl, inr, subst, refl}
-use Rattle.std.specs.Prelude.{◌==◌, if◌then◌else◌, Some}
-use Rattle.std.specs.List.{list_all, list_any}
-use Rattle.std.proofs.lemmas.Bool.{and_parts, cases_Bool, eqb-true}
-use Rattle.std.proofs.lemmas.Option.{same_Some}
+use Rattle.cx_base.proofs.Common.{◌≡◌, ◌⊎◌, ℕ, Bool, true, false, not, ◌||◌, List, [], ◌∷◌, inl, inr, subst, refl, ◌==◌, if◌then◌else◌}
+use Rattle.cx_base.proofs.Common.{Some, list_all, list_any, and_parts, cases_Bool, eqb-true, same_Some, Table, floor_of, is_answer_of}
+use Rattle.cx_base.proofs.Common.{is_done, is_used, noted_for}
 use Rattle.cx_base.specs.declared.command.Answered.{Answered}
-use Rattle.cx_base.specs.Noted.{Table, floor_of, is_answer_of, is_done, is_used, noted_for}
 use Rattle.cx_table.specs.Judged.{is_new, judge_noted, judge_of}
 use Rattle.cx_table.specs.declared.judge.Judge.TheVariants as judge
 

@@ -1,14 +1,8 @@
 -- A client's answers, by rising number.
-use Rattle.std.proofs.Common.{◌≡◌, ◌⊎◌, ℕ, zero, suc, ◌-◌, ◌<◌, ◌≤◌, Bool, true, false, ◌&&◌, List, [], ◌∷◌, ◌++◌}
-use Rattle.std.proofs.Common.{length, get_or, inl, inr, ap, ◌∙◌, refl, arith}
-use Rattle.std.specs.Prelude.{◌==◌, nat_le, nat_lt, slice_get, if◌then◌else◌, Option, None, Some}
-use Rattle.std.specs.List.{insert, list_all}
-use Rattle.std.specs.List.Sorted.{IsPartitionedBy}
-use Rattle.std.proofs.lemmas.Bool.{and_parts, cases_Bool}
-use Rattle.std.proofs.lemmas.Bool.Decides.{nat_tests}
+use Rattle.cx_base.proofs.Common.{◌≡◌, ◌⊎◌, ℕ, zero, suc, ◌-◌, ◌<◌, ◌≤◌, Bool, true, false, ◌&&◌, List, [], ◌∷◌, ◌++◌, length, get_or, inl}
+use Rattle.cx_base.proofs.Common.{inr, ap, ◌∙◌, refl, arith, ◌==◌, nat_le, nat_lt, slice_get, if◌then◌else◌, Option, None, Some, insert}
+use Rattle.cx_base.proofs.Common.{list_all, IsPartitionedBy, and_parts, cases_Bool, nat_tests, rises, comes_before, noted_for, with_note}
 use Rattle.cx_base.specs.declared.command.Answered.{Answered}
-use Rattle.cx_base.specs.Lists.{rises}
-use Rattle.cx_base.specs.Noted.{comes_before, noted_for, with_note}
 use Rattle.cx_table.specs.Entries.{IsPlace, above, are_of, is_lower}
 
 -- what is so of each is so of one

@@ -1,18 +1,12 @@
 -- A client is put behind all others, one number after the other.
-use Rattle.std.proofs.Common.{◌≡◌, ◌⊎◌, ℕ, zero, suc, ◌+◌, ◌<◌, ◌≤◌, Bool, true, false, not, List, [], ◌∷◌, ◌++◌, inl, inr}
-use Rattle.std.proofs.Common.{ap, sym, subst, ◌∙◌, refl, arith, length, take, get_or, map, max, append_assoc}
-use Rattle.std.specs.Prelude.{◌==◌, nat_le, nat_lt, None, Some}
-use Rattle.std.specs.List.{list_all}
-use Rattle.std.proofs.lemmas.Bool.{and_from, and_parts, cases_Bool}
-use Rattle.std.proofs.lemmas.Bool.Decides.{nat_tests}
-use Rattle.std.proofs.lemmas.List.{take_more}
-use Rattle.std.proofs.lemmas.List.Folds.{list_all-append}
+use Rattle.cx_base.proofs.Common.{◌≡◌, ◌⊎◌, ℕ, zero, suc, ◌+◌, ◌<◌, ◌≤◌, Bool, true, false, not, List, [], ◌∷◌, ◌++◌, inl, inr, ap, sym}
+use Rattle.cx_base.proofs.Common.{subst, ◌∙◌, refl, arith, length, take, get_or, map, max, append_assoc, ◌==◌, nat_le, nat_lt, None, Some}
+use Rattle.cx_base.proofs.Common.{list_all, and_from, and_parts, cases_Bool, nat_tests, take_more, list_all-append, rises, Table}
+use Rattle.cx_base.proofs.Common.{are_rising, comes_before, floor_of, is_answer_of, is_done, is_answer_done, noted_for, still_noted}
+use Rattle.cx_base.proofs.Common.{with_answer, with_floor, with_note}
 use Rattle.cx_base.specs.declared.command.Answered.{Answered}
 use Rattle.cx_base.specs.declared.command.Floor.{Floor}
 use Rattle.cx_base.specs.declared.command.Note.{Note}
-use Rattle.cx_base.specs.Lists.{rises}
-use Rattle.cx_base.specs.Noted.{Table, are_rising, comes_before, floor_of, is_answer_of, is_done, is_answer_done, noted_for, still_noted}
-use Rattle.cx_base.specs.Noted.{with_answer, with_floor, with_note}
 use Rattle.cx_table.specs.Entries.{answer_of, are_above, are_notes_above, has_lower, is_above_floor}
 use Rattle.cx_table.specs.Judged.{judge_of}
 use Rattle.cx_table.specs.declared.judge.Judge.TheVariants as judge

@@ -1,12 +1,8 @@
 -- Rising answers, of which some are left, or among which one more is put.
-use Rattle.std.proofs.Common.{◌≡◌, ◌⊎◌, ℕ, Bool, true, false, List, [], ◌∷◌, inl, inr, refl, arith}
-use Rattle.std.specs.Prelude.{filter, if◌then◌else◌, None, Some}
-use Rattle.std.specs.List.{list_all}
-use Rattle.std.proofs.lemmas.Bool.{and_from, and_parts, cases_Bool}
-use Rattle.std.proofs.lemmas.Bool.Decides.{nat_tests}
+use Rattle.cx_base.proofs.Common.{◌≡◌, ◌⊎◌, ℕ, Bool, true, false, List, [], ◌∷◌, inl, inr, refl, arith, filter, if◌then◌else◌, None, Some}
+use Rattle.cx_base.proofs.Common.{list_all, and_from, and_parts, cases_Bool, nat_tests, rises, comes_before, is_answer_of, noted_for}
+use Rattle.cx_base.proofs.Common.{with_note}
 use Rattle.cx_base.specs.declared.command.Answered.{Answered}
-use Rattle.cx_base.specs.Lists.{rises}
-use Rattle.cx_base.specs.Noted.{comes_before, is_answer_of, noted_for, with_note}
 
 -- what is so of each is so of each that is left
 pub all_left : {A : Type 0} (p q : A → Bool) (list : List A) → list_all p list ≡ true

@@ -1,20 +1,15 @@
 -- The table once a client has told a floor, or has one more answer.
-use Rattle.std.proofs.Common.{◌≡◌, ◌⊎◌, ℕ, ◌+◌, Bool, true, false, not, List, [], ◌∷◌, inl, inr, ap, sym, subst, ◌∙◌}
-use Rattle.std.proofs.Common.{refl, arith, rules, true≢false}
-use Rattle.std.specs.Prelude.{◌==◌, nat_eq, nat_le, nat_lt, if◌then◌else◌, Option, None, Some, IsSome}
-use Rattle.std.specs.List.{list_all}
-use Rattle.std.specs.Map.{lookup}
-use Rattle.std.proofs.lemmas.Bool.{and_from, and_parts, both_ways, cases_Bool, eqb-true}
-use Rattle.std.proofs.lemmas.Bool.Decides.{nat_tests}
+use Rattle.std.specs.Prelude.{IsSome}
+use Rattle.cx_base.proofs.Common.{◌≡◌, ◌⊎◌, ℕ, ◌+◌, Bool, true, false, not, List, [], ◌∷◌, inl, inr, ap, sym, subst, ◌∙◌, refl, arith}
+use Rattle.cx_base.proofs.Common.{rules, true≢false, ◌==◌, nat_eq, nat_le, nat_lt, if◌then◌else◌, Option, None, Some, list_all, lookup}
+use Rattle.cx_base.proofs.Common.{and_from, and_parts, both_ways, cases_Bool, eqb-true, nat_tests, rises, Table, are_rising, comes_before}
+use Rattle.cx_base.proofs.Common.{floor_of, is_answer_of, is_done, is_answer_done, noted_for, still_noted, with_answer, with_floor}
+use Rattle.cx_base.proofs.Common.{with_note, with_told, none_placed, same_client, turned_test}
 use Rattle.cx_base.specs.declared.command.Answered.{Answered}
 use Rattle.cx_base.specs.declared.command.Floor.{Floor}
-use Rattle.cx_base.specs.Lists.{rises}
-use Rattle.cx_base.specs.Noted.{Table, are_rising, comes_before, floor_of, is_answer_of, is_done, is_answer_done, noted_for}
-use Rattle.cx_base.specs.Noted.{still_noted, with_answer, with_floor, with_note, with_told}
-use Rattle.cx_base.proofs.Used.{none_placed, same_client, still_rising, turned_test}
+use Rattle.cx_base.proofs.Used.{still_rising}
 use Rattle.cx_table.specs.Entries.{AreClientEntries, above, are_above, are_of, floor_of_entry, is_above_floor, is_lower, notes_in}
-use Rattle.cx_table.specs.Entries.{of_client}
-use Rattle.cx_table.specs.Entries.{max_floor}
+use Rattle.cx_table.specs.Entries.{of_client, max_floor}
 use Rattle.cx_table.specs.Judged.{is_new, judge_in, judge_of, judge_noted}
 use Rattle.cx_table.specs.declared.entry.ClientEntry.{ClientEntry}
 use Rattle.cx_table.specs.declared.judge.Judge.TheVariants as judge

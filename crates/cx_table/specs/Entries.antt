@@ -1,13 +1,10 @@
 -- What is held of each client, and how it is the table that contracts see.
-use Rattle.std.specs.Prelude.{◌≡◌, ℕ, ◌-◌, ◌≤◌, ◌==◌, Bool, true, false, List, [], ◌∷◌, Option, None, Some}
-use Rattle.std.specs.Prelude.{max, nat_eq, nat_lt, filter, slice_get, vec_capacity, vec_len}
-use Rattle.std.specs.List.{list_all}
+use Rattle.std.specs.Prelude.{◌≡◌, ℕ, ◌-◌, ◌≤◌, ◌==◌, Bool, true, false, List, [], ◌∷◌, Option, None, Some, max, nat_eq, nat_lt, filter}
+use Rattle.std.specs.Prelude.{slice_get, vec_capacity, vec_len}
 use Rattle.std.specs.List.Sorted.{IsPartitionPoint}
-use Rattle.std.specs.Map.{lookup}
+use Rattle.cx_base.specs.Prelude.{list_all, lookup, rises, Table, are_rising, comes_before, floor_of}
 use Rattle.cx_base.specs.declared.command.Answered.{Answered}
 use Rattle.cx_base.specs.declared.command.Note.{Note}
-use Rattle.cx_base.specs.Lists.{rises}
-use Rattle.cx_base.specs.Noted.{Table, are_rising, comes_before, floor_of}
 use Rattle.cx_table.specs.State.{Room}
 use Rattle.cx_table.specs.declared.entry.ClientEntry.{ClientEntry}
 

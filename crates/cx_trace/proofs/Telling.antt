@@ -1,7 +1,6 @@
 -- Which datagrams tell a client something.
-use Rattle.std.proofs.Common.{◌≡◌, ℕ, false, [], refl}
-use Rattle.cx_letter.specs.Letter.{Letter}
-use Rattle.cx_letter.specs.Names.{name_of_kind, name_of_message}
+use Rattle.cx_letter.specs.Prelude.{◌≡◌, ℕ, false, [], refl, Letter, name_of_message}
+use Rattle.cx_letter.specs.Names.{name_of_kind}
 use Rattle.cx_letter.specs.declared.message.Msg.{Msg}
 use Rattle.cx_letter.specs.declared.message.Msg.TheVariants.{Submit, Batch, Leads, MatchA, MatchB, MatchNack, Phase1A, Phase1B, Nack}
 use Rattle.cx_letter.specs.declared.message.Msg.TheVariants.{Propose, Phase2A, Phase2B, Chosen, ChosenIn, Results, Answer, Held, Fetch}

@@ -1,13 +1,7 @@
 -- The last lines of a run: what was chosen, and what each replica holds.
 use Rattle.std.specs.Prelude.{ℕ, ◌+◌, List, [], ◌∷◌, ◌++◌, length, codes, decimal, if◌then◌else◌}
-use Rattle.cx_base.specs.Fold.{acts, commands_of}
-use Rattle.cx_base.specs.Role.{role, role_text}
-use Rattle.cx_base.specs.declared.command.Command.{Command}
-use Rattle.cx_base.specs.declared.command.Op.{Op}
-use Rattle.cx_base.specs.declared.command.Op.TheVariants.{Put, Del, App}
-use Rattle.cx_base.specs.declared.command.Value.{Value}
-use Rattle.cx_base.specs.declared.command.Value.TheVariants.{Noop, Batch}
-use Rattle.cx_base.specs.declared.role.Kind.TheVariants.{Replica}
+use Rattle.cx_letter.specs.Prelude.{acts, commands_of, role, role_text, Command, Op, Put, Del, App, Value, Noop, Replica}
+use Rattle.cx_base.specs.declared.command.Value.TheVariants.{Batch}
 use Rattle.cx_kv.specs.Printed.{map_text}
 use Rattle.cx_trace.specs.Trace.{request_text}
 use Rattle.cx_trace.specs.declared.summary.Folded.{Folded}

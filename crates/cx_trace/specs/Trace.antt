@@ -1,16 +1,10 @@
 -- The lines of the trace: events, and the datagrams that they send.
-use Rattle.std.specs.Prelude.{ℕ, Bool, ◌+◌, ◌==◌, ◌||◌, List, [], ◌∷◌, ◌++◌, codes, decimal, Option, None, Some, if◌then◌else◌}
-use Rattle.std.specs.Str.{bytes_eq}
-use Rattle.cx_base.specs.Role.{role, role_text}
+use Rattle.std.specs.Prelude.{ℕ, Bool, ◌+◌, ◌==◌, ◌||◌, List, [], ◌∷◌, ◌++◌, codes, decimal, Option, None, Some, if◌then◌else◌, bytes_eq}
+use Rattle.cx_letter.specs.Prelude.{role, role_text, Event, Lead, Change, Collect, Replace, RoleId, Client, Leader, Replica, Replacer}
+use Rattle.cx_letter.specs.Prelude.{Letter, body, name_of_message}
 use Rattle.cx_base.specs.Why.{why_text}
-use Rattle.cx_base.specs.declared.event.Event.{Event}
 use Rattle.cx_base.specs.declared.event.Event.TheVariants as event
 use Rattle.cx_base.specs.declared.event.Order.{Order}
-use Rattle.cx_base.specs.declared.event.Order.TheVariants.{Lead, Change, Collect, Replace}
-use Rattle.cx_base.specs.declared.role.RoleId.{RoleId}
-use Rattle.cx_base.specs.declared.role.Kind.TheVariants.{Client, Leader, Replica, Replacer}
-use Rattle.cx_letter.specs.Letter.{Letter, body}
-use Rattle.cx_letter.specs.Names.{name_of_message}
 use Rattle.cx_letter.specs.declared.message.Msg.{Msg}
 use Rattle.cx_letter.specs.declared.message.Msg.TheVariants.{Submit, Batch, Leads, MatchA, MatchB, MatchNack, Phase1A, Phase1B, Nack}
 use Rattle.cx_letter.specs.declared.message.Msg.TheVariants.{Propose, Phase2A, Phase2B, Chosen, ChosenIn, Results, Answer, Held, Fetch}

@@ -1,7 +1,5 @@
 -- A format that fits only what passes no test, and else is another: both spell alike.
-use Rattle.std.proofs.Common.{◌≡◌, ℕ, Bool, true, false, not, ◌&&◌, ◌||◌, List, [], ◌∷◌, ◌++◌, length, refl, ap, ◌∙◌}
-use Rattle.std.specs.Prelude.{◌==◌}
-use Rattle.std.specs.List.{list_any}
+use Rattle.cx_base.proofs.Common.{◌≡◌, ℕ, Bool, true, false, not, ◌&&◌, ◌||◌, List, [], ◌∷◌, ◌++◌, length, refl, ap, ◌∙◌, ◌==◌, list_any}
 use Rattle.cx_wire.specs.Format.{Format, then_by, ◌▷◌, shaped, each_fits, each_spell, times, counted, TaggedBytes, Case, tagged}
 
 -- one format fits what another fits that doesn't tell, and both spell the same

@@ -1,19 +1,10 @@
 -- What an event does, said of every world.
-use Rattle.std.proofs.Common.{◌≡◌, ℕ, true, false, List, [], Option, None, Some, sym, subst, append-nil, refl}
-use Rattle.cx_base.specs.declared.event.Event.{Event}
-use Rattle.cx_base.specs.declared.event.Happened.{Happened}
+use Rattle.cx_inv_run.proofs.Common.{◌≡◌, ℕ, true, false, List, [], Option, None, Some, sym, subst, append-nil, refl, Event, Happened}
+use Rattle.cx_inv_run.proofs.Common.{RoleId, Why, role, heard_by, is_stale, request, World, nothing, ask, act_at, Letter, Act, KeptRecord}
+use Rattle.cx_inv_run.proofs.Common.{Token}
 use Rattle.cx_base.specs.declared.role.Kind.TheVariants as kind
-use Rattle.cx_base.specs.declared.role.RoleId.{RoleId}
-use Rattle.cx_base.specs.declared.why.Why.{Why}
 use Rattle.cx_base.specs.declared.why.Why.TheVariants as why
-use Rattle.cx_base.specs.Role.{role}
-use Rattle.cx_model.specs.Heard.{heard_by}
-use Rattle.cx_model.specs.Request.{is_stale, request}
-use Rattle.cx_model.specs.World.{World, Change, nothing, ask, act_at}
-use Rattle.cx_letter.specs.Letter.{Letter}
-use Rattle.cx_letter.specs.declared.input.Act.{Act}
-use Rattle.cx_letter.specs.declared.input.KeptRecord.{KeptRecord}
-use Rattle.cx_field.specs.declared.parts.Token.{Token}
+use Rattle.cx_model.specs.World.{Change}
 use Rattle.cx_world.specs.World.{SeatLists, HasSeats, IsChange}
 
 -- a change that keeps nothing leaves the seats

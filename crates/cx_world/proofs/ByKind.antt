@@ -1,27 +1,13 @@
 -- The seats of each kind among all, and the kinds' turns in the model.
-use Rattle.std.proofs.Common.{◌≡◌, ◌==◌, true, List, Option, None, Some, subst, refl, inl, inr, ◌⊎◌}
-use Rattle.cx_base.specs.declared.cluster.Cluster.{Cluster}
-use Rattle.cx_base.specs.declared.role.Kind.{Kind}
+use Rattle.cx_inv_run.proofs.Common.{◌≡◌, ◌==◌, true, List, Option, None, Some, subst, refl, inl, inr, ◌⊎◌, Cluster, Kind, RoleId, code_of}
+use Rattle.cx_inv_run.proofs.Common.{Act, KeptRecord, acceptor_rules, batcher_rules, leader_rules, bool_cases, not_both, number_itself}
+use Rattle.cx_inv_run.proofs.Common.{matchmaker_rules, proxy_rules, reader_rules, replacer_rules, replica_rules, Rules, State, Down}
+use Rattle.cx_inv_run.proofs.Common.{BatcherIn, LeaderIn, ProxyIn, ReplicaIn, ReaderIn, ReplacerIn, plain, state_of, plain_volatile}
+use Rattle.cx_inv_run.proofs.Common.{batcher_volatile, leader_volatile, proxy_volatile, replica_volatile, reader_volatile}
+use Rattle.cx_inv_run.proofs.Common.{replacer_volatile, unbatcher_rules, act_of, turned}
 use Rattle.cx_base.specs.declared.role.Kind.TheVariants as kind
-use Rattle.cx_base.specs.declared.role.RoleId.{RoleId}
-use Rattle.cx_base.specs.Role.{code_of}
-use Rattle.cx_letter.specs.declared.input.Act.{Act}
-use Rattle.cx_letter.specs.declared.input.KeptRecord.{KeptRecord}
-use Rattle.cx_model.specs.Acceptor.{acceptor_rules}
-use Rattle.cx_model.specs.Batcher.{batcher_rules}
-use Rattle.cx_model.specs.Leader.{leader_rules}
-use Rattle.cx_model.specs.Lists.{bool_cases, kind_same, not_both, number_itself}
-use Rattle.cx_model.specs.Matchmaker.{matchmaker_rules}
-use Rattle.cx_model.specs.Proxy.{proxy_rules}
-use Rattle.cx_model.specs.Reader.{reader_rules}
-use Rattle.cx_model.specs.Replacer.{replacer_rules}
-use Rattle.cx_model.specs.Replica.{replica_rules}
-use Rattle.cx_model.specs.Rules.{Rules, Running}
-use Rattle.cx_model.specs.State.{State, Down, BatcherIn, LeaderIn, ProxyIn, ReplicaIn, ReaderIn, ReplacerIn, plain, state_of}
-use Rattle.cx_model.specs.State.{plain_volatile, batcher_volatile, leader_volatile, proxy_volatile, replica_volatile, reader_volatile}
-use Rattle.cx_model.specs.State.{replacer_volatile}
-use Rattle.cx_model.specs.Unbatcher.{unbatcher_rules}
-use Rattle.cx_model.specs.World.{act_of, turned}
+use Rattle.cx_model.specs.Lists.{kind_same}
+use Rattle.cx_model.specs.Rules.{Running}
 use Rattle.cx_world.specs.Seat.{Seat}
 use Rattle.cx_world.specs.World.{SeatLists, AreOfKind, HasKind}
 

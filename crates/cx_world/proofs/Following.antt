@@ -1,17 +1,10 @@
 -- The values of a replica's changes, one change after another.
-use Rattle.std.proofs.Common.{◌≡◌, ◌<◌, ◌≤◌, ◌+◌, ℕ, zero, suc, List, [], ◌∷◌, ◌++◌, Some, drop, get_or, length, slice_get, ap, sym, refl}
-use Rattle.std.proofs.Common.{◌∙◌, append_assoc, arith}
-use Rattle.std.proofs.lemmas.List.{drop_more, length-append}
-use Rattle.cx_base.specs.Fold.{command_list, commands_of, fold, map_behind}
-use Rattle.cx_base.specs.Role.{role}
-use Rattle.cx_base.specs.declared.command.Command.{Command}
-use Rattle.cx_base.specs.declared.command.Pair.{Pair}
-use Rattle.cx_base.specs.declared.command.Value.{Value}
+use Rattle.cx_base.proofs.Common.{get_or, drop_more}
+use Rattle.cx_inv_run.proofs.Common.{◌≡◌, ◌<◌, ◌≤◌, ◌+◌, ℕ, zero, suc, List, [], ◌∷◌, ◌++◌, Some, drop, length, slice_get, ap, sym, refl}
+use Rattle.cx_inv_run.proofs.Common.{◌∙◌, append_assoc, arith, length-append, command_list, commands_of, fold, map_behind, role, Command}
+use Rattle.cx_inv_run.proofs.Common.{Pair, Value, RoleId, log_of, KeptRecord}
 use Rattle.cx_base.specs.declared.role.Kind.TheVariants as kind
-use Rattle.cx_base.specs.declared.role.RoleId.{RoleId}
 use Rattle.cx_kv.proofs.Behind.{behind_both}
-use Rattle.cx_model.specs.World.{log_of}
-use Rattle.cx_letter.specs.declared.input.KeptRecord.{KeptRecord}
 use Rattle.cx_choice.proofs.Numbered.{next_kept}
 use Rattle.cx_world.specs.Folded.{values_by, values_kept}
 

@@ -1,27 +1,17 @@
 -- What a client has heard grows by what is delivered to it alone: what is sent later changes nothing of it.
-use Rattle.std.proofs.Common.{◌≡◌, ◌<◌, ◌≤◌, ◌+◌, ℕ, zero, suc, max, Bool, true, false, not, ◌&&◌, ◌||◌, ◌==◌, if◌then◌else◌, List, [], ◌∷◌}
-use Rattle.std.proofs.Common.{◌++◌, length, get_or, replicate, IsTrue, nat_lt, slice_get, slice_set, Option, None, Some, ap, sym, ◌∙◌}
-use Rattle.std.proofs.Common.{subst, refl, inl, inr, arith, length-append, length-set, lt-ltb, ltb-true}
-use Rattle.std.specs.List.{list_all}
 use Rattle.std.proofs.Math.Bool.{or-true}
 use Rattle.std.proofs.lemmas.Bool.Decides.{eqb_tells}
 use Rattle.std.proofs.lemmas.Grind.{get_or-set_at}
-use Rattle.std.proofs.lemmas.List.{get_or-set_other}
-use Rattle.std.proofs.lemmas.List.Folds.{list_all-append}
-use Rattle.std.proofs.lemmas.Option.{slice_get_within}
-use Rattle.cx_base.specs.Role.{code_of}
-use Rattle.cx_base.specs.declared.event.Cut.{Cut}
-use Rattle.cx_base.specs.declared.event.Event.{Event}
+use Rattle.cx_base.proofs.Common.{get_or, replicate, IsTrue, length-set, get_or-set_other}
+use Rattle.cx_inv_run.proofs.Common.{◌≡◌, ◌<◌, ◌≤◌, ◌+◌, ℕ, zero, suc, max, Bool, true, false, not, ◌&&◌, ◌||◌, ◌==◌, if◌then◌else◌, List}
+use Rattle.cx_inv_run.proofs.Common.{[], ◌∷◌, ◌++◌, length, nat_lt, slice_get, slice_set, Option, None, Some, ap, sym, ◌∙◌, subst, refl}
+use Rattle.cx_inv_run.proofs.Common.{inl, inr, arith, length-append, lt-ltb, ltb-true, list_all, list_all-append, slice_get_within, code_of}
+use Rattle.cx_inv_run.proofs.Common.{Cut, Event, Happened, Kind, Why, heard_at, heard_by, mark_told, World, change, come, Letter}
 use Rattle.cx_base.specs.declared.event.Event.TheVariants as event
-use Rattle.cx_base.specs.declared.event.Happened.{Happened}
-use Rattle.cx_base.specs.declared.role.Kind.{Kind}
 use Rattle.cx_base.specs.declared.role.Kind.TheVariants as kind
-use Rattle.cx_base.specs.declared.why.Why.{Why}
 use Rattle.cx_field.specs.Fields.{mark}
 use Rattle.cx_wire.specs.Format.{u64}
-use Rattle.cx_model.specs.Heard.{delivered_to, heard_at, heard_by, is_heard, mark_told, told_to}
-use Rattle.cx_model.specs.World.{World, change, come}
-use Rattle.cx_letter.specs.Letter.{Letter}
+use Rattle.cx_model.specs.Heard.{delivered_to, is_heard, told_to}
 use Rattle.cx_world.specs.Heard.{AreMarks, Hears, Raised, delivered, heard_below, is_below, is_client}
 
 -- A NUMBER IS RAISED

@@ -1,19 +1,9 @@
 -- Seats that are opened without records.
-use Rattle.std.proofs.Common.{◌≡◌, ℕ, zero, suc, true, false, List, [], ◌∷◌, ◌++◌, length, Some, ap, sym, ◌∙◌, subst, refl, inl, inr, ◌⊎◌}
-use Rattle.std.proofs.Common.{arith}
-use Rattle.std.specs.Prelude.{nat_lt, slice_get}
-use Rattle.std.proofs.lemmas.Bool.Decides.{nat_tests}
-use Rattle.std.proofs.lemmas.Option.{same_Some, slice_get_cases}
-use Rattle.cx_base.specs.Cluster.{count_of}
-use Rattle.cx_base.specs.Role.{role}
-use Rattle.cx_base.specs.declared.cluster.Cluster.{Cluster}
-use Rattle.cx_base.specs.declared.role.Kind.{Kind}
+use Rattle.cx_role.proofs.Common.{◌≡◌, ℕ, zero, suc, true, false, List, [], ◌∷◌, ◌++◌, length, Some, ap, sym, ◌∙◌, subst, refl, inl, inr}
+use Rattle.cx_role.proofs.Common.{◌⊎◌, arith, nat_lt, slice_get, nat_tests, same_Some, slice_get_cases, count_of, role, Cluster, Kind}
+use Rattle.cx_role.proofs.Common.{names_role, either_way, Rules, Running, State, state_of, start}
 use Rattle.cx_base.specs.declared.role.Kind.TheVariants as kind
-use Rattle.cx_model.specs.Names.{names_role}
-use Rattle.cx_model.specs.Outcome.{either_way}
-use Rattle.cx_model.specs.Rules.{Rules, Running}
-use Rattle.cx_model.specs.State.{State, Down, state_of, fresh_state}
-use Rattle.cx_model.specs.World.{start}
+use Rattle.cx_model.specs.State.{Down, fresh_state}
 use Rattle.cx_world.specs.Seat.{Seat, AreJustOpened, AreSeats}
 use Rattle.cx_world.specs.World.{AreOfKind, state_at, volatile_in}
 

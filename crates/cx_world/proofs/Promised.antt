@@ -1,8 +1,6 @@
 -- The chosen prefix of a world that is a run is the one command list.
-use Rattle.std.proofs.Common.{◌≡◌, List, ap, sym, subst}
-use Rattle.cx_base.specs.declared.command.Value.{Value}
-use Rattle.cx_model.specs.Chosen.{chosen_prefix}
-use Rattle.cx_model.specs.World.{World, run, event_list}
+use Rattle.cx_inv_run.proofs.Common.{◌≡◌, List, ap, sym, subst, Value, chosen_prefix, World, run}
+use Rattle.cx_model.specs.World.{event_list}
 use Rattle.cx_promises.specs.Lawful.{IsCommandList}
 use Rattle.cx_promises.proofs.Lawful.{prefix_is_the_list}
 

@@ -1,40 +1,17 @@
 -- An act at one of several seats is the model's act at that role, and leaves the seats with their states and lists.
-use Rattle.std.proofs.Common.{◌≡◌, ◌==◌, ◌≤◌, ℕ, true, false, List, ◌++◌, length, length-set, Option, None, Some, ap, sym, ◌∙◌, subst}
-use Rattle.std.proofs.Common.{append-nil, refl, inl, inr, ◌⊎◌, arith}
-use Rattle.std.specs.Prelude.{nat_lt, slice_get, slice_set, slice_index_or}
 use Rattle.std.specs.Option.{option_to_list}
-use Rattle.std.proofs.lemmas.Option.{same_Some, slice_get_cases}
-use Rattle.std.proofs.lemmas.Bool.Decides.{nat_tests}
 use Rattle.std.proofs.Math.Path.{fun_ext}
-use Rattle.cx_base.specs.declared.cluster.Cluster.{Cluster}
-use Rattle.cx_base.specs.declared.role.Kind.{Kind}
+use Rattle.cx_inv_run.proofs.Common.{◌≡◌, ◌==◌, ◌≤◌, ℕ, true, false, List, ◌++◌, length, Option, None, Some, ap, sym, ◌∙◌, subst}
+use Rattle.cx_inv_run.proofs.Common.{append-nil, refl, inl, inr, ◌⊎◌, arith, nat_lt, slice_get, slice_set, slice_index_or, same_Some}
+use Rattle.cx_inv_run.proofs.Common.{nat_tests, Cluster, Kind, RoleId, Why, role, same_role, state_own, state_other, acceptor_rules}
+use Rattle.cx_inv_run.proofs.Common.{batcher_rules, leader_rules, same_number, bool_cases, differ_role, not_both, number_itself, list_own}
+use Rattle.cx_inv_run.proofs.Common.{list_other, matchmaker_rules, names_role, proxy_rules, reader_rules, replacer_rules, replica_rules}
+use Rattle.cx_inv_run.proofs.Common.{Rules, State, BatcherIn, LeaderIn, ProxyIn, ReplicaIn, ReaderIn, ReplacerIn, plain, state_of}
+use Rattle.cx_inv_run.proofs.Common.{set_state, Turn, turn, still, unbatcher_rules, World, act_of, act_at, changed, durable_part, kept_by}
+use Rattle.cx_inv_run.proofs.Common.{list_of, Letter, Act, Give, Snap, Stop, Wake, KeptRecord, Written}
+use Rattle.cx_role.proofs.Common.{length-set, slice_get_cases, get_set_same, get_set_other, list_with, Running, Change}
 use Rattle.cx_base.specs.declared.role.Kind.TheVariants as kind
-use Rattle.cx_base.specs.declared.role.RoleId.{RoleId}
-use Rattle.cx_base.specs.declared.why.Why.{Why}
 use Rattle.cx_base.specs.declared.why.Why.TheVariants as why
-use Rattle.cx_base.specs.Role.{role, same_role}
-use Rattle.cx_inv_run.proofs.Histories.{state_own, state_other}
-use Rattle.cx_model.specs.Acceptor.{acceptor_rules}
-use Rattle.cx_model.specs.Batcher.{batcher_rules}
-use Rattle.cx_model.specs.Leader.{leader_rules}
-use Rattle.cx_model.specs.Lists.{get_set_same, get_set_other, same_number, bool_cases, differ_role, not_both, number_itself, list_own}
-use Rattle.cx_model.specs.Lists.{list_other, list_with}
-use Rattle.cx_model.specs.Matchmaker.{matchmaker_rules}
-use Rattle.cx_model.specs.Names.{names_role}
-use Rattle.cx_model.specs.Proxy.{proxy_rules}
-use Rattle.cx_model.specs.Reader.{reader_rules}
-use Rattle.cx_model.specs.Replacer.{replacer_rules}
-use Rattle.cx_model.specs.Replica.{replica_rules}
-use Rattle.cx_model.specs.Rules.{Rules, Running}
-use Rattle.cx_model.specs.State.{State, BatcherIn, LeaderIn, ProxyIn, ReplicaIn, ReaderIn, ReplacerIn, plain, state_of, set_state}
-use Rattle.cx_model.specs.Turn.{Turn, turn, still}
-use Rattle.cx_model.specs.Unbatcher.{unbatcher_rules}
-use Rattle.cx_model.specs.World.{World, Change, act_of, act_at, changed, durable_part, kept_by, list_of}
-use Rattle.cx_letter.specs.Letter.{Letter}
-use Rattle.cx_letter.specs.declared.input.Act.{Act}
-use Rattle.cx_letter.specs.declared.input.Act.TheVariants.{Give, Snap, Stop, Wake}
-use Rattle.cx_letter.specs.declared.input.KeptRecord.{KeptRecord}
-use Rattle.cx_letter.specs.declared.input.Written.{Written}
 use Rattle.cx_world.specs.Seat.{Seat, seat_turn, TurnsFound, TurnsAt, IsSeat, AreSeats}
 use Rattle.cx_world.specs.World.{SeatLists, AreOfKind, HasKind, HasSeats, IsChange, state_at, volatile_in, seat_roles}
 use Rattle.cx_world.proofs.ByKind.{SeatsOf, kind_cases}

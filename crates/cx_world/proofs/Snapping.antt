@@ -1,21 +1,9 @@
 -- A seat whose role forgets is as the store of its keeper leaves it.
-use Rattle.std.proofs.Common.{◌≡◌, ◌∙◌, ℕ, Bool, true, false, List, [], Option, None, Some, Err, ap, sym, subst, refl, inl, inr}
-use Rattle.cx_base.specs.declared.cluster.Cluster.{Cluster}
-use Rattle.cx_base.specs.declared.event.Cut.{Cut}
-use Rattle.cx_base.specs.declared.event.Cut.TheVariants.{Whole, Torn, Kept}
-use Rattle.cx_base.specs.declared.role.RoleId.{RoleId}
-use Rattle.cx_base.specs.declared.why.Why.{Why}
-use Rattle.cx_letter.specs.Letter.{Letter}
-use Rattle.cx_letter.specs.declared.input.Act.TheVariants.{Snap}
-use Rattle.cx_letter.specs.declared.input.Written.{Written}
+use Rattle.cx_inv_run.proofs.Common.{◌∙◌, Option, ap, sym, subst, inl, inr, Kept, Snap, cut_turn, snap_turn}
+use Rattle.cx_role.specs.Prelude.{◌≡◌, ℕ, Bool, true, false, List, [], None, Some, Err, refl, Cluster, Cut, Whole, Torn, RoleId, Why}
+use Rattle.cx_role.specs.Prelude.{Letter, Written, list_with, Rules, Running, folded, refused, Renewal, Failed, KeepsDurable}
 use Rattle.cx_letter.specs.declared.input.Written.TheVariants as written
-use Rattle.cx_model.specs.Lists.{list_with}
-use Rattle.cx_model.specs.Rules.{Rules, Running, folded, refused}
-use Rattle.cx_model.specs.Turn.{cut_turn, snap_turn}
-use Rattle.cx_keep.specs.Keeper.{Renewal}
 use Rattle.cx_keeper.specs.MemKeeper.{kept_of}
-use Rattle.cx_keep.specs.declared.keeper.KeepFault.TheVariants.{Failed}
-use Rattle.cx_role.specs.Role.{KeepsDurable}
 use Rattle.cx_role.specs.Snap.{SnapStays, Snaps}
 use Rattle.cx_world.specs.LastKeeper.{LastState, first_slot_of, last_renew_gives, list_kept}
 use Rattle.cx_world.specs.Seat.{IsTurned, Opens, Seat, Sits, seat_turn, why_of_cut}

@@ -1,29 +1,14 @@
 -- A seat's role is as the store of its keeper leaves it: after a whole step and after a failed one.
-use Rattle.std.proofs.Common.{◌≡◌, ◌∙◌, ◌⊎◌, ℕ, Bool, true, false, List, [], ◌∷◌, ◌++◌, Option, None, Some, Err, ap, sym, subst, refl, inl}
-use Rattle.std.proofs.Common.{inr}
-use Rattle.std.specs.Option.{option_map}
-use Rattle.std.specs.Prelude.{if◌then◌else◌, ◌+◌}
-use Rattle.std.proofs.lemmas.Option.{same_Some}
-use Rattle.cx_base.specs.declared.cluster.Cluster.{Cluster}
-use Rattle.cx_base.specs.declared.event.Cut.{Cut}
-use Rattle.cx_base.specs.declared.event.Cut.TheVariants.{Whole, Torn, Kept}
-use Rattle.cx_base.specs.declared.role.RoleId.{RoleId}
-use Rattle.cx_base.specs.declared.why.Why.{Why}
-use Rattle.cx_letter.specs.Letter.{Letter}
-use Rattle.cx_letter.specs.declared.input.Act.TheVariants.{Give}
-use Rattle.cx_letter.specs.declared.input.Input.{Input}
-use Rattle.cx_letter.specs.declared.input.Written.{Written}
+use Rattle.cx_inv_run.proofs.Common.{Kept, Give, cut_turn, whole_turn}
+use Rattle.cx_role.proofs.Common.{◌≡◌, ◌∙◌, ◌⊎◌, ℕ, Bool, true, false, List, [], ◌∷◌, ◌++◌, Option, None, Some, Err, ap, sym, subst, refl}
+use Rattle.cx_role.proofs.Common.{inl, inr, option_map, if◌then◌else◌, ◌+◌, same_Some, Cluster, Cut, Whole, Torn, RoleId, Why, Letter}
+use Rattle.cx_role.proofs.Common.{Input, Written, Record, list_with, Outcome, Rules, Running, IsFit, folded, folded_from, outcome_of}
+use Rattle.cx_role.proofs.Common.{refused, refused_from, Turn, turn_with, KeeperChange, Append, list_after, Failed, MayKeep}
 use Rattle.cx_letter.specs.declared.input.Written.TheVariants as written
-use Rattle.cx_letter.specs.declared.kept.Record.{Record}
 use Rattle.cx_model.specs.Folds.{folded_kept}
-use Rattle.cx_model.specs.Lists.{list_with}
-use Rattle.cx_model.specs.Outcome.{Outcome}
-use Rattle.cx_model.specs.Rules.{Rules, Running, IsFit, folded, folded_from, opened, outcome_of, refused, refused_from, with_kept}
-use Rattle.cx_model.specs.Turn.{Turn, cut_turn, turn_with, whole_turn}
-use Rattle.cx_keep.specs.Keeper.{KeeperChange, Append, list_after}
+use Rattle.cx_model.specs.Rules.{opened, with_kept}
 use Rattle.cx_keeper.specs.MemKeeper.{kept_of, is_left_by_cut}
-use Rattle.cx_keep.specs.declared.keeper.KeepFault.TheVariants.{Failed}
-use Rattle.cx_role.specs.Role.{Steps, Keeps, KeepsDurable, MayKeep}
+use Rattle.cx_role.specs.Role.{Steps, Keeps, KeepsDurable}
 use Rattle.cx_role.specs.Wake.{refused_behind, reopened}
 use Rattle.cx_world.specs.LastKeeper.{LastState, last_append_gives, last_cut, last_gives, list_kept, written_by}
 use Rattle.cx_world.specs.Seat.{IsTurned, Opens, Seat, Sits, StandsByStore, seat_turn, unknown, why_of_cut}

@@ -1,19 +1,9 @@
 -- The world after an event is the model's step, and what was true of the world before is true of it.
-use Rattle.std.proofs.Common.{◌≡◌, ◌+◌, ℕ, true, List, [], ◌∷◌, ◌++◌, length, Option, ap, sym, ◌∙◌, subst, refl}
-use Rattle.std.specs.List.{list_all}
-use Rattle.std.proofs.lemmas.List.Folds.{list_all-append}
 use Rattle.std.specs.Option.{option_to_list}
-use Rattle.cx_base.specs.Asked.{is_valid_event}
-use Rattle.cx_base.specs.declared.cluster.Cluster.{Cluster}
-use Rattle.cx_base.specs.declared.event.Event.{Event}
-use Rattle.cx_base.specs.declared.event.Happened.{Happened}
-use Rattle.cx_base.specs.declared.role.RoleId.{RoleId}
-use Rattle.cx_base.specs.declared.why.Why.{Why}
-use Rattle.cx_model.specs.State.{State}
-use Rattle.cx_model.specs.World.{World, change, step, start, run, run_from, event_list}
-use Rattle.cx_letter.specs.Letter.{Letter}
-use Rattle.cx_letter.specs.declared.input.KeptRecord.{KeptRecord}
-use Rattle.cx_model.specs.Heard.{heard_at}
+use Rattle.cx_role.proofs.Common.{◌≡◌, ◌+◌, ℕ, true, List, [], ◌∷◌, ◌++◌, length, Option, ap, sym, ◌∙◌, subst, refl, list_all}
+use Rattle.cx_role.proofs.Common.{list_all-append, is_valid_event, Cluster, Event, Happened, RoleId, Why, State, World, change, start, run}
+use Rattle.cx_role.proofs.Common.{run_from, event_list, Letter, KeptRecord, heard_at}
+use Rattle.cx_model.specs.World.{step}
 use Rattle.cx_world.specs.Heard.{Hears, Raised, heard_below}
 use Rattle.cx_world.specs.World.{SeatLists, HasSeats, IsChange, IsUnspentWorld, are_taken, seat_roles}
 use Rattle.cx_world.proofs.Hearing.{change_hears, hears_after, heard_below_after}

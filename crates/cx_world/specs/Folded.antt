@@ -1,11 +1,6 @@
 -- What a replica's kept values leave.
 use Rattle.std.specs.Prelude.{ℕ, List, [], ◌∷◌, ◌++◌, if◌then◌else◌, length}
-use Rattle.cx_base.specs.Fold.{fold}
-use Rattle.cx_base.specs.Role.{same_role}
-use Rattle.cx_base.specs.declared.command.Value.{Value}
-use Rattle.cx_base.specs.declared.role.RoleId.{RoleId}
-use Rattle.cx_model.specs.World.{log_of, values_in}
-use Rattle.cx_letter.specs.declared.input.KeptRecord.{KeptRecord}
+use Rattle.cx_model.specs.Prelude.{fold, same_role, Value, RoleId, log_of, values_in, KeptRecord}
 use Rattle.cx_trace.specs.declared.summary.Folded.{Folded}
 
 -- how many values it kept, and the fold of their commands

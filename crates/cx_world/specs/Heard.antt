@@ -1,13 +1,7 @@
 -- What each client has heard, as the world holds it.
 use Rattle.std.specs.Prelude.{◌≡◌, ℕ, max, Bool, true, false, not, ◌||◌, IsTrue, nat_lt, List, length, get_or, Option, None, Some}
-use Rattle.cx_base.specs.declared.event.Event.{Event}
+use Rattle.cx_role.specs.Prelude.{Event, Happened, Kind, Client, mark, heard_by, is_heard, Letter}
 use Rattle.cx_base.specs.declared.event.Event.TheVariants.{Deliver}
-use Rattle.cx_base.specs.declared.event.Happened.{Happened}
-use Rattle.cx_base.specs.declared.role.Kind.{Kind}
-use Rattle.cx_base.specs.declared.role.Kind.TheVariants.{Client}
-use Rattle.cx_field.specs.Fields.{mark}
-use Rattle.cx_model.specs.Heard.{heard_by, is_heard}
-use Rattle.cx_letter.specs.Letter.{Letter}
 
 -- a number for each client that a cluster may have, in the range of what answers tell
 pub record AreMarks (numbers : List ℕ) : Type 0 where

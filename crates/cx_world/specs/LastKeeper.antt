@@ -1,16 +1,10 @@
 -- What a keeper does that holds the last change of its list alone.
-use Rattle.std.specs.Prelude.{◌≡◌, ℕ, Bool, true, false, IsTrue, List, [], ◌∷◌, Option, Some, Result, Ok, Err}
-use Rattle.std.proofs.Common.{refl}
-use Rattle.std.specs.Option.{option_to_list}
-use Rattle.cx_base.specs.declared.event.Cut.{Cut}
-use Rattle.cx_base.specs.declared.event.Cut.TheVariants.{Whole, Torn, Kept}
-use Rattle.cx_letter.specs.declared.input.Written.{Written}
+use Rattle.std.specs.Prelude.{◌≡◌, ℕ, Bool, true, false, IsTrue, List, [], ◌∷◌, Option, Some, Result, Ok, Err, refl, option_to_list}
+use Rattle.cx_role.specs.Prelude.{Cut, Whole, Torn, Written, Record, KeepFault, Failed, NoMemory, KeeperChange, Append, Renewal, all_fit}
+use Rattle.cx_base.specs.declared.event.Cut.TheVariants.{Kept}
 use Rattle.cx_letter.specs.declared.input.Written.TheVariants as written
-use Rattle.cx_letter.specs.declared.kept.Record.{Record}
 use Rattle.cx_letter.specs.declared.kept.Record.TheVariants as kept
-use Rattle.cx_keep.specs.declared.keeper.KeepFault.{KeepFault}
-use Rattle.cx_keep.specs.declared.keeper.KeepFault.TheVariants.{Failed, NoMemory}
-use Rattle.cx_keep.specs.Keeper.{KeeperChange, Append, Renewal, IsAppend, IsKeeperChange, all_fit}
+use Rattle.cx_keep.specs.Keeper.{IsAppend, IsKeeperChange}
 use Rattle.cx_keeper.specs.MemKeeper.{MemKeeperState, kept_of, faults_of, mem_gives, mem_append_is, mem_renew_is}
 use Rattle.cx_history.specs.Kept.{all_changes_fit}
 

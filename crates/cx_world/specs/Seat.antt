@@ -1,25 +1,11 @@
 -- A role with its records, running or not.
 use Rattle.std.specs.Prelude.{◌≡◌, ℕ, Bool, true, false, IsTrue, List, [], Option, None, Some, slice_get, slice_index_or, slice_set}
 use Rattle.std.specs.Option.{ForSome}
-use Rattle.cx_base.specs.declared.cluster.Cluster.{Cluster}
-use Rattle.cx_letter.specs.Letter.{Letter}
-use Rattle.cx_letter.specs.declared.kept.Record.{Record}
-use Rattle.cx_letter.specs.declared.input.KeptRecord.{KeptRecord}
-use Rattle.cx_letter.specs.declared.input.Written.{Written}
+use Rattle.cx_model.specs.Prelude.{Cluster, Letter, Record, KeptRecord, Written, Kind, names_role, list_of, Act, Give, Snap, Stop, Wake}
+use Rattle.cx_model.specs.Prelude.{Cut, Whole, Torn, Kept, RoleId, Why, Rules, Running, IsFit, folded, refused, Turn, turn}
 use Rattle.cx_letter.specs.declared.input.Written.TheVariants as written
-use Rattle.cx_base.specs.declared.role.Kind.{Kind}
-use Rattle.cx_model.specs.Names.{names_role}
 use Rattle.cx_model.specs.Lists.{list_with}
-use Rattle.cx_model.specs.World.{list_of}
-use Rattle.cx_letter.specs.declared.input.Act.{Act}
-use Rattle.cx_letter.specs.declared.input.Act.TheVariants.{Give, Snap, Stop, Wake}
-use Rattle.cx_base.specs.declared.event.Cut.{Cut}
-use Rattle.cx_base.specs.declared.event.Cut.TheVariants.{Whole, Torn, Kept}
-use Rattle.cx_base.specs.declared.role.RoleId.{RoleId}
-use Rattle.cx_base.specs.declared.why.Why.{Why}
 use Rattle.cx_base.specs.declared.why.Why.TheVariants as why
-use Rattle.cx_model.specs.Rules.{Rules, Running, IsFit, folded, refused}
-use Rattle.cx_model.specs.Turn.{Turn, turn}
 use Rattle.cx_world.specs.LastKeeper.{LastState, list_kept}
 
 -- the word of a step that was cut in the change of its store

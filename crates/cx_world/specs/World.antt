@@ -1,33 +1,14 @@
 -- The world as contracts see it: its seats in lists, since a value can have no function, its histories, and whether a step was cut off.
 -- `world_of` is the model's world.
 use Rattle.std.specs.Prelude.{◌≡◌, ℕ, Bool, true, List, [], ◌++◌, Option, None, Some, length, slice_get, option_to_list}
-use Rattle.std.specs.List.{list_all}
-use Rattle.cx_base.specs.Asked.{is_valid_event}
-use Rattle.cx_base.specs.Cluster.{count_of}
-use Rattle.cx_base.specs.Role.{role}
-use Rattle.cx_base.specs.declared.cluster.Cluster.{Cluster}
-use Rattle.cx_base.specs.declared.event.Event.{Event}
-use Rattle.cx_base.specs.declared.event.Happened.{Happened}
-use Rattle.cx_base.specs.declared.role.Kind.{Kind}
+use Rattle.cx_role.specs.Prelude.{list_all, is_valid_event, count_of, role, Cluster, Event, Happened, Kind, RoleId, Why, AcceptorDurable}
+use Rattle.cx_role.specs.Prelude.{acceptor_rules, BatcherVolatile, batcher_rules, heard_by, LeaderDurable, LeaderVolatile, leader_rules}
+use Rattle.cx_role.specs.Prelude.{MatchmakerDurable, matchmaker_rules, ProxyVolatile, proxy_rules, ReaderDurable, ReaderVolatile}
+use Rattle.cx_role.specs.Prelude.{reader_rules, ReplacerDurable, ReplacerVolatile, replacer_rules, ReplicaDurable, ReplicaVolatile}
+use Rattle.cx_role.specs.Prelude.{replica_rules, Rules, Running, State, Down, BatcherIn, LeaderIn, ProxyIn, ReplicaIn, ReaderIn, ReplacerIn}
+use Rattle.cx_role.specs.Prelude.{plain, state_of, unbatcher_rules, World, Change, change, step, run, event_list, Letter, KeptRecord}
 use Rattle.cx_base.specs.declared.role.Kind.TheVariants as kind
-use Rattle.cx_base.specs.declared.role.RoleId.{RoleId}
-use Rattle.cx_base.specs.declared.why.Why.{Why}
-use Rattle.cx_model.specs.Acceptor.{AcceptorDurable, acceptor_rules}
-use Rattle.cx_model.specs.Batcher.{BatcherVolatile, batcher_rules}
-use Rattle.cx_model.specs.Heard.{heard_by}
-use Rattle.cx_model.specs.Leader.{LeaderDurable, LeaderVolatile, leader_rules}
-use Rattle.cx_model.specs.Matchmaker.{MatchmakerDurable, matchmaker_rules}
-use Rattle.cx_model.specs.Proxy.{ProxyVolatile, proxy_rules}
-use Rattle.cx_model.specs.Reader.{ReaderDurable, ReaderVolatile, reader_rules}
-use Rattle.cx_model.specs.Replacer.{ReplacerDurable, ReplacerVolatile, replacer_rules}
-use Rattle.cx_model.specs.Replica.{ReplicaDurable, ReplicaVolatile, replica_rules}
-use Rattle.cx_model.specs.Rules.{Rules, Running}
-use Rattle.cx_model.specs.State.{State, Down, BatcherIn, LeaderIn, ProxyIn, ReplicaIn, ReaderIn, ReplacerIn, plain, state_of}
-use Rattle.cx_model.specs.Unbatcher.{unbatcher_rules}
 use Rattle.cx_history.specs.Begins.{IsPrefix}
-use Rattle.cx_model.specs.World.{World, Change, change, step, run, event_list}
-use Rattle.cx_letter.specs.Letter.{Letter}
-use Rattle.cx_letter.specs.declared.input.KeptRecord.{KeptRecord}
 use Rattle.cx_trace.specs.declared.effect.Effect.{Effect}
 use Rattle.cx_world.specs.Heard.{Hears, heard_below}
 use Rattle.cx_world.specs.Seat.{Seat, AreSeats, volatile_of}

@@ -1,6 +1,4 @@
-use Rattle.std.proofs.Common.{◌∙◌, ◌++◌, codes, decimal, List, ℕ, subst}
-use Rattle.cx_base.specs.Role.{kind_text}
-use Rattle.cx_edge.specs.Sink.{SaysText}
+use Rattle.cx_node.proofs.Common.{◌∙◌, ◌++◌, codes, decimal, List, ℕ, subst, kind_text, SaysText}
 use Rattle.compax.proofs.Saying.{role_parts}
 use Rattle.compax.proofs.line.write_not_fresh.Goals as goal
 

@@ -1,6 +1,5 @@
-use Rattle.std.proofs.Common.{◌≡◌, map, take}
-use Rattle.std.specs.Io.KnownBytes.{Appends}
 use Rattle.std.specs.List.{concat}
+use Rattle.cx_base.proofs.Common.{◌≡◌, map, take, Appends}
 use Rattle.compax.proofs.line.write_parts.Given as goal
 
 abbrev pub invariant-loop-part : goal.invariant-loop-part

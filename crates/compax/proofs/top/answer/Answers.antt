@@ -1,5 +1,4 @@
-use Rattle.std.proofs.Common.{◌≡◌, rules, Some}
-use Rattle.std.specs.Prelude.{map, string_bytes}
+use Rattle.cx_base.proofs.Common.{◌≡◌, rules, Some, map, string_bytes}
 use Rattle.compax.specs.Words.{said}
 use Rattle.compax.specs.declared.words.Invocation.TheVariants.{Node}
 use Rattle.compax.proofs.Hosting.{answered_node}

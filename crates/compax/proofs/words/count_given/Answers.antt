@@ -1,6 +1,5 @@
-use Rattle.std.proofs.Common.{refl, arith, codes}
-use Rattle.std.specs.Str.Parse.{ParsesUnsigned, ExplainsUnsignedError, HasUnsignedDigitsIfOk}
 use Rattle.clap.specs.Words.{found_of}
+use Rattle.cx_node.proofs.Common.{refl, arith, codes, ParsesUnsigned, ExplainsUnsignedError, HasUnsignedDigitsIfOk}
 use Rattle.compax.proofs.Numbers.{number_at-read}
 use Rattle.compax.proofs.words.count_given.Goals as goal
 

@@ -1,5 +1,4 @@
-use Rattle.cx_role.proofs.Common.{◌≡◌, drop}
-use Rattle.cx_model.specs.Acceptor.{is_of_round, vote_at}
+use Rattle.cx_model.specs.Prelude.{◌≡◌, drop, is_of_round, vote_at}
 use Rattle.cx_acceptor.proofs.votes.has_vote_in_round.Given as goal
 
 abbrev pub invariant-loop-vote : goal.invariant-loop-vote

@@ -1,5 +1,4 @@
-use Rattle.std.proofs.Common.{◌≡◌, drop}
-use Rattle.cx_base.specs.Fold.{acts}
+use Rattle.cx_base.proofs.Common.{◌≡◌, drop, acts}
 use Rattle.cx_base.proofs.fold.acts.Given as goal
 
 abbrev pub invariant-loop-earlier : goal.invariant-loop-earlier

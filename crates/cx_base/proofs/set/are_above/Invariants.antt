@@ -1,5 +1,4 @@
-use Rattle.std.proofs.Common.{◌≡◌, drop}
-use Rattle.cx_base.specs.Sets.{is_above}
+use Rattle.cx_base.proofs.Common.{◌≡◌, drop, is_above}
 use Rattle.cx_base.proofs.set.are_above.Given as goal
 
 abbrev pub invariant-loop-id : goal.invariant-loop-id

@@ -1,5 +1,4 @@
-use Rattle.std.proofs.Common.{◌≡◌, drop}
-use Rattle.cx_base.specs.Sets.{is_rising}
+use Rattle.cx_base.proofs.Common.{◌≡◌, drop, is_rising}
 use Rattle.cx_base.proofs.set.is_rising.Given as goal
 
 abbrev pub invariant-loop-place : goal.invariant-loop-place

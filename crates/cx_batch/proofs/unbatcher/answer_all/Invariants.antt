@@ -1,5 +1,4 @@
-use Rattle.cx_role.proofs.Common.{◌≡◌, ◌≤◌, ◌+◌, ◌++◌, true, map, drop, length, list_all, Answered}
-use Rattle.cx_model.specs.Unbatcher.{answer_to}
+use Rattle.cx_model.specs.Prelude.{◌≡◌, ◌≤◌, ◌+◌, ◌++◌, true, map, drop, length, list_all, Answered, answer_to}
 use Rattle.cx_field.specs.Fields.{answered}
 use Rattle.cx_batch.proofs.unbatcher.answer_all.Given as goal
 

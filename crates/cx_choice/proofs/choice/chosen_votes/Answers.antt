@@ -1,6 +1,4 @@
-use Rattle.std.proofs.Common.{◌≡◌, ◌∷◌, ◌∙◌, [], Some, None, length, map, append_assoc, append-nil, sym}
-use Rattle.std.proofs.lemmas.List.{map-append}
-use Rattle.std.proofs.lemmas.List.Elements.{All-push}
+use Rattle.cx_base.proofs.Common.{◌≡◌, ◌∷◌, ◌∙◌, [], Some, None, length, map, append_assoc, append-nil, sym, map-append, All-push}
 use Rattle.cx_model.specs.Chosen.{chosen_at}
 use Rattle.cx_choice.proofs.Slots.{prefix_end, prefix_step}
 use Rattle.cx_choice.specs.Prefix.{IsChosenVote, IsVoteAt, vote_value_at}

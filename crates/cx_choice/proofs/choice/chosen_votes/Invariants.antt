@@ -1,6 +1,4 @@
-use Rattle.std.proofs.Common.{◌≡◌, ◌++◌, ◌-◌, length, map}
-use Rattle.std.specs.List.{All}
-use Rattle.cx_model.specs.Chosen.{prefix_from, chosen_prefix}
+use Rattle.cx_model.specs.Prelude.{◌≡◌, ◌++◌, ◌-◌, length, map, All, prefix_from, chosen_prefix}
 use Rattle.cx_choice.specs.Prefix.{IsVoteAt, vote_value_at}
 use Rattle.cx_choice.proofs.choice.chosen_votes.Given as goal
 

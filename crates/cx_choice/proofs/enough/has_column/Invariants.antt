@@ -1,8 +1,4 @@
-use Rattle.std.proofs.Common.{◌≡◌, ◌-◌, map}
-use Rattle.std.specs.List.{list_all}
-use Rattle.cx_base.specs.Lists.{numbers}
-use Rattle.cx_grid.specs.Quorum.{member_at, column_of}
-use Rattle.cx_model.specs.Chosen.{has_vote}
+use Rattle.cx_model.specs.Prelude.{◌≡◌, ◌-◌, map, list_all, numbers, member_at, column_of, has_vote}
 use Rattle.cx_choice.specs.Sorted.{casts_in}
 use Rattle.cx_choice.proofs.enough.has_column.Given as goal
 

@@ -1,8 +1,4 @@
-use Rattle.std.proofs.Common.{◌≡◌, ◌-◌}
-use Rattle.std.specs.List.{list_all, list_any}
-use Rattle.cx_base.specs.Lists.{numbers, below}
-use Rattle.cx_grid.specs.Quorum.{column_of}
-use Rattle.cx_model.specs.Chosen.{has_vote}
+use Rattle.cx_model.specs.Prelude.{◌≡◌, ◌-◌, list_all, list_any, numbers, below, column_of, has_vote}
 use Rattle.cx_choice.specs.Sorted.{casts_in}
 use Rattle.cx_choice.proofs.enough.has_some_column.Given as goal
 

@@ -1,5 +1,4 @@
-use Rattle.std.proofs.Common.{◌≡◌, drop}
-use Rattle.cx_model.specs.Chosen.{has_vote}
+use Rattle.cx_model.specs.Prelude.{◌≡◌, drop, has_vote}
 use Rattle.cx_choice.specs.Sorted.{casts_in}
 use Rattle.cx_choice.proofs.enough.has_vote.Given as goal
 

@@ -1,6 +1,4 @@
-use Rattle.std.proofs.Common.{rules}
-use Rattle.std.proofs.lemmas.List.Sorted.{IsPartitionPoint-from_clause}
-use Rattle.cx_base.specs.Round.{is_before}
+use Rattle.cx_base.proofs.Common.{rules, IsPartitionPoint-from_clause, is_before}
 use Rattle.cx_choice.proofs.Grouped.{begin_parted}
 use Rattle.cx_choice.proofs.of_round.begin_of.Goals as goal
 

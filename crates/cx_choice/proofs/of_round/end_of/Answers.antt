@@ -1,6 +1,4 @@
-use Rattle.std.proofs.Common.{not, rules}
-use Rattle.std.proofs.lemmas.List.Sorted.{IsPartitionPoint-from_clause}
-use Rattle.cx_base.specs.Round.{is_before}
+use Rattle.cx_base.proofs.Common.{not, rules, IsPartitionPoint-from_clause, is_before}
 use Rattle.cx_choice.proofs.Grouped.{end_parted, is_end}
 use Rattle.cx_choice.proofs.of_round.end_of.Goals as goal
 

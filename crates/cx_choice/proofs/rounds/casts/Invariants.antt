@@ -1,5 +1,4 @@
-use Rattle.std.proofs.Common.{◌≡◌, ◌++◌, drop}
-use Rattle.std.specs.List.{All}
+use Rattle.cx_base.proofs.Common.{◌≡◌, ◌++◌, drop, All}
 use Rattle.cx_choice.specs.Sorted.{IsCast, casts_in}
 use Rattle.cx_choice.proofs.rounds.casts.Given as goal
 

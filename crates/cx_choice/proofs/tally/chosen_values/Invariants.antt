@@ -1,7 +1,4 @@
-use Rattle.std.proofs.Common.{◌≡◌, ◌||◌, drop}
-use Rattle.std.specs.List.{list_any}
-use Rattle.cx_base.specs.declared.command.Value.{Value}
-use Rattle.cx_letter.specs.declared.input.KeptRecord.{KeptRecord}
+use Rattle.cx_model.specs.Prelude.{◌≡◌, ◌||◌, drop, list_any, Value, KeptRecord}
 use Rattle.cx_choice.specs.Enough.{is_value_among, is_whole_vote}
 use Rattle.cx_choice.specs.Sorted.{casts_in}
 use Rattle.cx_choice.proofs.tally.chosen_values.Given as goal

@@ -1,7 +1,4 @@
-use Rattle.std.proofs.Common.{◌≡◌, ◌≤◌, ◌++◌, drop, filter, length, map, nat_lt, true}
-use Rattle.std.specs.List.{list_all}
-use Rattle.cx_base.specs.Asked.{is_valid_event}
-use Rattle.cx_base.specs.declared.event.Event.{Event}
+use Rattle.cx_letter.specs.Prelude.{◌≡◌, ◌≤◌, ◌++◌, drop, filter, length, map, nat_lt, true, list_all, is_valid_event, Event}
 use Rattle.cx_client.specs.Asking.{shifted}
 use Rattle.cx_client.specs.Window.{request_letters, event_with_floor}
 use Rattle.cx_script.specs.Requests.{number_of}

@@ -1,7 +1,4 @@
-use Rattle.std.proofs.Common.{◌≡◌, ◌≤◌, ◌-◌, ◌∙◌, ap, arith, length, subst, sym, true}
-use Rattle.std.specs.List.{list_all}
-use Rattle.cx_base.specs.Asked.{is_valid_event}
-use Rattle.cx_base.specs.declared.event.Event.{Event}
+use Rattle.cx_inv_run.proofs.Common.{◌≡◌, ◌≤◌, ◌-◌, ◌∙◌, ap, arith, length, subst, sym, true, list_all, is_valid_event, Event}
 use Rattle.cx_client.specs.Window.{floor_for, outstanding, event_with_floor}
 use Rattle.cx_client.proofs.Windows.{all_valid, at_most}
 use Rattle.cx_client.proofs.sending.send_outstanding.Goals as goal

@@ -1,7 +1,5 @@
-use Rattle.std.proofs.Common.{◌≡◌, ap, sym, ◌∙◌, None, Some, not, take}
-use Rattle.std.specs.List.{position}
 use Rattle.std.proofs.lemmas.List.{take_min}
-use Rattle.cx_base.specs.declared.event.Event.{Event}
+use Rattle.cx_role.proofs.Common.{◌≡◌, ap, sym, ◌∙◌, None, Some, not, take, position, Event}
 use Rattle.cx_client.specs.Window.{first_of, is_near}
 use Rattle.cx_client.proofs.Windows.{outstanding_all, outstanding_to}
 use Rattle.cx_client.proofs.window.outstanding.Goals as goal

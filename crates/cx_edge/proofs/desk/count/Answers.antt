@@ -1,6 +1,4 @@
-use Rattle.std.proofs.Common.{ap, sym, slice_set, ◌∙◌}
-use Rattle.std.specs.List.{position}
-use Rattle.std.proofs.lemmas.List.Quantifiers.{position-Some}
+use Rattle.cx_base.proofs.Common.{ap, sym, slice_set, ◌∙◌, position, position-Some}
 use Rattle.cx_edge.specs.declared.rows.CountRow.{CountRow}
 use Rattle.cx_edge.specs.Desk.{of_role, plus}
 use Rattle.cx_edge.proofs.DeskLaws.{counted_at, counted_nowhere}

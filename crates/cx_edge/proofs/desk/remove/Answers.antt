@@ -1,6 +1,4 @@
-use Rattle.std.proofs.Common.{ap, sym, ◌∙◌}
-use Rattle.std.specs.List.{position}
-use Rattle.std.proofs.lemmas.List.Quantifiers.{position-Some}
+use Rattle.cx_base.proofs.Common.{ap, sym, ◌∙◌, position, position-Some}
 use Rattle.cx_edge.specs.Shelf.{same_shelf}
 use Rattle.cx_edge.proofs.DeskLaws.{without_at, without_nowhere}
 use Rattle.cx_edge.proofs.desk.remove.Goals as goal

@@ -1,5 +1,4 @@
-use Rattle.std.proofs.Common.{vec_len}
-use Rattle.std.specs.List.{All}
+use Rattle.cx_base.proofs.Common.{vec_len, All}
 use Rattle.cx_edge.specs.Notes.{FrontFits}
 use Rattle.cx_edge.proofs.notes.front_rows.Given as goal
 

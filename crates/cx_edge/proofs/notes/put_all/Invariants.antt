@@ -1,5 +1,4 @@
-use Rattle.std.proofs.Common.{ℕ}
-use Rattle.std.specs.List.{All}
+use Rattle.cx_base.proofs.Common.{ℕ, All}
 use Rattle.cx_edge.specs.Notes.{Fits, FrontFits}
 use Rattle.cx_edge.proofs.notes.put_all.Given as goal
 

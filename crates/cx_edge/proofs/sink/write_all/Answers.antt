@@ -1,7 +1,5 @@
-use Rattle.std.proofs.Common.{◌≡◌, ◌-◌, arith, length, take, drop, length-drop, ◌∙◌}
-use Rattle.std.proofs.lemmas.Grind.{common_steps}
 use Rattle.std.proofs.Math.Seq.{take-add}
-use Rattle.std.proofs.KnownBytes.{Appends-trans}
+use Rattle.cx_base.proofs.Common.{◌≡◌, ◌-◌, arith, length, take, drop, length-drop, ◌∙◌, common_steps, Appends-trans}
 use Rattle.cx_edge.proofs.sink.write_all.Goals as goal
 
 pub loop-done-preserved : goal.loop-done-preserved

@@ -1,5 +1,4 @@
-use Rattle.std.proofs.Common.{◌≡◌, ◌≤◌, ◌-◌, length, take}
-use Rattle.std.specs.Io.KnownBytes.{Appends}
+use Rattle.cx_base.proofs.Common.{◌≡◌, ◌≤◌, ◌-◌, length, take, Appends}
 use Rattle.cx_edge.proofs.sink.write_all.Given as goal
 
 abbrev pub invariant-loop-done : goal.invariant-loop-done

@@ -1,5 +1,4 @@
-use Rattle.std.proofs.Common.{◌≡◌, ℕ, List, IfSome, ap, sym, subst, ◌∙◌}
-use Rattle.std.specs.List.{position}
+use Rattle.cx_base.proofs.Common.{◌≡◌, ℕ, List, IfSome, ap, sym, subst, ◌∙◌, position}
 use Rattle.cx_disk.specs.Disk.{Only}
 use Rattle.cx_disk.specs.MemDiskViews.{mem_disk_bytes, IsCrashImage}
 use Rattle.cx_disk.specs.declared.memory.MemDisk.{MemDisk}

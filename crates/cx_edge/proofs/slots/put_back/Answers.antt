@@ -1,5 +1,4 @@
-use Rattle.std.proofs.Common.{ap, sym, ◌∙◌}
-use Rattle.std.specs.List.{position}
+use Rattle.cx_base.proofs.Common.{ap, sym, ◌∙◌, position}
 use Rattle.cx_disk.specs.MemDiskViews.{mem_disk_bytes}
 use Rattle.cx_edge.specs.Slot.{is_slot_at}
 use Rattle.cx_edge.proofs.SlotLaws.{slot_filled, slot_nowhere}

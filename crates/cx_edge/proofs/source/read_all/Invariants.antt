@@ -1,5 +1,4 @@
-use Rattle.std.proofs.Common.{◌≡◌, ◌-◌, ◌+◌, vec_len}
-use Rattle.std.specs.Io.KnownBytes.{Consumes}
+use Rattle.cx_base.proofs.Common.{◌≡◌, ◌-◌, ◌+◌, vec_len, Consumes}
 use Rattle.cx_edge.proofs.source.read_all.Given as goal
 
 abbrev pub invariant-loop-piece : goal.invariant-loop-piece

@@ -1,6 +1,4 @@
-use Rattle.std.proofs.Common.{◌≡◌, ◌&&◌, drop}
-use Rattle.std.specs.List.{list_all}
-use Rattle.cx_base.specs.Name.{is_name_byte}
+use Rattle.cx_base.proofs.Common.{◌≡◌, ◌&&◌, drop, list_all, is_name_byte}
 use Rattle.cx_field.proofs.command_fields.are_name_bytes.Given as goal
 
 abbrev pub invariant-loop-byte : goal.invariant-loop-byte

@@ -1,8 +1,5 @@
-use Rattle.std.proofs.Common.{◌≡◌, ◌≤◌, [], List, length, take, ℕ, true, refl, rules, arith, ◌∙◌, ap, Result, Ok}
-use Rattle.std.specs.List.{list_all}
-use Rattle.cx_base.specs.Name.{is_name_byte}
-use Rattle.std.proofs.lemmas.Result.{err_from_is_err_and}
-use Rattle.std.proofs.lemmas.List.Folds.{list_all-append}
+use Rattle.cx_base.proofs.Common.{◌≡◌, ◌≤◌, [], List, length, take, ℕ, true, refl, rules, arith, ◌∙◌, ap, Result, Ok, list_all}
+use Rattle.cx_base.proofs.Common.{is_name_byte, err_from_is_err_and, list_all-append}
 use Rattle.cx_wire.specs.Format.{Miss, each_read}
 use Rattle.cx_wire.proofs.Loops.{goes_on, is_done}
 use Rattle.cx_field.specs.Fields.{name_byte}

@@ -1,7 +1,4 @@
-use Rattle.std.proofs.Common.{[], ◌≡◌, ◌-◌, ◌≤◌, length, take, drop}
-use Rattle.std.specs.Prelude.{IsTrue}
-use Rattle.std.specs.List.{list_all}
-use Rattle.cx_base.specs.Name.{is_name_byte}
+use Rattle.cx_base.proofs.Common.{[], ◌≡◌, ◌-◌, ◌≤◌, length, take, drop, IsTrue, list_all, is_name_byte}
 use Rattle.cx_wire.specs.Format.{each_read}
 use Rattle.cx_wire.proofs.Loops.{with_front}
 use Rattle.cx_field.specs.Fields.{name_byte}

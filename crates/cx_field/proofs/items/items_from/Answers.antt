@@ -1,5 +1,4 @@
-use Rattle.std.proofs.Common.{◌≡◌, [], Ok, arith}
-use Rattle.std.proofs.lemmas.Result.{err_from_is_err_and}
+use Rattle.cx_base.proofs.Common.{◌≡◌, [], Ok, arith, err_from_is_err_and}
 use Rattle.cx_wire.specs.Format.{each_read}
 use Rattle.cx_wire.proofs.Loops.{goes_on, is_done}
 use Rattle.cx_field.specs.Reading.{Fails}

@@ -1,10 +1,7 @@
-use Rattle.std.proofs.Common.{ℕ, ◌≡◌, ◌+◌, ◌-◌, [], ◌∷◌, ◌++◌, length, take, drop, refl, sym, ◌∙◌, ap, arith, length-drop}
-use Rattle.std.proofs.lemmas.List.{take_all}
-use Rattle.cx_journal.specs.Payload.{payloads}
-use Rattle.cx_journal.specs.Image.{image_at, with_first}
-use Rattle.cx_journal.specs.Journal.{frames, gates_from}
+use Rattle.cx_base.proofs.Common.{length-drop, take_all}
+use Rattle.cx_journal.proofs.Common.{ℕ, ◌≡◌, ◌+◌, ◌-◌, [], ◌∷◌, ◌++◌, length, take, drop, refl, sym, ◌∙◌, ap, arith, payloads, image_at}
+use Rattle.cx_journal.proofs.Common.{with_first, frames, gates_from, gates-push, payloads-push, all_kept-push}
 use Rattle.cx_journal.proofs.Crash.{frames-more, length-frames-more}
-use Rattle.cx_journal.proofs.Gates.{gates-push, payloads-push, all_kept-push}
 use Rattle.cx_journal.proofs.Reading.{image_at-enough, with_all, with_all-push, with_all-Ok}
 use Rattle.cx_journal.proofs.Breaks.{read_stops, breaks_so}
 use Rattle.cx_journal.proofs.image.records_in.Goals as goal

@@ -1,7 +1,5 @@
-use Rattle.std.proofs.Common.{◌≡◌, ◌+◌, ◌++◌, [], ◌∷◌, true, length, drop}
-use Rattle.cx_journal.specs.Payload.{payloads, all_kept_by}
-use Rattle.cx_journal.specs.Image.{image_at, image_from}
-use Rattle.cx_journal.specs.Journal.{frames, gates_from}
+use Rattle.cx_journal.proofs.Common.{◌≡◌, ◌+◌, ◌++◌, [], ◌∷◌, true, length, drop, payloads, all_kept_by, image_at, frames, gates_from}
+use Rattle.cx_journal.specs.Image.{image_from}
 use Rattle.cx_journal.proofs.Reading.{with_all}
 use Rattle.cx_journal.proofs.image.records_in.Given as goal
 

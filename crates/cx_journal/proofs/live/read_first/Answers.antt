@@ -1,7 +1,4 @@
-use Rattle.std.proofs.Common.{rules, inl, ◌∙◌}
-use Rattle.cx_journal.specs.Blank.{IsBlank}
-use Rattle.cx_journal.specs.Pair.{IsLive}
-use Rattle.cx_journal.specs.Twin.{file_image}
+use Rattle.cx_journal.proofs.Common.{rules, inl, ◌∙◌, IsBlank, IsLive, file_image}
 use Rattle.cx_journal.proofs.Moments.{leaves_weaker, leaves_in_turn}
 use Rattle.cx_journal.proofs.Readings.{file_read, one_full}
 use Rattle.cx_journal.proofs.live.read_first.Goals as goal

@@ -1,6 +1,5 @@
 use Rattle.std.proofs.Common.{◌≡◌, length, arith}
-use Rattle.cx_journal.proofs.Images.{first_found}
-use Rattle.cx_journal.proofs.Images.{counted, counted_from}
+use Rattle.cx_journal.proofs.Images.{first_found, counted, counted_from}
 use Rattle.cx_journal.proofs.live.records_of.Goals as goal
 
 pub returns-in-Ok-clause-found : goal.returns-in-Ok-clause-found

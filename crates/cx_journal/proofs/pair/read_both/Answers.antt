@@ -1,7 +1,6 @@
 use Rattle.std.proofs.Common.{◌∙◌}
-use Rattle.cx_journal.proofs.TwinReady.{same_beside}
+use Rattle.cx_journal.proofs.TwinReady.{same_beside, told_still, list_so, outside_so, leaves_same}
 use Rattle.cx_journal.proofs.Ready.{told_of}
-use Rattle.cx_journal.proofs.TwinReady.{told_still, list_so, outside_so, leaves_same}
 use Rattle.cx_journal.proofs.pair.read_both.Goals as goal
 
 pub returns-clause-list : goal.returns-clause-list

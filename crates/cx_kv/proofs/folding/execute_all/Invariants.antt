@@ -1,5 +1,4 @@
-use Rattle.std.proofs.Common.{◌≡◌, ◌++◌, drop}
-use Rattle.cx_base.specs.Fold.{map_behind}
+use Rattle.cx_base.proofs.Common.{◌≡◌, ◌++◌, drop, map_behind}
 use Rattle.cx_kv.proofs.folding.execute_all.Given as goal
 
 abbrev pub invariant-loop-command : goal.invariant-loop-command

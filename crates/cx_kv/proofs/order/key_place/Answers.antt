@@ -1,6 +1,4 @@
-use Rattle.std.proofs.Common.{rules}
-use Rattle.std.specs.Prelude.{slice_get}
-use Rattle.std.proofs.lemmas.List.Sorted.{IsPartitionPoint-from_clause}
+use Rattle.cx_base.proofs.Common.{rules, slice_get, IsPartitionPoint-from_clause}
 use Rattle.cx_kv.specs.Picked.{is_pair_before}
 use Rattle.cx_kv.proofs.Picking.{order_parted, order_place}
 use Rattle.cx_kv.proofs.order.key_place.Goals as goal

@@ -1,12 +1,9 @@
-use Rattle.std.proofs.Common.{◌≡◌, ◌<◌, length, get_or, false, sym, subst, ◌∙◌, arith}
-use Rattle.std.specs.Str.{bytes_eq}
-use Rattle.std.proofs.lemmas.List.{length-map}
+use Rattle.cx_base.proofs.Common.{◌≡◌, ◌<◌, length, get_or, false, sym, subst, ◌∙◌, arith, bytes_eq, length-map}
 use Rattle.cx_base.specs.declared.command.Pair.{Pair}
 use Rattle.cx_kv.specs.Picked.{pair_at, picked}
 use Rattle.cx_kv.proofs.Maps.{behind_place}
 use Rattle.cx_kv.proofs.order.look_up.Goals as goal
-use Rattle.cx_kv.proofs.order.look_up.Goals.{else-place-order-via-then-place-order+else-same_key}
-use Rattle.cx_kv.proofs.order.look_up.Goals.{else-place-order-via-else-place-order}
+use Rattle.cx_kv.proofs.order.look_up.Goals.{else-place-order-via-then-place-order+else-same_key, else-place-order-via-else-place-order}
 
 pub returns-clause-free : goal.returns-clause-free
 returns-clause-free c =

@@ -1,6 +1,5 @@
-use Rattle.std.proofs.Common.{◌≡◌, ◌+◌, ◌-◌, ◌<◌, ℕ, List, ◌++◌, length, map, take, drop, ap, sym, subst, ◌∙◌, arith}
-use Rattle.std.specs.Prelude.{vec_len}
-use Rattle.std.proofs.lemmas.List.{length-map}
+use Rattle.cx_base.proofs.Common.{◌≡◌, ◌+◌, ◌-◌, ◌<◌, ℕ, List, ◌++◌, length, map, take, drop, ap, sym, subst, ◌∙◌, arith, vec_len}
+use Rattle.cx_base.proofs.Common.{length-map}
 use Rattle.cx_base.specs.declared.command.Pair.{Pair}
 use Rattle.cx_kv.specs.Picked.{AreBelow, picked, renamed}
 use Rattle.cx_kv.proofs.Picking.{below_removed, gap_inside, picked_is, picked_removed, written}

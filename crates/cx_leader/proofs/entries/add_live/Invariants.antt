@@ -1,5 +1,4 @@
-use Rattle.cx_role.proofs.Common.{◌≡◌, ◌++◌, drop}
-use Rattle.cx_model.specs.Matchmaker.{entries_since}
+use Rattle.cx_role.proofs.Common.{◌≡◌, ◌++◌, drop, entries_since}
 use Rattle.cx_leader.proofs.entries.add_live.Given as goal
 
 abbrev pub invariant-loop-entry : goal.invariant-loop-entry

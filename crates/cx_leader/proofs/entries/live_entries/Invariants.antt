@@ -1,5 +1,4 @@
-use Rattle.cx_role.proofs.Common.{◌≡◌, ◌++◌, drop, entries_told}
-use Rattle.cx_model.specs.Matchmaker.{entries_since}
+use Rattle.cx_role.proofs.Common.{◌≡◌, ◌++◌, drop, entries_told, entries_since}
 use Rattle.cx_leader.proofs.entries.live_entries.Given as goal
 
 abbrev pub invariant-loop-answer : goal.invariant-loop-answer

@@ -1,5 +1,4 @@
-use Rattle.cx_role.proofs.Common.{ap, arith, sym, ◌∙◌, and_parts, and_from, all_fit, ◌==◌}
-use Rattle.std.proofs.lemmas.Grind.{common_steps}
+use Rattle.cx_role.proofs.Common.{ap, arith, sym, ◌∙◌, and_parts, and_from, all_fit, ◌==◌, common_steps}
 use Rattle.cx_field.specs.Fields as field
 use Rattle.cx_letter.specs.Records.{kept_record}
 use Rattle.cx_phase1.proofs.Walks.{next_left}

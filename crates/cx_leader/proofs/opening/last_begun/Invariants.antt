@@ -1,5 +1,4 @@
-use Rattle.cx_role.proofs.Common.{◌≡◌, drop, IsTrue, all_fit, folded_from, refused_from}
-use Rattle.cx_model.specs.Leader.{leader_rules}
+use Rattle.cx_role.proofs.Common.{◌≡◌, drop, IsTrue, all_fit, folded_from, refused_from, leader_rules}
 use Rattle.cx_leader.specs.State.{own_fits}
 use Rattle.cx_leader.proofs.opening.last_begun.Given as goal
 

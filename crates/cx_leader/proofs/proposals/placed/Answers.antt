@@ -1,5 +1,4 @@
-use Rattle.cx_role.proofs.Common.{◌≡◌, ◌+◌, ◌∷◌, drop, arith, ◌∙◌, append_assoc, [], Placed}
-use Rattle.cx_model.specs.Plan.{placed_from}
+use Rattle.cx_role.proofs.Common.{◌≡◌, ◌+◌, ◌∷◌, drop, arith, ◌∙◌, append_assoc, [], Placed, placed_from}
 use Rattle.cx_phase1.proofs.Walks.{next_left}
 use Rattle.cx_leader.proofs.BySlot.{put_next, slots_next}
 use Rattle.cx_leader.proofs.proposals.placed.Goals as goal

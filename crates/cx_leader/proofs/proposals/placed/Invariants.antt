@@ -1,5 +1,4 @@
-use Rattle.cx_role.proofs.Common.{◌≡◌, ◌+◌, ◌++◌, true, drop, map, Placed, numbers}
-use Rattle.cx_model.specs.Plan.{placed_from}
+use Rattle.cx_model.specs.Prelude.{◌≡◌, ◌+◌, ◌++◌, true, drop, map, Placed, numbers, placed_from}
 use Rattle.cx_leader.proofs.proposals.placed.Given as goal
 
 abbrev pub invariant-loop-value : goal.invariant-loop-value

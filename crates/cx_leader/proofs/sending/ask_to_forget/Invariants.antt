@@ -1,5 +1,4 @@
-use Rattle.std.specs.Prelude.{◌≡◌, ◌≤◌, ◌+◌}
-use Rattle.cx_role.proofs.Common.{◌++◌, drop, map, role, Leader}
+use Rattle.cx_letter.specs.Prelude.{◌≡◌, ◌≤◌, ◌+◌, ◌++◌, drop, map, role, Leader}
 use Rattle.cx_model.specs.Leader.{garbage_a_to}
 use Rattle.cx_leader.proofs.sending.ask_to_forget.Given as goal
 

@@ -1,6 +1,5 @@
-use Rattle.cx_role.proofs.Common.{role, Leader, is_member_of}
+use Rattle.cx_role.specs.Prelude.{role, Leader, is_member_of, phase1a_to}
 use Rattle.cx_role.proofs.Sends.{IsSendingTo}
-use Rattle.cx_model.specs.Leader.{phase1a_to}
 use Rattle.cx_leader.proofs.sending.ask_to_promise.Given as goal
 
 abbrev pub invariant-loop-acceptor : goal.invariant-loop-acceptor

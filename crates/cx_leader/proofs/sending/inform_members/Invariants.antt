@@ -1,5 +1,4 @@
-use Rattle.cx_role.proofs.Common.{role, Leader, is_in}
-use Rattle.cx_role.proofs.Sends.{IsSendingTo}
+use Rattle.cx_role.proofs.Common.{role, Leader, is_in, IsSendingTo}
 use Rattle.cx_model.specs.Leader.{inform_to}
 use Rattle.cx_leader.proofs.sending.inform_members.Given as goal
 

@@ -1,6 +1,5 @@
-use Rattle.cx_role.proofs.Common.{role, Leader}
+use Rattle.cx_role.specs.Prelude.{role, Leader, leads_to}
 use Rattle.cx_role.proofs.Sends.{IsSending}
-use Rattle.cx_model.specs.Leader.{leads_to}
 use Rattle.cx_leader.proofs.sending.tell_batchers.Given as goal
 
 abbrev pub invariant-loop-batcher : goal.invariant-loop-batcher

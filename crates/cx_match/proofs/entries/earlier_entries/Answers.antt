@@ -1,4 +1,5 @@
-use Rattle.cx_role.proofs.Common.{◌≡◌, arith, rules, is_before, Entry, entries_filter}
+use Rattle.cx_role.proofs.Common.{◌≡◌, arith, rules, is_before, Entry}
+use Rattle.cx_field.proofs.ListLaws.{entries_filter}
 use Rattle.cx_model.specs.Matchmaker.{entries_before}
 use Rattle.cx_match.proofs.EntryLaws.{at_most_255}
 use Rattle.cx_match.proofs.entries.earlier_entries.Goals as goal

@@ -1,13 +1,8 @@
-use Rattle.std.proofs.Common.{◌≡◌, ◌++◌, true, false, length, Err, ap, sym, ◌∙◌, rules}
-use Rattle.std.proofs.lemmas.Result.{err_from_is_err_and}
-use Rattle.cx_course.specs.Course.{own_event, requests_by, step_events}
-use Rattle.cx_course.specs.Hosted.{does}
-use Rattle.cx_seat.specs.Changing.{changing}
-use Rattle.cx_course.specs.Changing.{changes_of}
-use Rattle.cx_seat.specs.Guest.{hosted_of, keeper_of, who}
+use Rattle.cx_base.proofs.Common.{◌≡◌, ◌++◌, true, false, length, Err, ap, sym, ◌∙◌, rules, err_from_is_err_and}
+use Rattle.cx_seat.specs.Prelude.{step_events, does, changing, changes_of, hosted_of, keeper_of, who, has_room}
+use Rattle.cx_course.specs.Course.{own_event, requests_by}
 use Rattle.cx_node.proofs.Done.{rests_itself}
 use Rattle.cx_node.proofs.Fitting.{all_events, full_own, own_is_all, rests_without}
-use Rattle.cx_record.specs.Numbers.{has_room}
 use Rattle.cx_node.proofs.acting.ask_noting.Goals as goal
 
 -- its own event doesn't fit

@@ -1,7 +1,4 @@
-use Rattle.std.proofs.Common.{◌≡◌, ◌-◌}
-use Rattle.std.specs.List.{list_all, list_any}
-use Rattle.cx_base.specs.Lists.{below, numbers}
-use Rattle.cx_base.specs.Role.{role, same_role}
+use Rattle.cx_base.proofs.Common.{◌≡◌, ◌-◌, list_all, list_any, below, numbers, role, same_role}
 use Rattle.cx_node.proofs.hosting.has_kind.Given as goal
 
 abbrev pub invariant-loop-index : goal.invariant-loop-index

@@ -1,9 +1,4 @@
-use Rattle.std.proofs.Common.{◌≡◌, drop}
-use Rattle.std.specs.List.{list_all, list_any}
-use Rattle.cx_base.specs.Cluster.{count_of}
-use Rattle.cx_base.specs.Lists.{below}
-use Rattle.cx_base.specs.Role.{role, same_role}
-use Rattle.cx_base.specs.declared.role.Kind.{Kind}
+use Rattle.cx_letter.specs.Prelude.{◌≡◌, drop, list_all, list_any, count_of, below, role, same_role, Kind}
 use Rattle.cx_node.proofs.hosting.have_kinds.Given as goal
 
 abbrev pub invariant-loop-kind : goal.invariant-loop-kind

@@ -1,5 +1,4 @@
-use Rattle.std.proofs.Common.{false, subst}
-use Rattle.std.specs.Io.KnownBytes.{Consumes}
+use Rattle.cx_base.proofs.Common.{false, subst, Consumes}
 use Rattle.cx_node.specs.Input.{IsInputAnswer, lines}
 use Rattle.cx_node.specs.declared.input.Refusal.TheVariants as refusal
 use Rattle.cx_node.proofs.Refuses.{all_complete, long_is_refused, read_failed, refused_of_all}

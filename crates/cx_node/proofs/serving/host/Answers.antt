@@ -1,11 +1,8 @@
-use Rattle.std.proofs.Common.{◌≡◌, ◌∙◌, Bool, true, Result, Err, is_some, refl, sym, ap, subst, inl}
-use Rattle.cx_model.specs.Names.{names_role}
-use Rattle.cx_seat.specs.Closing.{GivesBack}
+use Rattle.cx_role.proofs.Common.{◌≡◌, ◌∙◌, Bool, true, Result, Err, is_some, refl, sym, ap, subst, inl, names_role}
+use Rattle.cx_seat.specs.Prelude.{GivesBack, disks_in, files_of}
 use Rattle.cx_node.specs.Hosting.{HostAnswered, Ran, hosting, known_first, store_gives}
 use Rattle.cx_node.specs.Acts.{failed, scene_of}
-use Rattle.cx_seat.specs.Opening.{disks_in}
 use Rattle.cx_node.specs.Serving.{outside_read, recorded_header}
-use Rattle.cx_seat.specs.Stores.{files_of}
 use Rattle.cx_seat.specs.declared.opening.OpenStop.{OpenStop}
 use Rattle.cx_seat.specs.declared.opening.OpenStop.TheVariants as open_stop
 use Rattle.cx_node.proofs.ClosedStores.{opened_stays, opened_still, opened_unhosted}

@@ -1,8 +1,7 @@
-use Rattle.std.proofs.Common.{Err, refl, sym, ap, subst}
+use Rattle.cx_node.proofs.Common.{Err, refl, sym, ap, subst, failed, scene_of, hosting, known_first, store_gives}
 use Rattle.cx_edge.specs.Sink.{WritesAll}
 use Rattle.cx_node.specs.declared.node.Stop.TheVariants as stop
-use Rattle.cx_node.specs.Acts.{failed, failures, scene_of}
-use Rattle.cx_node.specs.Hosting.{hosting, known_first, store_gives}
+use Rattle.cx_node.specs.Acts.{failures}
 use Rattle.cx_node.proofs.SteadySeats.{behind_cut, ran_behind}
 use Rattle.cx_node.proofs.serving.run_behind.Goals as goal
 

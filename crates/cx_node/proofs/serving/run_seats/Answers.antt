@@ -1,12 +1,8 @@
-use Rattle.std.proofs.Common.{[], ◌∙◌, Err, refl, sym, ap, subst}
+use Rattle.cx_seat.specs.Prelude.{AreDistinct, hosted_in, lent_to, is_two}
+use Rattle.cx_node.proofs.Common.{[], ◌∙◌, Err, refl, sym, ap, subst, failed, scene_of, hosting, known_first, store_gives}
 use Rattle.cx_node.specs.declared.node.Stop.TheVariants as stop
-use Rattle.cx_node.specs.Acts.{failed, scene_of}
-use Rattle.cx_course.specs.Alike.{AreDistinct}
-use Rattle.cx_seat.specs.Guest.{hosted_in}
 use Rattle.cx_seat.specs.Closing.{AreGivenBack}
-use Rattle.cx_node.specs.Hosting.{Ran, hosting, known_first, store_gives}
-use Rattle.cx_seat.specs.Opening.{lent_to}
-use Rattle.cx_seat.specs.Stores.{is_two}
+use Rattle.cx_node.specs.Hosting.{Ran}
 use Rattle.cx_node.proofs.SteadySeats.{distinct_steady, lent_steady, part_alone, runs_alone, runs_none, steady_run}
 use Rattle.cx_node.proofs.StoredRecords.{shape_stays}
 use Rattle.cx_node.proofs.serving.run_seats.Goals as goal

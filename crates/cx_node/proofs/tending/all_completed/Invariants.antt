@@ -1,8 +1,5 @@
-use Rattle.std.proofs.Common.{◌≡◌, min, take}
 use Rattle.std.specs.List.{sum_by}
-use Rattle.cx_seat.specs.declared.guest.Guest.{Guest}
-use Rattle.cx_seat.specs.Guest.{hosted_of}
-use Rattle.cx_course.specs.Tending.{completed}
+use Rattle.cx_node.proofs.Common.{◌≡◌, min, take, Guest, hosted_of, completed}
 use Rattle.cx_node.proofs.tending.all_completed.Given as goal
 
 abbrev pub invariant-loop-seat : goal.invariant-loop-seat

@@ -1,5 +1,4 @@
-use Rattle.std.proofs.Common.{◌≡◌, ◌≤◌, ◌/◌, ℕ, min, take, arith, ap, ◌∙◌}
-use Rattle.cx_base.specs.Grid.{make_grid}
+use Rattle.cx_base.proofs.Common.{◌≡◌, ◌≤◌, ◌/◌, ℕ, min, take, arith, ap, ◌∙◌, make_grid}
 use Rattle.cx_course.specs.Run.{first_grid}
 use Rattle.cx_node.proofs.Grids.{even_grid, firsts, is_grid, odd_grid}
 use Rattle.cx_node.proofs.turning.first_grid.Goals as goal

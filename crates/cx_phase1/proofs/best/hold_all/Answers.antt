@@ -1,5 +1,4 @@
-use Rattle.std.proofs.Common.{◌∙◌, ◌<◌, ◌+◌, ℕ, List, All, ap, subst, sym}
-use Rattle.std.proofs.lemmas.List.Elements.{All-head, All-tail}
+use Rattle.cx_base.proofs.Common.{◌∙◌, ◌<◌, ◌+◌, ℕ, List, All, ap, subst, sym, All-head, All-tail}
 use Rattle.cx_field.specs.declared.parts.Vote.{Vote}
 use Rattle.cx_phase1.specs.Best.{with_votes}
 use Rattle.cx_phase1.proofs.BestLaws.{first_same, room_same}

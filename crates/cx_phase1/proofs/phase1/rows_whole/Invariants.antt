@@ -1,5 +1,4 @@
-use Rattle.std.proofs.Common.{◌≡◌, drop}
-use Rattle.cx_model.specs.Matched.{rows_whole}
+use Rattle.cx_model.specs.Prelude.{◌≡◌, drop, rows_whole}
 use Rattle.cx_phase1.proofs.phase1.rows_whole.Given as goal
 
 abbrev pub invariant-loop-entry : goal.invariant-loop-entry

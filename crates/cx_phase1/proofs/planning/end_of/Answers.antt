@@ -1,5 +1,4 @@
-use Rattle.std.proofs.Common.{◌+◌}
-use Rattle.cx_model.specs.Plan.{end_told}
+use Rattle.cx_model.specs.Prelude.{◌+◌, end_told}
 use Rattle.cx_phase1.proofs.PlanLaws.{end_from}
 use Rattle.cx_phase1.proofs.Walks.{carried}
 use Rattle.cx_phase1.proofs.planning.end_of.Goals as goal

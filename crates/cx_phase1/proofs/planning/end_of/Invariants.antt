@@ -1,5 +1,4 @@
-use Rattle.std.proofs.Common.{◌≡◌, drop}
-use Rattle.cx_model.specs.Plan.{end_told}
+use Rattle.cx_model.specs.Prelude.{◌≡◌, drop, end_told}
 use Rattle.cx_phase1.proofs.planning.end_of.Given as goal
 
 abbrev pub invariant-loop-vote : goal.invariant-loop-vote

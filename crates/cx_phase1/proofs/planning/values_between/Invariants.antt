@@ -1,7 +1,5 @@
-use Rattle.std.proofs.Common.{◌≡◌, ◌-◌, ◌++◌, map}
-use Rattle.cx_base.specs.Lists.{numbers}
+use Rattle.cx_model.specs.Prelude.{◌≡◌, ◌-◌, ◌++◌, map, numbers, voted_value}
 use Rattle.cx_ring.specs.Ring.{value_at}
-use Rattle.cx_model.specs.Plan.{voted_value}
 use Rattle.cx_phase1.specs.Best.{slot_of}
 use Rattle.cx_phase1.proofs.planning.values_between.Given as goal
 

@@ -1,5 +1,4 @@
-use Rattle.std.proofs.Common.{◌≡◌, ◌++◌, ◌∷◌, ◌∙◌, [], List, ℕ, length, ap, arith}
-use Rattle.std.proofs.lemmas.List.{append-nil}
+use Rattle.cx_base.proofs.Common.{◌≡◌, ◌++◌, ◌∷◌, ◌∙◌, [], List, ℕ, length, ap, arith, append-nil}
 use Rattle.cx_pieces.specs.Chunks.{all_of}
 use Rattle.cx_pieces.proofs.Places.{all_more, full_more}
 use Rattle.cx_pieces.proofs.pieces.close.Goals as goal

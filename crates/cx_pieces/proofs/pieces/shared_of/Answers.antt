@@ -1,5 +1,4 @@
-use Rattle.std.proofs.Common.{◌≡◌, ◌/◌, Some, None, sym}
-use Rattle.std.specs.List.{slice_get}
+use Rattle.cx_base.proofs.Common.{◌≡◌, ◌/◌, Some, None, sym, slice_get}
 use Rattle.cx_pieces.proofs.Places.{piece_nowhere, piece_there}
 use Rattle.cx_pieces.proofs.pieces.shared_of.Goals as goal
 

@@ -1,5 +1,4 @@
-use Rattle.cx_role.proofs.Common.{◌≡◌, ℕ, List, Option, None, Some, ◌∙◌, sym, ap, Pending}
-use Rattle.cx_model.specs.Proxy.{pending_at}
+use Rattle.cx_role.proofs.Common.{◌≡◌, ℕ, List, Option, None, Some, ◌∙◌, sym, ap, Pending, pending_at}
 use Rattle.cx_proxy.specs.Slots.{ring_with}
 use Rattle.cx_proxy.proofs.Holding.{found_slot}
 use Rattle.cx_proxy.proofs.Same.{put_again}

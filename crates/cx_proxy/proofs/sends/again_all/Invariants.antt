@@ -1,5 +1,4 @@
-use Rattle.cx_role.proofs.Common.{◌≡◌, ◌+◌, ◌-◌, ◌*◌, ◌≤◌, ◌++◌, length, numbers}
-use Rattle.cx_model.specs.Proxy.{again_at}
+use Rattle.cx_model.specs.Prelude.{◌≡◌, ◌+◌, ◌-◌, ◌*◌, ◌≤◌, ◌++◌, length, numbers, again_at}
 use Rattle.cx_proxy.proofs.sends.again_all.Given as goal
 
 abbrev pub invariant-loop-slot : goal.invariant-loop-slot

@@ -1,5 +1,4 @@
-use Rattle.cx_role.proofs.Common.{◌≡◌, ◌+◌, ◌-◌, ◌++◌, map, length, numbers, below}
-use Rattle.cx_model.specs.Proxy.{chosen_to}
+use Rattle.cx_model.specs.Prelude.{◌≡◌, ◌+◌, ◌-◌, ◌++◌, map, length, numbers, below, chosen_to}
 use Rattle.cx_proxy.proofs.sends.announce.Given as goal
 
 abbrev pub invariant-loop-replica : goal.invariant-loop-replica

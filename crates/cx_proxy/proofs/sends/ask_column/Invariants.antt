@@ -1,6 +1,4 @@
-use Rattle.cx_role.proofs.Common.{◌≡◌, ◌-◌, ◌≤◌, ◌++◌, filter, map, length, is_in, numbers}
-use Rattle.cx_grid.specs.Quorum.{column_of}
-use Rattle.cx_model.specs.Proxy.{phase2a_to, column_for}
+use Rattle.cx_model.specs.Prelude.{◌≡◌, ◌-◌, ◌≤◌, ◌++◌, filter, map, length, is_in, numbers, column_of, phase2a_to, column_for}
 use Rattle.cx_proxy.proofs.sends.ask_column.Given as goal
 
 abbrev pub invariant-loop-acceptor : goal.invariant-loop-acceptor

@@ -1,5 +1,4 @@
-use Rattle.cx_role.proofs.Common.{◌≤◌, arith, ◌∙◌, sym, length}
-use Rattle.cx_model.specs.Proxy.{phase2a_to}
+use Rattle.cx_role.proofs.Common.{◌≤◌, arith, ◌∙◌, sym, length, phase2a_to}
 use Rattle.cx_proxy.proofs.Receivers.{members_left, members_room}
 use Rattle.cx_proxy.proofs.sends.ask_members.Goals as goal
 

@@ -1,5 +1,4 @@
-use Rattle.cx_role.proofs.Common.{◌≡◌, ◌-◌, ◌++◌, filter, map, is_in, numbers}
-use Rattle.cx_model.specs.Proxy.{phase2a_to, members_for}
+use Rattle.cx_model.specs.Prelude.{◌≡◌, ◌-◌, ◌++◌, filter, map, is_in, numbers, phase2a_to, members_for}
 use Rattle.cx_proxy.proofs.sends.ask_members.Given as goal
 
 abbrev pub invariant-loop-acceptor : goal.invariant-loop-acceptor

@@ -1,8 +1,6 @@
-use Rattle.cx_role.proofs.Common.{◌≡◌, ℕ, ◌+◌, ◌-◌, ◌<◌, Bool, true, false, List, Pending, numbers, sym, ap, ◌∙◌, arith}
-use Rattle.std.specs.Prelude.{◌||◌}
-use Rattle.std.specs.List.{list_any}
+use Rattle.cx_role.proofs.Common.{◌≡◌, ℕ, ◌+◌, ◌-◌, ◌<◌, Bool, true, false, List, Pending, numbers, sym, ap, ◌∙◌, arith, ◌||◌, list_any}
+use Rattle.cx_role.proofs.Common.{pending_at}
 use Rattle.cx_grid.proofs.Crossing.{numbers_more}
-use Rattle.cx_model.specs.Proxy.{pending_at}
 use Rattle.cx_proxy.specs.Tending.{is_undecided}
 use Rattle.cx_proxy.proofs.tending.has_undecided.Goals as goal
 

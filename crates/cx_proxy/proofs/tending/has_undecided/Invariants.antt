@@ -1,6 +1,4 @@
-use Rattle.cx_role.proofs.Common.{◌≡◌, ◌+◌, ◌-◌, ℕ, numbers}
-use Rattle.std.specs.List.{list_any}
-use Rattle.cx_model.specs.Proxy.{pending_at}
+use Rattle.cx_model.specs.Prelude.{◌≡◌, ◌+◌, ◌-◌, ℕ, numbers, list_any, pending_at}
 use Rattle.cx_proxy.specs.Tending.{is_undecided}
 use Rattle.cx_proxy.proofs.tending.has_undecided.Given as goal
 

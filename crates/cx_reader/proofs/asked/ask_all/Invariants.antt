@@ -1,5 +1,4 @@
-use Rattle.std.specs.Prelude.{◌≡◌, ◌≤◌, ◌+◌}
-use Rattle.cx_role.proofs.Common.{◌++◌, drop, map, role, Reader}
+use Rattle.cx_letter.specs.Prelude.{◌≡◌, ◌≤◌, ◌+◌, ◌++◌, drop, map, role, Reader}
 use Rattle.cx_model.specs.Reader.{read_to}
 use Rattle.cx_reader.proofs.asked.ask_all.Given as goal
 

@@ -1,5 +1,4 @@
-use Rattle.cx_role.proofs.Common.{◌≡◌, drop, rows_whole}
-use Rattle.cx_model.specs.Matchmaker.{entries_since}
+use Rattle.cx_role.proofs.Common.{◌≡◌, drop, rows_whole, entries_since}
 use Rattle.cx_reader.proofs.matched.live_whole.Given as goal
 
 abbrev pub invariant-loop-entry : goal.invariant-loop-entry

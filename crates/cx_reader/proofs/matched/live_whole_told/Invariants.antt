@@ -1,5 +1,4 @@
-use Rattle.cx_role.proofs.Common.{◌≡◌, drop, entries_told, rows_whole}
-use Rattle.cx_model.specs.Matchmaker.{entries_since}
+use Rattle.cx_role.proofs.Common.{◌≡◌, drop, entries_told, rows_whole, entries_since}
 use Rattle.cx_reader.proofs.matched.live_whole_told.Given as goal
 
 abbrev pub invariant-loop-answer : goal.invariant-loop-answer

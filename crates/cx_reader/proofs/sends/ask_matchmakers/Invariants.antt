@@ -1,5 +1,4 @@
-use Rattle.std.specs.Prelude.{◌≡◌, ◌≤◌, ◌+◌}
-use Rattle.cx_role.proofs.Common.{◌++◌, drop, role, Reader}
+use Rattle.cx_letter.specs.Prelude.{◌≡◌, ◌≤◌, ◌+◌, ◌++◌, drop, role, Reader}
 use Rattle.cx_model.specs.Reader.{ask_matchmakers}
 use Rattle.cx_reader.proofs.sends.ask_matchmakers.Given as goal
 

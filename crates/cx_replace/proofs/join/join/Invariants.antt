@@ -1,6 +1,5 @@
-use Rattle.cx_role.proofs.Common.{◌≡◌, ◌++◌, ◌∷◌, [], drop, entries_told}
-use Rattle.cx_model.specs.Matchmaker.{entries_since}
-use Rattle.cx_model.specs.Replacer.{answers_of, sorted_into}
+use Rattle.std.proofs.Common.{drop}
+use Rattle.cx_role.specs.Prelude.{◌≡◌, ◌++◌, ◌∷◌, [], entries_told, entries_since, answers_of, sorted_into}
 use Rattle.cx_replace.proofs.join.join.Given as goal
 
 abbrev pub invariant-loop-halt : goal.invariant-loop-halt

@@ -1,6 +1,4 @@
-use Rattle.cx_role.proofs.Common.{◌≡◌, drop}
-use Rattle.cx_model.specs.Matchmaker.{entries_since}
-use Rattle.cx_model.specs.Replacer.{sorted_into}
+use Rattle.cx_role.proofs.Common.{◌≡◌, drop, entries_since, sorted_into}
 use Rattle.cx_replace.proofs.join.put_live.Given as goal
 
 abbrev pub invariant-loop-entry : goal.invariant-loop-entry

@@ -1,5 +1,4 @@
-use Rattle.cx_role.proofs.Common.{◌≡◌, drop, folded_from, refused_from}
-use Rattle.cx_model.specs.Replacer.{replacer_rules}
+use Rattle.cx_model.specs.Prelude.{◌≡◌, drop, folded_from, refused_from, replacer_rules}
 use Rattle.cx_replace.proofs.opening.last_ballot.Given as goal
 
 abbrev pub invariant-loop-index : goal.invariant-loop-index

@@ -1,6 +1,4 @@
-use Rattle.std.specs.Prelude.{◌≡◌, ◌≤◌, ◌+◌}
-use Rattle.cx_base.specs.declared.role.Kind.TheVariants.{Replacer}
-use Rattle.cx_role.proofs.Common.{◌++◌, drop, map, role}
+use Rattle.cx_letter.specs.Prelude.{◌≡◌, ◌≤◌, ◌+◌, Replacer, ◌++◌, drop, map, role}
 use Rattle.cx_model.specs.Replacer.{boot_a_to}
 use Rattle.cx_replace.proofs.sends.ask_each_to_begin.Given as goal
 

@@ -1,7 +1,4 @@
-use Rattle.cx_base.specs.declared.role.Kind.TheVariants.{Replacer}
-use Rattle.cx_role.proofs.Common.{role, Leader}
-use Rattle.cx_role.proofs.Sends.{IsSending}
-use Rattle.cx_model.specs.Replacer.{sets_to}
+use Rattle.cx_role.proofs.Common.{Replacer, role, Leader, IsSending, sets_to}
 use Rattle.cx_replace.proofs.sends.tell_leaders.Given as goal
 
 abbrev pub invariant-loop-leader : goal.invariant-loop-leader

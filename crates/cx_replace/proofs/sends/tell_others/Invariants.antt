@@ -1,7 +1,4 @@
-use Rattle.cx_base.specs.declared.role.Kind.TheVariants.{Replacer}
-use Rattle.cx_role.proofs.Common.{◌==◌, not, role}
-use Rattle.cx_role.proofs.Sends.{IsSendingTo}
-use Rattle.cx_model.specs.Replacer.{sets_to}
+use Rattle.cx_role.proofs.Common.{Replacer, ◌==◌, not, role, IsSendingTo, sets_to}
 use Rattle.cx_replace.proofs.sends.tell_others.Given as goal
 
 abbrev pub invariant-loop-other : goal.invariant-loop-other

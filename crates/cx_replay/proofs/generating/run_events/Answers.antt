@@ -1,6 +1,5 @@
-use Rattle.std.proofs.Common.{◌≡◌, ◌∙◌, length, ap, sym, arith}
-use Rattle.cx_base.specs.declared.event.Event.{Event}
-use Rattle.cx_model.specs.World.{World, run, step}
+use Rattle.std.proofs.Common.{◌∙◌, ap, sym, arith}
+use Rattle.cx_model.specs.Prelude.{◌≡◌, length, Event, World, run, step}
 use Rattle.cx_script.specs.Generator.{GeneratorState, gen_cluster, next_event, next_state}
 use Rattle.cx_world.specs.World.{world_of}
 use Rattle.cx_world.specs.declared.counts.Counts.{Counts}

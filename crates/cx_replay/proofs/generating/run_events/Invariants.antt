@@ -1,5 +1,4 @@
-use Rattle.std.proofs.Common.{◌≡◌, false}
-use Rattle.cx_model.specs.World.{run}
+use Rattle.cx_model.specs.Prelude.{◌≡◌, false, run}
 use Rattle.cx_replay.specs.Generated.{gen_state, gen_events}
 use Rattle.cx_script.specs.Generator.{gen_cluster}
 use Rattle.cx_world.specs.World.{world_of}

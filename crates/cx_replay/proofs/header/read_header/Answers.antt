@@ -1,5 +1,4 @@
-use Rattle.std.proofs.Common.{◌≡◌, ◌<◌, ◌++◌, ◌∷◌, [], length, true, false, sym, ap, ◌∙◌, subst, rules}
-use Rattle.std.specs.Str.Lines.{strip_carriage_return}
+use Rattle.cx_base.proofs.Common.{◌≡◌, ◌<◌, ◌++◌, ◌∷◌, [], length, true, false, sym, ap, ◌∙◌, subst, rules, strip_carriage_return}
 use Rattle.cx_script.specs.Header.{is_rule}
 use Rattle.cx_replay.specs.Streamed.{HasHeader}
 use Rattle.cx_replay.proofs.HeaderLines.{goes_header, rule_header, rule_alone, long_header, long_line, ended_header, ended_last}

@@ -1,6 +1,4 @@
-use Rattle.std.proofs.Common.{◌≡◌, ◌+◌, arith, refl, sym, ◌∙◌, subst}
-use Rattle.std.specs.Str.Lines.{strip_carriage_return}
-use Rattle.cx_base.specs.Faults.{Rises}
+use Rattle.cx_base.proofs.Common.{◌≡◌, ◌+◌, arith, refl, sym, ◌∙◌, subst, strip_carriage_return, Rises}
 use Rattle.cx_model.specs.World.{start}
 use Rattle.cx_replay.specs.Streamed.{Spells, WritesFront}
 use Rattle.cx_replay.proofs.Along.{Along, begins_along, goes_along, writes_along, fails_along, ends_along, ends_last, stops_at_line}

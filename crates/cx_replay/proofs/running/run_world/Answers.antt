@@ -1,6 +1,4 @@
-use Rattle.std.proofs.Common.{◌∙◌, subst, sym}
-use Rattle.std.specs.Io.KnownBytes.{Appends}
-use Rattle.cx_base.specs.Faults.{Rises}
+use Rattle.cx_base.proofs.Common.{◌∙◌, subst, sym, Appends, Rises}
 use Rattle.cx_edge.specs.Sink.{AppendsPart, WritesAll}
 use Rattle.cx_world.specs.World.{world_of}
 use Rattle.cx_replay.specs.Replay.{Replayed}

@@ -1,5 +1,4 @@
-use Rattle.std.proofs.Common.{◌≡◌, ◌++◌, ◌-◌, map}
-use Rattle.cx_base.specs.Lists.{numbers, below}
+use Rattle.cx_base.proofs.Common.{◌≡◌, ◌++◌, ◌-◌, map, numbers, below}
 use Rattle.cx_world.specs.Folded.{folded_of}
 use Rattle.cx_replay.proofs.step.folds.Given as goal
 

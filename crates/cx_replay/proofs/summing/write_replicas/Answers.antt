@@ -1,5 +1,4 @@
-use Rattle.std.proofs.Common.{◌≡◌, ◌+◌, ◌-◌, ◌++◌, ap, map, subst, List, ℕ, OnOk}
-use Rattle.cx_base.specs.Lists.{below, numbers}
+use Rattle.cx_base.proofs.Common.{◌≡◌, ◌+◌, ◌-◌, ◌++◌, ap, map, subst, List, ℕ, OnOk, below, numbers}
 use Rattle.cx_base.specs.declared.cluster.Cluster.{Cluster}
 use Rattle.cx_trace.specs.Summary.{replica_text, replicas_text}
 use Rattle.cx_trace.specs.declared.summary.Folded.{Folded}

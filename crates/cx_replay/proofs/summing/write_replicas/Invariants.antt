@@ -1,5 +1,4 @@
-use Rattle.std.proofs.Common.{◌-◌, map}
-use Rattle.cx_base.specs.Lists.{below, numbers}
+use Rattle.cx_base.proofs.Common.{◌-◌, map, below, numbers}
 use Rattle.cx_trace.specs.Summary.{replicas_text}
 use Rattle.cx_world.specs.Folded.{folded_of}
 use Rattle.cx_replay.proofs.Pieces.{Writing}

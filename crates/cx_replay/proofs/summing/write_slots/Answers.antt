@@ -1,7 +1,5 @@
-use Rattle.std.proofs.Common.{◌≡◌, ◌+◌, ◌++◌, [], List, ℕ, OnOk, drop, subst}
-use Rattle.cx_base.specs.Fold.{commands_of}
-use Rattle.cx_base.specs.declared.command.Command.{Command}
-use Rattle.cx_base.specs.declared.command.Value.{Value}
+use Rattle.std.proofs.Common.{subst}
+use Rattle.cx_letter.specs.Prelude.{◌≡◌, ◌+◌, ◌++◌, [], List, ℕ, OnOk, drop, commands_of, Command, Value}
 use Rattle.cx_trace.specs.Summary.{slot_text, slots_text}
 use Rattle.cx_replay.proofs.Pieces.{Writing, at_slot, where_ok, writing_goes, writing_stops}
 use Rattle.cx_replay.proofs.summing.write_slots.Goals as goal

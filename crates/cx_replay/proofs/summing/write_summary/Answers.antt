@@ -1,7 +1,5 @@
-use Rattle.std.proofs.Common.{◌≡◌, ◌++◌, [], List, ℕ, OnOk, length, map, subst}
-use Rattle.cx_base.specs.Lists.{below}
-use Rattle.cx_base.specs.declared.command.Value.{Value}
-use Rattle.cx_model.specs.World.{World}
+use Rattle.std.proofs.Common.{subst}
+use Rattle.cx_model.specs.Prelude.{◌≡◌, ◌++◌, [], List, ℕ, OnOk, length, map, below, Value, World}
 use Rattle.cx_replay.specs.Replay.{summary}
 use Rattle.cx_trace.specs.Summary.{chosen_text, replicas_text, slots_text}
 use Rattle.cx_world.specs.Folded.{folded_of}

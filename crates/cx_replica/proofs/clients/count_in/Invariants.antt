@@ -1,5 +1,4 @@
-use Rattle.std.proofs.Common.{◌≡◌, ◌+◌, ◌*◌, ◌≤◌, drop}
-use Rattle.cx_base.specs.Fold.{command_list}
+use Rattle.cx_letter.specs.Prelude.{◌≡◌, ◌+◌, ◌*◌, ◌≤◌, drop, command_list}
 use Rattle.cx_replica.specs.Room.{command_count_of}
 use Rattle.cx_replica.proofs.clients.count_in.Given as goal
 

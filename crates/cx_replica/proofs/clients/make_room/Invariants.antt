@@ -1,5 +1,4 @@
-use Rattle.std.proofs.Common.{◌≡◌, ◌*◌, ◌≤◌, length, take}
-use Rattle.cx_base.specs.Fold.{command_list}
+use Rattle.cx_letter.specs.Prelude.{◌≡◌, ◌*◌, ◌≤◌, length, take, command_list}
 use Rattle.cx_replica.specs.Room.{IsRoomFor}
 use Rattle.cx_replica.proofs.clients.make_room.Given as goal
 

@@ -1,5 +1,4 @@
-use Rattle.std.proofs.Common.{◌≡◌, true, arith}
-use Rattle.std.proofs.lemmas.Bool.Decides.{nat_tests}
+use Rattle.cx_base.proofs.Common.{◌≡◌, true, arith, nat_tests}
 use Rattle.cx_table.specs.Entries.{has_lower}
 use Rattle.cx_replica.proofs.Rises.{numbers_on}
 use Rattle.cx_replica.proofs.Roomy.{next_one}

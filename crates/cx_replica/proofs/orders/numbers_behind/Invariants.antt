@@ -1,5 +1,4 @@
-use Rattle.std.proofs.Common.{◌≡◌, ◌∷◌, drop}
-use Rattle.cx_base.specs.Lists.{rises}
+use Rattle.cx_base.proofs.Common.{◌≡◌, ◌∷◌, drop, rises}
 use Rattle.cx_table.specs.Entries.{has_lower}
 use Rattle.cx_replica.proofs.orders.numbers_behind.Given as goal
 

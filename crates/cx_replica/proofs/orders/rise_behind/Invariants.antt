@@ -1,5 +1,4 @@
-use Rattle.std.proofs.Common.{◌≡◌, ◌∷◌, drop}
-use Rattle.cx_base.specs.Lists.{rises}
+use Rattle.cx_base.proofs.Common.{◌≡◌, ◌∷◌, drop, rises}
 use Rattle.cx_kv.specs.Rising.{has_lower_key}
 use Rattle.cx_replica.proofs.orders.rise_behind.Given as goal
 

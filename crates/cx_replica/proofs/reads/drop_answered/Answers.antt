@@ -1,5 +1,4 @@
-use Rattle.std.proofs.Common.{rules, nat_lt}
-use Rattle.std.proofs.lemmas.Fn.{filter_same}
+use Rattle.cx_base.proofs.Common.{rules, nat_lt, filter_same}
 use Rattle.cx_replica.proofs.reads.drop_answered.Goals as goal
 
 pub returns : goal.returns

@@ -1,6 +1,4 @@
-use Rattle.std.specs.Prelude.{◌≡◌, ◌≤◌, ◌+◌, ◌-◌, ◌++◌, map}
-use Rattle.cx_base.specs.Lists.{below, numbers}
-use Rattle.cx_model.specs.Replica.{held_to}
+use Rattle.cx_model.specs.Prelude.{◌≡◌, ◌≤◌, ◌+◌, ◌-◌, ◌++◌, map, below, numbers, held_to}
 use Rattle.cx_replica.proofs.sending.tell_held.Given as goal
 
 abbrev pub invariant-loop-leader : goal.invariant-loop-leader

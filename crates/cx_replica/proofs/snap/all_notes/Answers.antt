@@ -1,6 +1,5 @@
-use Rattle.std.proofs.Common.{◌≡◌, ◌+◌, ◌++◌, ◌∷◌, [], ◌∙◌, map, arith, refl, subst, sym, append-nil, length-append, List}
-use Rattle.cx_base.specs.declared.command.Floor.{Floor}
-use Rattle.cx_model.specs.Replica.{notes_of}
+use Rattle.cx_role.proofs.Common.{◌≡◌, ◌+◌, ◌++◌, ◌∷◌, [], ◌∙◌, map, arith, refl, subst, sym, append-nil, length-append, List, Floor}
+use Rattle.cx_role.proofs.Common.{notes_of}
 use Rattle.cx_replica.proofs.Snapping.{fit_more, floor_next, floor_none, floors_all, floors_end, floors_from, next_piece}
 use Rattle.cx_replica.proofs.snap.all_notes.Goals as goal
 use Rattle.cx_replica.proofs.snap.all_notes.Goals.{in-Some+in_ok-what+in_ok-push, in_default}

@@ -1,6 +1,4 @@
-use Rattle.std.proofs.Common.{◌≡◌, ◌≤◌, ◌++◌, length, true, map}
-use Rattle.cx_keep.specs.Keeper.{all_fit}
-use Rattle.cx_model.specs.Replica.{notes_of}
+use Rattle.cx_role.specs.Prelude.{◌≡◌, ◌≤◌, ◌++◌, length, true, map, all_fit, notes_of}
 use Rattle.cx_replica.proofs.Snapping.{floors_from}
 use Rattle.cx_replica.proofs.snap.all_notes.Given as goal
 

@@ -1,5 +1,4 @@
-use Rattle.std.proofs.Common.{◌≡◌, ◌++◌, map, drop}
-use Rattle.cx_model.specs.Replica.{note_of}
+use Rattle.cx_role.proofs.Common.{◌≡◌, ◌++◌, map, drop, note_of}
 use Rattle.cx_replica.proofs.snap.notes_from.Given as goal
 
 abbrev pub invariant-loop-answer : goal.invariant-loop-answer

@@ -1,7 +1,4 @@
-use Rattle.std.proofs.Common.{◌≡◌, ◌∙◌, length, map, ap, arith, subst, sym, true, List}
-use Rattle.cx_base.specs.declared.command.Answered.{Answered}
-use Rattle.cx_base.specs.declared.command.Note.{Note}
-use Rattle.cx_model.specs.Replica.{note_of}
+use Rattle.cx_role.proofs.Common.{◌≡◌, ◌∙◌, length, map, ap, arith, subst, sym, true, List, Answered, Note, note_of}
 use Rattle.cx_letter.specs.declared.kept.Record.TheVariants as kept
 use Rattle.cx_letter.specs.Records.{fits as record_fits}
 use Rattle.cx_table.specs.Entries.{of_client}

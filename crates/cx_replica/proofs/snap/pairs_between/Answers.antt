@@ -1,5 +1,4 @@
-use Rattle.std.proofs.Common.{◌≡◌, ◌+◌, ◌-◌, ◌∙◌, ◌<◌, length, ap, arith, sym}
-use Rattle.std.specs.Prelude.{slice_index_or}
+use Rattle.cx_base.proofs.Common.{◌≡◌, ◌+◌, ◌-◌, ◌∙◌, ◌<◌, length, ap, arith, sym, slice_index_or}
 use Rattle.cx_replica.proofs.Snapping.{pairs_more, take_next_at}
 use Rattle.cx_replica.proofs.snap.pairs_between.Goals as goal
 

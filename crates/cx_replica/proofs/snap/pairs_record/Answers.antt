@@ -1,6 +1,4 @@
-use Rattle.std.proofs.Common.{◌≡◌, ◌+◌, ◌-◌, ◌≤◌, ◌∙◌, length, take, drop, ap, arith, subst, sym, true, List, length-drop}
-use Rattle.std.specs.Prelude.{min}
-use Rattle.cx_base.specs.declared.command.Pair.{Pair}
+use Rattle.cx_role.proofs.Common.{◌≡◌, ◌+◌, ◌-◌, ◌≤◌, ◌∙◌, length, take, drop, ap, arith, subst, sym, true, List, length-drop, min, Pair}
 use Rattle.cx_letter.specs.declared.kept.Record.TheVariants as kept
 use Rattle.cx_letter.specs.Records.{fits as record_fits}
 use Rattle.cx_replica.specs.Sound.{are_pairs}

@@ -1,6 +1,4 @@
-use Rattle.std.proofs.Common.{◌≡◌, ◌-◌, ◌∷◌, take, drop, arith, sym, List}
-use Rattle.cx_base.specs.declared.command.Pair.{Pair}
-use Rattle.cx_model.specs.Replica.{pieces}
+use Rattle.cx_role.proofs.Common.{◌≡◌, ◌-◌, ◌∷◌, take, drop, arith, sym, List, Pair, pieces}
 use Rattle.cx_letter.specs.declared.kept.Record.TheVariants as kept
 use Rattle.cx_replica.proofs.Snapping.{fit_more, last_piece, next_piece, pieces_left}
 use Rattle.cx_replica.proofs.snap.push_pairs.Goals as goal

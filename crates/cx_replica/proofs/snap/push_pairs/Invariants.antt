@@ -1,6 +1,4 @@
-use Rattle.std.proofs.Common.{◌≡◌, ◌≤◌, ◌++◌, ◌-◌, true, map, drop}
-use Rattle.cx_keep.specs.Keeper.{all_fit}
-use Rattle.cx_model.specs.Replica.{pieces}
+use Rattle.cx_role.proofs.Common.{◌≡◌, ◌≤◌, ◌++◌, ◌-◌, true, map, drop, all_fit, pieces}
 use Rattle.cx_letter.specs.declared.kept.Record.TheVariants as kept
 use Rattle.cx_replica.proofs.snap.push_pairs.Given as goal
 

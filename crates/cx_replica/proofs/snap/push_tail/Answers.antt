@@ -1,6 +1,4 @@
-use Rattle.std.proofs.Common.{◌≡◌, ◌-◌, ◌∷◌, ◌∙◌, length, take, drop, ap, arith, refl, List}
-use Rattle.cx_base.specs.declared.command.Value.{Value}
-use Rattle.cx_model.specs.Replica.{pieces}
+use Rattle.cx_role.proofs.Common.{◌≡◌, ◌-◌, ◌∷◌, ◌∙◌, length, take, drop, ap, arith, refl, List, Value, pieces}
 use Rattle.cx_letter.specs.declared.kept.Record.TheVariants as kept
 use Rattle.cx_replica.proofs.Snapping.{fit_more, last_piece, next_piece, pieces_left}
 use Rattle.cx_replica.proofs.snap.push_tail.Goals as goal

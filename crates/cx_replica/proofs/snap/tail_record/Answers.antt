@@ -1,7 +1,5 @@
-use Rattle.std.proofs.Common.{◌≡◌, ◌+◌, ◌-◌, ◌≤◌, ◌∙◌, length, take, drop, ap, arith, subst, sym, true, List, length-drop}
-use Rattle.std.specs.Prelude.{min}
-use Rattle.cx_base.specs.declared.command.Value.{Value}
-use Rattle.cx_field.specs.Fields.{value}
+use Rattle.cx_role.proofs.Common.{◌≡◌, ◌+◌, ◌-◌, ◌≤◌, ◌∙◌, length, take, drop, ap, arith, subst, sym, true, List, length-drop, min, Value}
+use Rattle.cx_role.proofs.Common.{value}
 use Rattle.cx_letter.specs.declared.kept.Record.TheVariants as kept
 use Rattle.cx_letter.specs.Records.{fits as record_fits}
 use Rattle.cx_replica.proofs.Snapping.{all_later, next_tail_fit, take_least}

@@ -1,5 +1,4 @@
-use Rattle.std.proofs.Common.{◌≡◌, ◌+◌, ◌-◌, ◌∙◌, ap, arith, sym}
-use Rattle.std.specs.Prelude.{slice_get}
+use Rattle.cx_base.proofs.Common.{◌≡◌, ◌+◌, ◌-◌, ◌∙◌, ap, arith, sym, slice_get}
 use Rattle.cx_replica.proofs.Snapping.{take_next}
 use Rattle.cx_replica.proofs.snap.values_between.Goals as goal
 

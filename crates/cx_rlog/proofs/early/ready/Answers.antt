@@ -1,5 +1,4 @@
-use Rattle.std.proofs.Common.{◌≡◌, ◌+◌, ◌-◌, min, Some, rules, arith}
-use Rattle.cx_base.specs.Log.{value_for}
+use Rattle.cx_base.proofs.Common.{◌≡◌, ◌+◌, ◌-◌, min, Some, rules, arith, value_for}
 use Rattle.cx_rlog.proofs.Following.{following_more, moved}
 use Rattle.cx_rlog.proofs.early.ready.Goals as goal
 

@@ -1,5 +1,4 @@
-use Rattle.std.proofs.Common.{◌≡◌, ◌+◌, ◌-◌, ◌++◌, min, vec_len}
-use Rattle.cx_base.specs.Log.{following, ready_values}
+use Rattle.cx_base.proofs.Common.{◌≡◌, ◌+◌, ◌-◌, ◌++◌, min, vec_len, following, ready_values}
 use Rattle.cx_rlog.proofs.early.ready.Given as goal
 
 abbrev pub invariant-loop-later : goal.invariant-loop-later

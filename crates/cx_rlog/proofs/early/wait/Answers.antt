@@ -1,5 +1,4 @@
-use Rattle.std.proofs.Common.{◌≡◌, rules, ap, ◌∙◌, None}
-use Rattle.cx_base.specs.Log.{value_for}
+use Rattle.cx_base.proofs.Common.{◌≡◌, rules, ap, ◌∙◌, None, value_for}
 use Rattle.cx_base.specs.declared.command.Placed.{Placed}
 use Rattle.cx_ring.specs.Ring.{RingState, with_value}
 use Rattle.cx_rlog.proofs.Standing.{waits}

@@ -1,6 +1,4 @@
-use Rattle.std.proofs.Common.{◌≡◌, ◌==◌, ◌∙◌, ◌+◌, ◌<◌, length, drop, get_or, arith, sym, ap, false}
-use Rattle.std.proofs.lemmas.Bool.Decides.{nat_tests}
-use Rattle.std.proofs.lemmas.List.{drop_more, drop_all}
+use Rattle.cx_base.proofs.Common.{◌≡◌, ◌==◌, ◌∙◌, ◌+◌, ◌<◌, length, drop, get_or, arith, sym, ap, false, nat_tests, drop_more, drop_all}
 use Rattle.cx_script.proofs.Digits.{after, all_digits, stopped, ended}
 use Rattle.cx_script.proofs.decimal.number.Goals as goal
 

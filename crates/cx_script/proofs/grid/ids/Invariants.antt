@@ -1,6 +1,4 @@
-use Rattle.std.proofs.Common.{◌≡◌, ◌++◌, ◌==◌, option_map}
-use Rattle.std.specs.List.{slice_split}
-use Rattle.std.specs.Option.{option_copied}
+use Rattle.cx_base.proofs.Common.{◌≡◌, ◌++◌, ◌==◌, option_map, slice_split, option_copied}
 use Rattle.cx_script.proofs.Members.{size}
 use Rattle.cx_script.specs.Places.{ids_of}
 use Rattle.cx_script.specs.Words.{parts_of}

@@ -1,6 +1,5 @@
-use Rattle.std.proofs.Common.{◌≡◌, ◌∙◌, ◌++◌, true, List, ℕ, Option, option_map, option_and_then, sym, ap}
-use Rattle.std.specs.Option.{option_copied}
-use Rattle.std.specs.Str.Lines.{strip_carriage_return}
+use Rattle.cx_base.proofs.Common.{◌≡◌, ◌∙◌, ◌++◌, true, List, ℕ, Option, option_map, option_and_then, sym, ap, option_copied}
+use Rattle.cx_base.proofs.Common.{strip_carriage_return}
 use Rattle.cx_script.proofs.Schedules.{rule_found}
 use Rattle.cx_script.specs.Header.{is_rule, header_in, header_and_rest, of_length}
 use Rattle.cx_script.proofs.header.split_header.Goals as goal

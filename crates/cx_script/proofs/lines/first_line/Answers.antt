@@ -1,6 +1,4 @@
-use Rattle.std.proofs.Common.{◌≡◌, ◌==◌, ◌<◌, length, arith, false, sym}
-use Rattle.std.proofs.lemmas.Bool.Decides.{nat_tests}
-use Rattle.std.specs.Option.{option_copied}
+use Rattle.cx_base.proofs.Common.{◌≡◌, ◌==◌, ◌<◌, length, arith, false, sym, nat_tests, option_copied}
 use Rattle.cx_script.proofs.Schedules.{line_first}
 use Rattle.cx_script.proofs.lines.first_line.Goals as goal
 

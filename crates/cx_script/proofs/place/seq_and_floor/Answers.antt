@@ -1,5 +1,4 @@
-use Rattle.std.proofs.Common.{◌≡◌, ◌-◌, ◌∷◌, ◌∙◌, ℕ, List, Option, Some, option_and_then, ap, sym}
-use Rattle.std.specs.Option.{option_copied, option_map_or}
+use Rattle.cx_base.proofs.Common.{◌≡◌, ◌-◌, ◌∷◌, ◌∙◌, ℕ, List, Option, Some, option_and_then, ap, sym, option_copied, option_map_or}
 use Rattle.cx_script.specs.Places.{fitting, seq_and_floor}
 use Rattle.cx_script.specs.Words.{word_number, parts_of}
 use Rattle.cx_script.proofs.Floors.{read_at_slash}

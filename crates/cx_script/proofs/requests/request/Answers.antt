@@ -1,5 +1,4 @@
-use Rattle.std.proofs.Common.{◌≡◌, Option, Ok, Some, subst, sym, ap, ◌∙◌, ◌++◌, ◌∷◌, [], ◌<◌, length}
-use Rattle.std.specs.Prelude.{slice_set}
+use Rattle.cx_base.proofs.Common.{◌≡◌, Option, Ok, Some, subst, sym, ap, ◌∙◌, ◌++◌, ◌∷◌, [], ◌<◌, length, slice_set}
 use Rattle.cx_base.specs.declared.event.Event.{Event}
 use Rattle.cx_script.specs.Requests.{HasGreatestNumbers, request_line}
 use Rattle.cx_script.proofs.Rising.{client_small, is_taken, tells_next}

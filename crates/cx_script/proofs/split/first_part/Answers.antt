@@ -1,5 +1,4 @@
-use Rattle.std.proofs.Common.{◌==◌, ◌+◌, sym}
-use Rattle.std.proofs.lemmas.List.{take_rest}
+use Rattle.cx_base.proofs.Common.{◌==◌, ◌+◌, sym, take_rest}
 use Rattle.cx_script.proofs.Cuts.{split_none, split_some}
 use Rattle.cx_script.proofs.split.first_part.Goals as goal
 

@@ -1,7 +1,4 @@
-use Rattle.std.proofs.Common.{not, get_or, get_or-drop, add-zero, arith, sym}
-use Rattle.std.proofs.lemmas.Bool.{not-true}
-use Rattle.std.proofs.lemmas.List.{take_rest, length-drop}
-use Rattle.std.proofs.lemmas.List.Quantifiers.{position-Some}
+use Rattle.cx_base.proofs.Common.{not, get_or, get_or-drop, add-zero, arith, sym, not-true, take_rest, length-drop, position-Some}
 use Rattle.cx_script.proofs.Splitting.{from_start, of_blanks}
 use Rattle.cx_script.specs.Words.{is_blank}
 use Rattle.cx_script.proofs.split.trimmed.Goals as goal

@@ -1,5 +1,4 @@
-use Rattle.std.proofs.Common.{◌≡◌, ◌≤◌, ◌==◌, ◌-◌, ◌++◌, length, take, drop}
-use Rattle.std.specs.List.{slice_split}
+use Rattle.cx_base.proofs.Common.{◌≡◌, ◌≤◌, ◌==◌, ◌-◌, ◌++◌, length, take, drop, slice_split}
 use Rattle.cx_script.specs.Unended.{last_part, but_last, lines_text, whole_lines, unended}
 use Rattle.cx_script.proofs.unended.whole_length.Given as goal
 

@@ -1,11 +1,8 @@
 use Rattle.std.proofs.Common.{◌≡◌, ◌∙◌, [], None, Some, rules, sym, ap}
-use Rattle.cx_journal.specs.declared.store.RecordStore.TheVariants.{One, Two}
+use Rattle.cx_seat.specs.Prelude.{One, Two, keeper_of, disks_in, lent_to}
 use Rattle.cx_seat.proofs.StoresBack.{shown_by}
-use Rattle.cx_seat.specs.Guest.{keeper_of}
-use Rattle.cx_seat.specs.Opening.{disks_in, lent_to}
-use Rattle.cx_seat.proofs.GivenBack.{all_back, apart_disks, cause_all, first_is_out, first_taken, goes_on, held_all}
-use Rattle.cx_seat.proofs.GivenBack.{later_all, no_items, one_is_out, one_taken, others_all, second_is_out, second_taken}
-use Rattle.cx_seat.proofs.GivenBack.{skipped, still_all, told_all}
+use Rattle.cx_seat.proofs.GivenBack.{all_back, apart_disks, cause_all, first_is_out, first_taken, goes_on, held_all, later_all, no_items}
+use Rattle.cx_seat.proofs.GivenBack.{one_is_out, one_taken, others_all, second_is_out, second_taken, skipped, still_all, told_all}
 use Rattle.cx_seat.proofs.closing.close_seats.Goals as goal
 
 pub close-requires : goal.close-requires

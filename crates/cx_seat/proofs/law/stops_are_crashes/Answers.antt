@@ -1,12 +1,9 @@
-use Rattle.std.proofs.Common.{◌≡◌, inl, inr, subst, true, List, None, Ok}
-use Rattle.cx_journal.specs.Files.{IsFilesImageOf, files_records}
-use Rattle.cx_journal.specs.Payload.{all_kept_by}
-use Rattle.cx_journal.specs.Store.{store_told}
+use Rattle.cx_journal.proofs.Common.{◌≡◌, inl, inr, subst, true, List, None, Ok, all_kept_by, Record}
+use Rattle.cx_seat.specs.Prelude.{files_records, store_told, is_two}
+use Rattle.cx_journal.specs.Files.{IsFilesImageOf}
 use Rattle.cx_journal.proofs.Stores.{store_at_any_moment, store_lasts}
 use Rattle.cx_keep.specs.Keeper.{list_after as change_after}
-use Rattle.cx_letter.specs.declared.kept.Record.{Record}
 use Rattle.cx_course.specs.Changing.{change_for}
-use Rattle.cx_seat.specs.Stores.{is_two}
 use Rattle.cx_seat.proofs.Crashes.{kept_of_run, lost_of_run, own_writer, renews_two, store_fits, whole_of_run}
 use Rattle.cx_seat.proofs.law.stops_are_crashes.Goals as goal
 

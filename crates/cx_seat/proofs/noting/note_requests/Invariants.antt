@@ -1,6 +1,5 @@
-use Rattle.std.proofs.Common.{◌≡◌, ◌++◌, drop, flat_map}
+use Rattle.cx_role.proofs.Common.{◌≡◌, ◌++◌, drop, flat_map, Letter}
 use Rattle.cx_course.specs.Course.{request_by}
-use Rattle.cx_letter.specs.Letter.{Letter}
 use Rattle.cx_seat.proofs.noting.note_requests.Given as goal
 
 abbrev pub invariant-loop-letter : goal.invariant-loop-letter

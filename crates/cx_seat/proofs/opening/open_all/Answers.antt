@@ -1,7 +1,5 @@
-use Rattle.std.proofs.Common.{◌≡◌, ◌∙◌, ap, sym, Result, Err, Some}
-use Rattle.cx_base.specs.declared.role.RoleId.{RoleId}
-use Rattle.cx_seat.specs.Opening.{first_holding}
-use Rattle.cx_seat.specs.Stores.{files_of}
+use Rattle.cx_role.proofs.Common.{◌≡◌, ◌∙◌, ap, sym, Result, Err, Some, RoleId}
+use Rattle.cx_seat.specs.Prelude.{first_holding, files_of}
 use Rattle.cx_seat.specs.declared.opening.OpenStop.{OpenStop}
 use Rattle.cx_seat.specs.declared.opening.OpenStop.TheVariants as open_stop
 use Rattle.cx_seat.proofs.Lent.{ok_is_err}

@@ -1,7 +1,6 @@
 use Rattle.std.proofs.Common.{◌∙◌, ap}
+use Rattle.cx_seat.specs.Prelude.{shelf, unwoken_stop}
 use Rattle.cx_edge.proofs.ShelfLaws.{without_last}
-use Rattle.cx_edge.specs.Shelf.{shelf}
-use Rattle.cx_seat.specs.Opening.{unwoken_stop}
 use Rattle.cx_seat.proofs.Lending.{apart_closed, apart_opened, apart_then, lends_none}
 use Rattle.cx_seat.proofs.Lent.{one_stays}
 use Rattle.cx_seat.proofs.opening.open_durable.Goals as goal

@@ -1,20 +1,15 @@
-use Rattle.std.proofs.Common.{◌≡◌, ◌∙◌, length, length-append, slice_get, slice_index_or, Some, Result, Err}
-use Rattle.std.proofs.Common.{sym, ap, subst, refl}
 use Rattle.std.proofs.lemmas.Option.{slice_get-get_or}
-use Rattle.std.proofs.lemmas.Result.{err_from_is_err_and}
+use Rattle.cx_role.proofs.Common.{◌≡◌, ◌∙◌, length, length-append, slice_get, slice_index_or, Some, Result, Err, sym, ap, subst, refl}
+use Rattle.cx_role.proofs.Common.{err_from_is_err_and, RoleId}
+use Rattle.cx_seat.specs.Prelude.{shelf, Files, name_of, IsBadAs, files_of}
 use Rattle.cx_base.specs.declared.role.Kind.TheVariants as kind
-use Rattle.cx_base.specs.declared.role.RoleId.{RoleId}
 use Rattle.cx_base.specs.Role.{role as a_role}
-use Rattle.cx_edge.specs.Shelf.{shelf}
-use Rattle.cx_journal.specs.Files.{Files}
 use Rattle.cx_seat.proofs.FirstBad.{first_bad}
-use Rattle.cx_course.specs.Hosted.{name_of}
 use Rattle.cx_seat.proofs.Lent.{files_same, lent_append, next_in_depot, ok_is_err, opened_more, same_records}
 use Rattle.cx_seat.proofs.OpenedRoles.{name_opened}
 use Rattle.cx_seat.specs.declared.opening.OpenStop.{OpenStop}
 use Rattle.cx_seat.specs.declared.opening.OpenStop.TheVariants as open_stop
-use Rattle.cx_seat.specs.Opening.{IsBadAs, NoneIsOut}
-use Rattle.cx_seat.specs.Stores.{files_of}
+use Rattle.cx_seat.specs.Opening.{NoneIsOut}
 use Rattle.cx_seat.proofs.opening.open_seats.Goals as goal
 
 same_stop : {T : Type 0} (a b : OpenStop) → ◌≡◌ {A = Result T OpenStop} (Err a) (Err b) → a ≡ b

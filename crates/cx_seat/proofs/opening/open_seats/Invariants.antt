@@ -1,8 +1,5 @@
-use Rattle.std.proofs.Common.{◌≡◌, length}
-use Rattle.cx_base.specs.declared.role.RoleId.{RoleId}
-use Rattle.cx_edge.specs.declared.shelf.Shelf.{Shelf}
-use Rattle.cx_seat.specs.Opening.{AreOpened, lent_to}
-use Rattle.cx_seat.specs.Stores.{files_of}
+use Rattle.cx_letter.specs.Prelude.{◌≡◌, length, RoleId}
+use Rattle.cx_seat.specs.Prelude.{Shelf, AreOpened, lent_to, files_of}
 use Rattle.cx_seat.proofs.opening.open_seats.Given as goal
 
 abbrev pub invariant-loop-role : goal.invariant-loop-role

@@ -1,13 +1,8 @@
-use Rattle.std.proofs.Common.{◌≡◌, ◌∙◌, ◌++◌, ◌∷◌, [], List, Some, Result, Err, true, ap, sym, refl, append_assoc}
+use Rattle.cx_role.proofs.Common.{◌≡◌, ◌∙◌, ◌++◌, ◌∷◌, [], List, Some, Result, Err, true, ap, sym, refl, append_assoc, replica_rules}
+use Rattle.cx_seat.specs.Prelude.{shelf, Shelf, files_records, unwoken_stop, has_second}
 use Rattle.cx_edge.proofs.ShelfLaws.{without_last}
-use Rattle.cx_edge.specs.Shelf.{shelf}
-use Rattle.cx_edge.specs.declared.shelf.Shelf.{Shelf}
-use Rattle.cx_journal.specs.Files.{files_records}
-use Rattle.cx_model.specs.Replica.{replica_rules}
 use Rattle.cx_seat.specs.declared.opening.OpenStop.{OpenStop}
 use Rattle.cx_seat.specs.declared.opening.OpenStop.TheVariants as open_stop
-use Rattle.cx_seat.specs.Opening.{unwoken_stop}
-use Rattle.cx_seat.specs.Stores.{has_second}
 use Rattle.cx_seat.proofs.Lending.{apart_closed, apart_opened, apart_then, lends_none, lends_these}
 use Rattle.cx_seat.proofs.Lent.{files_by_sides, second_is_out, sides_differ, two_stay, without_both}
 use Rattle.cx_seat.proofs.Woken.{bad_two, unwoken_bad}

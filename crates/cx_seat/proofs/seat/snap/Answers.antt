@@ -1,5 +1,4 @@
-use Rattle.std.proofs.Common.{◌≡◌, Err, ap, ◌∙◌}
-use Rattle.std.proofs.lemmas.Result.{err_from_is_err_and}
+use Rattle.cx_base.proofs.Common.{◌≡◌, Err, ap, ◌∙◌, err_from_is_err_and}
 use Rattle.cx_seat.proofs.Ends.{snap_ends}
 use Rattle.cx_seat.proofs.seat.snap.Goals as goal
 

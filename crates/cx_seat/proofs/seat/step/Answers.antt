@@ -1,7 +1,5 @@
-use Rattle.std.proofs.Common.{◌≡◌, Err, ap, ◌∙◌}
-use Rattle.std.proofs.lemmas.Result.{err_from_is_err_and}
-use Rattle.cx_model.specs.Rules.{outcome_of}
-use Rattle.cx_letter.specs.declared.input.Input.TheVariants.{Order, Take}
+use Rattle.cx_role.proofs.Common.{◌≡◌, Err, ap, ◌∙◌, err_from_is_err_and, outcome_of, Take}
+use Rattle.cx_letter.specs.declared.input.Input.TheVariants.{Order}
 use Rattle.cx_seat.proofs.Ends.{step_ends}
 use Rattle.cx_seat.proofs.seat.step.Goals as goal
 

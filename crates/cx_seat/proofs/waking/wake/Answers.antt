@@ -1,5 +1,4 @@
-use Rattle.std.proofs.Common.{◌≡◌, ◌+◌, length, Some, arith, rules}
-use Rattle.cx_model.specs.Rules.{refused}
+use Rattle.cx_role.proofs.Common.{◌≡◌, ◌+◌, length, Some, arith, rules, refused}
 use Rattle.cx_seat.proofs.RefusedPlace.{refused_within}
 use Rattle.cx_seat.proofs.waking.wake.Goals as goal
 

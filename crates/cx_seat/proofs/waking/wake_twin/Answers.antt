@@ -1,8 +1,6 @@
-use Rattle.std.proofs.Common.{◌≡◌, ◌+◌, ◌∙◌, ℕ, ap, is_some, length, Some, arith, rules}
+use Rattle.cx_role.proofs.Common.{◌≡◌, ◌+◌, ◌∙◌, ℕ, ap, is_some, length, Some, arith, rules, replica_rules, refused}
 use Rattle.cx_base.specs.declared.role.Kind.TheVariants as kind
 use Rattle.cx_journal.specs.Twin.{seen_pair_records}
-use Rattle.cx_model.specs.Replica.{replica_rules}
-use Rattle.cx_model.specs.Rules.{refused}
 use Rattle.cx_seat.proofs.RefusedPlace.{refused_within}
 use Rattle.cx_seat.proofs.Woken.{bad_place}
 use Rattle.cx_seat.specs.declared.waking.WakeStop.TheVariants as wake_stop

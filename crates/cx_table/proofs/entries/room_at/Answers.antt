@@ -1,11 +1,8 @@
-use Rattle.std.proofs.Common.{◌≡◌, ℕ, ◌<◌, ◌≤◌, List, arith, sym, true≢false}
-use Rattle.std.specs.Prelude.{nat_eq, None, Some}
-use Rattle.std.specs.Map.{lookup}
+use Rattle.cx_base.proofs.Common.{◌≡◌, ℕ, ◌<◌, ◌≤◌, List, arith, sym, true≢false, nat_eq, None, Some, lookup}
 use Rattle.cx_table.specs.Entries.{room_in, rooms_in}
 use Rattle.cx_table.specs.State.{room_for}
 use Rattle.cx_table.specs.declared.entry.ClientEntry.{ClientEntry}
-use Rattle.cx_table.proofs.Held.{enter_kept, enter_room, room_is, room_read, write_held, write_kept, write_room}
-use Rattle.cx_table.proofs.Held.{write_unique}
+use Rattle.cx_table.proofs.Held.{enter_kept, enter_room, room_is, room_read, write_held, write_kept, write_room, write_unique}
 use Rattle.cx_table.proofs.entries.room_at.Goals as goal
 
 pub returns-in_err-make_room-clause-still : goal.returns-in_err-make_room-clause-still

@@ -1,5 +1,4 @@
-use Rattle.std.proofs.Common.{◌≡◌, sym, ◌∙◌, ap}
-use Rattle.std.specs.Prelude.{◌-◌, Some, length, slice_get}
+use Rattle.cx_base.proofs.Common.{◌≡◌, sym, ◌∙◌, ap, ◌-◌, Some, length, slice_get}
 use Rattle.cx_table.proofs.Notes.{ends_at_most, up_to}
 use Rattle.cx_table.proofs.entry.are_up_to.Goals as goal
 

@@ -1,7 +1,4 @@
-use Rattle.std.proofs.Common.{◌≡◌, true, rules, ap, sym, ◌∙◌, List}
-use Rattle.std.specs.Prelude.{nat_le}
-use Rattle.std.specs.List.{list_all}
-use Rattle.std.proofs.lemmas.Fn.{filter_same}
+use Rattle.cx_base.proofs.Common.{◌≡◌, true, rules, ap, sym, ◌∙◌, List, nat_le, list_all, filter_same}
 use Rattle.cx_base.specs.declared.command.Answered.{Answered}
 use Rattle.cx_table.proofs.Notes.{none_left}
 use Rattle.cx_table.proofs.entry.drop_settled.Goals as goal

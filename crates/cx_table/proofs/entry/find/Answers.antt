@@ -1,9 +1,5 @@
-use Rattle.std.proofs.Common.{◌≡◌, false, sym, ◌∙◌, ap, arith}
-use Rattle.std.specs.Prelude.{◌==◌, Option, None, Some, slice_get}
-use Rattle.std.proofs.lemmas.Bool.{eq-eqb}
-use Rattle.std.proofs.lemmas.Bool.Decides.{nat_tests}
+use Rattle.cx_base.proofs.Common.{◌≡◌, false, sym, ◌∙◌, ap, arith, ◌==◌, Option, None, Some, slice_get, eq-eqb, nat_tests, noted_for}
 use Rattle.cx_base.specs.declared.command.Answered.{Answered}
-use Rattle.cx_base.specs.Noted.{noted_for}
 use Rattle.cx_table.proofs.Notes.{answer_at, found}
 use Rattle.cx_table.proofs.entry.find.Goals as goal
 use Rattle.cx_table.proofs.entry.find.Goals.{After-note_at}

@@ -1,6 +1,4 @@
-use Rattle.std.proofs.Common.{◌≡◌, true, length, arith, ◌∙◌, sym, subst, List, ap}
-use Rattle.std.specs.Prelude.{nat_le}
-use Rattle.std.specs.List.{list_all}
+use Rattle.cx_base.proofs.Common.{◌≡◌, true, length, arith, ◌∙◌, sym, subst, List, ap, nat_le, list_all}
 use Rattle.cx_base.specs.declared.command.Answered.{Answered}
 use Rattle.cx_table.specs.Entries.{IsPlace}
 use Rattle.cx_table.proofs.Notes.{at_end, put_in}

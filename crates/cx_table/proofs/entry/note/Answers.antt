@@ -1,8 +1,5 @@
-use Rattle.std.proofs.Common.{◌≡◌, true, false, ◌∙◌, sym, ap, arith}
-use Rattle.std.specs.Prelude.{◌==◌, nat_lt}
-use Rattle.std.proofs.lemmas.Bool.Decides.{nat_tests}
+use Rattle.cx_base.proofs.Common.{◌≡◌, true, false, ◌∙◌, sym, ap, arith, ◌==◌, nat_lt, nat_tests, with_note}
 use Rattle.cx_base.specs.declared.command.Answered.{Answered}
-use Rattle.cx_base.specs.Noted.{with_note}
 use Rattle.cx_table.specs.Entries.{is_lower}
 use Rattle.cx_table.proofs.Notes.{rise_by_number}
 use Rattle.cx_table.proofs.Rising.{all_left, left_with, none_noted_left, rise_left}

@@ -1,6 +1,4 @@
-use Rattle.std.proofs.Common.{rules}
-use Rattle.std.specs.Prelude.{nat_lt}
-use Rattle.std.proofs.lemmas.List.Sorted.{IsPartitionPoint-from_clause}
+use Rattle.cx_base.proofs.Common.{rules, nat_lt, IsPartitionPoint-from_clause}
 use Rattle.cx_table.proofs.Notes.{parted}
 use Rattle.cx_table.proofs.entry.place_of.Goals as goal
 

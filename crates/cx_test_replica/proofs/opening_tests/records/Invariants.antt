@@ -1,5 +1,4 @@
-use Rattle.std.proofs.Common.{◌≡◌, true}
-use Rattle.cx_keep.specs.Keeper.{all_fit}
+use Rattle.cx_role.specs.Prelude.{◌≡◌, true, all_fit}
 use Rattle.cx_test_replica.proofs.opening_tests.records.Given as goal
 
 abbrev pub invariant-loop-letter : goal.invariant-loop-letter

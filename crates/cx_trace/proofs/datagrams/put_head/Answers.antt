@@ -1,6 +1,5 @@
-use Rattle.std.proofs.Common.{◌≡◌, ◌++◌, OnOk, List, ℕ, ap, subst, ◌∙◌}
-use Rattle.cx_base.specs.declared.role.RoleId.{RoleId}
-use Rattle.cx_letter.specs.Names.{name_of_message}
+use Rattle.std.proofs.Common.{ap, subst, ◌∙◌}
+use Rattle.cx_letter.specs.Prelude.{◌≡◌, ◌++◌, OnOk, List, ℕ, RoleId, name_of_message}
 use Rattle.cx_trace.specs.Trace.{named_text}
 use Rattle.cx_trace.proofs.datagrams.put_head.Goals as goal
 

@@ -1,5 +1,4 @@
-use Rattle.std.proofs.Common.{◌≡◌, ◌++◌, ◌∙◌, List, ℕ, false, ap, sym, subst}
-use Rattle.std.proofs.lemmas.List.{append-nil}
+use Rattle.cx_base.proofs.Common.{◌≡◌, ◌++◌, ◌∙◌, List, ℕ, false, ap, sym, subst, append-nil}
 use Rattle.cx_letter.specs.Names.{name_of_message}
 use Rattle.cx_trace.specs.Trace.{is_answer_name}
 use Rattle.cx_trace.proofs.Telling.{tells_nothing}

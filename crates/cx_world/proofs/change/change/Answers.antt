@@ -1,13 +1,8 @@
-use Rattle.std.proofs.Common.{◌≡◌, ℕ, List, get_or, ◌∙◌, refl}
-use Rattle.cx_base.specs.declared.event.Happened.{Happened}
+use Rattle.std.proofs.Common.{◌∙◌}
+use Rattle.cx_model.specs.Prelude.{◌≡◌, ℕ, List, get_or, refl, Happened, role, heard_by, World, change, Give, Letter}
 use Rattle.cx_base.specs.declared.event.Order.TheVariants as order
 use Rattle.cx_base.specs.declared.role.Kind.TheVariants as kind
-use Rattle.cx_base.specs.Role.{role}
-use Rattle.cx_model.specs.Heard.{heard_by}
-use Rattle.cx_model.specs.World.{World, change}
-use Rattle.cx_letter.specs.declared.input.Act.TheVariants.{Give}
 use Rattle.cx_letter.specs.declared.input.Input.TheVariants as input
-use Rattle.cx_letter.specs.Letter.{Letter}
 use Rattle.cx_world.specs.Heard.{Hears}
 use Rattle.cx_world.specs.declared.turned.Changed.{Changed}
 use Rattle.cx_world.specs.World.{ChangesAfter, IsChange, lists_of}

@@ -1,7 +1,5 @@
-use Rattle.std.proofs.Common.{refl}
-use Rattle.cx_base.specs.Role.{role}
+use Rattle.cx_model.specs.Prelude.{refl, role, Snap}
 use Rattle.cx_base.specs.declared.role.Kind.TheVariants as kind
-use Rattle.cx_letter.specs.declared.input.Act.TheVariants.{Snap}
 use Rattle.cx_world.specs.World.{lists_of}
 use Rattle.cx_world.proofs.ByKind.{replicas}
 use Rattle.cx_world.proofs.Seats.{kind_change}

@@ -1,5 +1,4 @@
-use Rattle.std.proofs.Common.{◌++◌}
-use Rattle.cx_base.specs.Fold.{command_list, map_behind}
+use Rattle.cx_letter.specs.Prelude.{◌++◌, command_list, map_behind}
 use Rattle.cx_world.proofs.Following.{value_next}
 use Rattle.cx_world.proofs.folded.execute_all.Goals as goal
 

@@ -1,5 +1,4 @@
-use Rattle.std.proofs.Common.{◌≡◌, ◌++◌, drop}
-use Rattle.cx_base.specs.Fold.{command_list, map_behind}
+use Rattle.cx_letter.specs.Prelude.{◌≡◌, ◌++◌, drop, command_list, map_behind}
 use Rattle.cx_world.proofs.folded.execute_all.Given as goal
 
 abbrev pub invariant-loop-value : goal.invariant-loop-value

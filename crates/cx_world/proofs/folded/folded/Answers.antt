@@ -1,7 +1,5 @@
-use Rattle.std.proofs.Common.{◌≡◌, ◌≤◌, ◌+◌, ◌++◌, length}
+use Rattle.cx_letter.specs.Prelude.{◌≡◌, ◌≤◌, ◌+◌, ◌++◌, length, command_list, map_behind, role}
 use Rattle.cx_base.specs.declared.role.Kind.TheVariants as kind
-use Rattle.cx_base.specs.Fold.{command_list, map_behind}
-use Rattle.cx_base.specs.Role.{role}
 use Rattle.cx_world.proofs.Following.{executed_all, executed_next}
 use Rattle.cx_world.specs.Folded.{values_by}
 use Rattle.cx_world.proofs.folded.folded.Goals as goal

@@ -1,6 +1,4 @@
-use Rattle.std.proofs.Common.{rules, ◌≡◌, true, Some}
-use Rattle.std.specs.Prelude.{slice_get}
-use Rattle.cx_model.specs.Heard.{is_heard, told_to}
+use Rattle.cx_role.proofs.Common.{rules, ◌≡◌, true, Some, slice_get, is_heard, told_to}
 use Rattle.cx_world.specs.Heard.{Raised, delivered}
 use Rattle.cx_world.proofs.Hearing.{hear_one}
 use Rattle.cx_world.proofs.heard.hear.Goals as goal

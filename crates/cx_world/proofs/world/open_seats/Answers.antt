@@ -1,16 +1,7 @@
-use Rattle.std.proofs.Common.{[], refl}
+use Rattle.cx_model.specs.Prelude.{[], refl, acceptor_rules, batcher_rules, leader_rules, matchmaker_rules, proxy_rules, reader_rules}
+use Rattle.cx_model.specs.Prelude.{replacer_rules, replica_rules, unbatcher_rules, BatcherIn, LeaderIn, ProxyIn, ReplicaIn, ReaderIn}
+use Rattle.cx_model.specs.Prelude.{ReplacerIn, plain, start}
 use Rattle.cx_base.specs.declared.role.Kind.TheVariants as kind
-use Rattle.cx_model.specs.Acceptor.{acceptor_rules}
-use Rattle.cx_model.specs.Batcher.{batcher_rules}
-use Rattle.cx_model.specs.Leader.{leader_rules}
-use Rattle.cx_model.specs.Matchmaker.{matchmaker_rules}
-use Rattle.cx_model.specs.Proxy.{proxy_rules}
-use Rattle.cx_model.specs.Reader.{reader_rules}
-use Rattle.cx_model.specs.Replacer.{replacer_rules}
-use Rattle.cx_model.specs.Replica.{replica_rules}
-use Rattle.cx_model.specs.Unbatcher.{unbatcher_rules}
-use Rattle.cx_model.specs.State.{BatcherIn, LeaderIn, ProxyIn, ReplicaIn, ReaderIn, ReplacerIn, plain}
-use Rattle.cx_model.specs.World.{start}
 use Rattle.cx_world.specs.World.{HasKind, SeatLists}
 use Rattle.cx_world.proofs.ByKind.{by_kind}
 use Rattle.cx_world.proofs.Open.{no_client, opened_kind}

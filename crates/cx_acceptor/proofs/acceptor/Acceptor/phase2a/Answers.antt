@@ -1,4 +1,5 @@
-use Rattle.cx_role.proofs.Common.{◌<◌, ◌^◌, arith, le-leb}
+use Rattle.std.proofs.Common.{◌<◌, ◌^◌, arith}
+use Rattle.std.proofs.lemmas.Bool.{le-leb}
 use Rattle.cx_acceptor.proofs.SoundLaws.{slot_small, sound_vote, vote_fits}
 use Rattle.cx_acceptor.proofs.acceptor.Acceptor.phase2a.Goals as goal
 

@@ -1,6 +1,5 @@
-use Rattle.cx_role.proofs.Common.{drop}
+use Rattle.cx_model.specs.Prelude.{drop, acceptor_rules}
 use Rattle.cx_role.proofs.Reopening.{IsReopening}
-use Rattle.cx_model.specs.Acceptor.{acceptor_rules}
 use Rattle.cx_acceptor.proofs.acceptor.AcceptorRole.reopen.Given as goal
 
 abbrev pub invariant-loop-index : goal.invariant-loop-index

@@ -1,5 +1,4 @@
-use Rattle.std.proofs.Common.{◌<◌, arith, length, subst, sym}
-use Rattle.std.proofs.lemmas.List.{length-drop}
+use Rattle.cx_base.proofs.Common.{◌<◌, arith, length, subst, sym, length-drop}
 use Rattle.cx_client.specs.Client.{ClientState, left}
 use Rattle.cx_client.proofs.Steps.{completed_client, completed_state}
 use Rattle.cx_client.proofs.client.Client.complete.Goals as goal

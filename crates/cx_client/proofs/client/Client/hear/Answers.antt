@@ -1,6 +1,4 @@
-use Rattle.std.proofs.Common.{◌≡◌, ◌∙◌, ap, arith, get_or, subst, sym, List}
-use Rattle.std.specs.List.{position}
-use Rattle.cx_base.specs.declared.event.Event.{Event}
+use Rattle.cx_role.proofs.Common.{◌≡◌, ◌∙◌, ap, arith, get_or, subst, sym, List, position, Event}
 use Rattle.cx_client.specs.Client.{ClientState, IsClient, after_completion, hearing, left}
 use Rattle.cx_client.specs.Window.{has_number, outstanding}
 use Rattle.cx_script.specs.Requests.{number_of}

@@ -1,5 +1,4 @@
-use Rattle.std.proofs.Common.{subst}
-use Rattle.cx_letter.specs.declared.message.Msg.{Msg}
+use Rattle.cx_inv_run.proofs.Common.{subst, Msg}
 use Rattle.cx_letter.specs.LetterParts.{PartsFit}
 use Rattle.cx_client.proofs.Steps.{at_fits}
 use Rattle.cx_client.proofs.client.Client.take.Goals as goal

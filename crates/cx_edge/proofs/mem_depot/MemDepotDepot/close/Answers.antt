@@ -1,5 +1,4 @@
-use Rattle.std.proofs.Common.{ℕ, List, map, ap, sym, subst, ◌∙◌}
-use Rattle.std.proofs.lemmas.Option.{same_Some}
+use Rattle.cx_base.proofs.Common.{ℕ, List, map, ap, sym, subst, ◌∙◌, same_Some}
 use Rattle.cx_disk.specs.declared.memory.MemDisk.{MemDisk}
 use Rattle.cx_disk.specs.MemDiskViews.{mem_disk_bytes}
 use Rattle.cx_edge.specs.Depot.{IsOut}

@@ -1,6 +1,4 @@
-use Rattle.std.proofs.Common.{◌≡◌, ◌∙◌, false, List, sym, subst}
-use Rattle.std.specs.Prelude.{IfSome}
-use Rattle.std.specs.List.{list_any}
+use Rattle.cx_base.proofs.Common.{◌≡◌, ◌∙◌, false, List, sym, subst, IfSome, list_any}
 use Rattle.cx_edge.specs.declared.mem_link.BindRow.{BindRow}
 use Rattle.cx_edge.specs.Link.{IsUnbound, binds_either}
 use Rattle.cx_edge.specs.MemLink.{LinkState, bind_of}

@@ -1,7 +1,5 @@
-use Rattle.std.proofs.Common.{◌≡◌, ◌+◌, ℕ, List, slice_range, ap, ◌∷◌, ◌⊎◌, ◌≤◌, length, vec_len, inl, inr, arith, subst, ◌∙◌}
-use Rattle.std.specs.List.{All}
-use Rattle.std.proofs.lemmas.Bool.{cases_lt}
-use Rattle.std.proofs.lemmas.List.Elements.{All-head, All-tail, All-push}
+use Rattle.cx_base.proofs.Common.{◌≡◌, ◌+◌, ℕ, List, slice_range, ap, ◌∷◌, ◌⊎◌, ◌≤◌, length, vec_len, inl, inr, arith, subst, ◌∙◌, All}
+use Rattle.cx_base.proofs.Common.{cases_lt, All-head, All-tail, All-push}
 use Rattle.cx_edge.specs.Notes.{Fits, TakenFits}
 use Rattle.cx_edge.proofs.NotesLaws.{take_noted}
 use Rattle.cx_edge.proofs.notes.Notes.take.Goals as goal

@@ -1,6 +1,4 @@
-use Rattle.std.proofs.Common.{◌≡◌, ◌++◌, Bool, List, ℕ, Result, Ok, Err}
-use Rattle.std.specs.Prelude.{OnOk}
-use Rattle.std.proofs.lemmas.List.{append_assoc}
+use Rattle.cx_base.proofs.Common.{◌≡◌, ◌++◌, Bool, List, ℕ, Result, Ok, Err, OnOk, append_assoc}
 use Rattle.cx_field.specs.declared.parts.Vote.{Vote}
 use Rattle.cx_field.specs.Fields.{round, slot, value, vote_with}
 use Rattle.cx_field.proofs.Floors.{value_spells}

@@ -1,5 +1,4 @@
-use Rattle.std.proofs.Common.{arith}
-use Rattle.std.proofs.lemmas.List.{length_push}
+use Rattle.cx_base.proofs.Common.{arith, length_push}
 use Rattle.cx_history.proofs.Asking.{tells_more}
 use Rattle.cx_history.proofs.events.Events.push.Goals as goal
 

@@ -1,5 +1,4 @@
-use Rattle.std.proofs.Common.{◌≡◌, ◌++◌, ◌∷◌, [], ◌∙◌, length, ap, sym, ℕ, List}
-use Rattle.std.proofs.lemmas.List.{length-map}
+use Rattle.cx_base.proofs.Common.{◌≡◌, ◌++◌, ◌∷◌, [], ◌∙◌, length, ap, sym, ℕ, List, length-map}
 use Rattle.cx_history.specs.Kept.{change_in, changes_in}
 use Rattle.cx_history.proofs.Keeping.{kept_more}
 use Rattle.cx_history.proofs.kept.Kept.push.Goals as goal

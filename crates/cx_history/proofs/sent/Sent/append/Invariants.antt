@@ -1,5 +1,4 @@
-use Rattle.std.proofs.Common.{◌≡◌, ◌++◌, List, drop}
-use Rattle.cx_letter.specs.Letter.{Letter}
+use Rattle.cx_letter.specs.Prelude.{◌≡◌, ◌++◌, List, drop, Letter}
 use Rattle.cx_history.proofs.sent.Sent.append.Given as goal
 
 abbrev pub invariant-loop-datagram : goal.invariant-loop-datagram

@@ -1,5 +1,4 @@
-use Rattle.std.proofs.Common.{◌≡◌, ◌+◌, ◌∷◌, ◌++◌, ◌∙◌, [], ℕ, List, length, length-append, ap, sym, arith}
-use Rattle.std.proofs.lemmas.List.{length-map}
+use Rattle.cx_base.proofs.Common.{◌≡◌, ◌+◌, ◌∷◌, ◌++◌, ◌∙◌, [], ℕ, List, length, length-append, ap, sym, arith, length-map}
 use Rattle.cx_letter.specs.Letter.{Letter}
 use Rattle.cx_msg.specs.Spelled.{letter_of}
 use Rattle.cx_history.specs.Answers.{is_answer, is_read_answer}

@@ -1,6 +1,4 @@
-use Rattle.std.proofs.Common.{◌≡◌, ◌==◌, ℕ, List, length, true, not, ◌∙◌, ap, subst}
-use Rattle.std.specs.Prelude.{is_some}
-use Rattle.cx_journal.specs.State.{has_some, told_records}
+use Rattle.cx_journal.proofs.Common.{◌≡◌, ◌==◌, ℕ, List, length, true, not, ◌∙◌, ap, subst, is_some, has_some, told_records}
 use Rattle.cx_journal.proofs.Ready.{has_none}
 use Rattle.cx_journal.proofs.journal.Journal.is_empty.Goals as goal
 

@@ -1,6 +1,4 @@
-use Rattle.std.proofs.Common.{subst}
-use Rattle.std.specs.Prelude.{Err}
-use Rattle.cx_keep.specs.declared.keeper.KeepFault.TheVariants.{Failed}
+use Rattle.cx_journal.proofs.Common.{subst, Err, Failed}
 use Rattle.cx_journal.specs.Store.{IsRefused}
 use Rattle.cx_journal.proofs.Refused.{refused}
 use Rattle.cx_journal.proofs.journal.Journal.refuse.Goals as goal

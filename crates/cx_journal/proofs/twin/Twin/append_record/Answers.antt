@@ -1,6 +1,4 @@
-use Rattle.std.proofs.Common.{refl, ◌≡◌, ◌⊎◌, [], ◌∷◌, ◌++◌, ◌∙◌, true, false, sym, subst}
-use Rattle.std.specs.Prelude.{None}
-use Rattle.cx_journal.specs.Twin.{BothTell, seen_pair_records}
+use Rattle.cx_journal.proofs.Common.{refl, ◌≡◌, ◌⊎◌, [], ◌∷◌, ◌++◌, ◌∙◌, true, false, sym, subst, None, BothTell, seen_pair_records}
 use Rattle.cx_journal.proofs.Lengths.{fits_more}
 use Rattle.cx_journal.proofs.Told.{told_two}
 use Rattle.cx_journal.proofs.TwinReady.{ready_from, failed_so, either_told, gates_more}

@@ -1,6 +1,4 @@
-use Rattle.std.proofs.Common.{◌≡◌, ◌==◌, ℕ, List, length, true, not, ◌∙◌, ap, subst}
-use Rattle.cx_journal.specs.State.{has_some}
-use Rattle.cx_journal.specs.Twin.{BothTell, seen_pair_records}
+use Rattle.cx_journal.proofs.Common.{◌≡◌, ◌==◌, ℕ, List, length, true, not, ◌∙◌, ap, subst, has_some, BothTell, seen_pair_records}
 use Rattle.cx_journal.proofs.TwinReady.{twin_has_none}
 use Rattle.cx_journal.proofs.twin.Twin.is_empty.Goals as goal
 

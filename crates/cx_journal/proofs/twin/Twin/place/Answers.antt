@@ -1,9 +1,5 @@
-use Rattle.std.proofs.Common.{◌≡◌, ◌<◌, ◌++◌, length, true, sym, ◌∙◌, ap, subst}
-use Rattle.std.specs.Prelude.{slice_index, take}
-use Rattle.cx_journal.specs.Journal.{frames}
-use Rattle.cx_journal.specs.Pair.{front_of}
-use Rattle.cx_journal.specs.Payload.{payloads}
-use Rattle.cx_journal.specs.Twin.{BothTell, seen_pair_records}
+use Rattle.cx_journal.proofs.Common.{◌≡◌, ◌<◌, ◌++◌, length, true, sym, ◌∙◌, ap, subst, slice_index, take, frames, front_of, payloads}
+use Rattle.cx_journal.proofs.Common.{BothTell, seen_pair_records}
 use Rattle.cx_journal.proofs.TwinReady.{twin_place}
 use Rattle.cx_journal.proofs.twin.Twin.place.Goals as goal
 

@@ -1,5 +1,4 @@
-use Rattle.std.proofs.Common.{rules, refl}
-use Rattle.std.specs.Prelude.{None}
+use Rattle.cx_base.proofs.Common.{rules, refl, None}
 use Rattle.cx_journal.proofs.TwinReady.{read_ready, ready_still, unread_so}
 use Rattle.cx_journal.proofs.twin.Twin.recover_records.Goals as goal
 

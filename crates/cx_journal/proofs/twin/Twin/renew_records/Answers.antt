@@ -1,10 +1,5 @@
-use Rattle.std.proofs.Common.{◌≡◌, ◌⊎◌, ◌+◌, [], ◌∷◌, ◌++◌, ◌∙◌, length, true, false, Some, refl, sym, ap, subst, arith, length-append}
-use Rattle.std.specs.Prelude.{None}
-use Rattle.cx_journal.specs.Journal.{frames}
-use Rattle.cx_journal.specs.Pair.{front_of}
-use Rattle.cx_journal.specs.Payload.{payloads}
-use Rattle.cx_journal.specs.Twin.{BothTell, seen_pair_records}
-use Rattle.cx_journal.proofs.Gates.{gates-count}
+use Rattle.cx_journal.proofs.Common.{◌≡◌, ◌⊎◌, ◌+◌, [], ◌∷◌, ◌++◌, ◌∙◌, length, true, false, Some, refl, sym, ap, subst, arith}
+use Rattle.cx_journal.proofs.Common.{length-append, None, frames, front_of, payloads, BothTell, seen_pair_records, gates-count}
 use Rattle.cx_journal.proofs.Told.{told_two, fit_kept, turned_size}
 use Rattle.cx_journal.proofs.TwinReady.{ready_from, failed_so, either_told}
 use Rattle.cx_journal.proofs.twin.Twin.renew_records.Goals as goal

@@ -1,6 +1,4 @@
-use Rattle.std.proofs.Common.{◌≡◌, List, ap, subst}
-use Rattle.std.specs.Prelude.{IfOk}
-use Rattle.std.specs.List.{slice_get}
+use Rattle.cx_base.proofs.Common.{◌≡◌, List, ap, subst, IfOk, slice_get}
 use Rattle.cx_letter.specs.declared.kept.Record.{Record}
 use Rattle.cx_keeper.specs.MemKeeper.{kept_of}
 use Rattle.cx_keeper.proofs.Since.{kept_last, last_fits}

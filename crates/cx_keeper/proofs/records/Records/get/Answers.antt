@@ -1,7 +1,5 @@
-use Rattle.std.proofs.Common.{◌≡◌, Some, None, ap, sym, ◌∙◌}
-use Rattle.std.specs.List.{slice_get}
-use Rattle.std.specs.Option.{option_map}
 use Rattle.std.proofs.lemmas.Option.{slice_get-map}
+use Rattle.cx_base.proofs.Common.{◌≡◌, Some, None, ap, sym, ◌∙◌, slice_get, option_map}
 use Rattle.cx_letter.specs.declared.kept.Record.{Record}
 use Rattle.cx_keeper.specs.Pieces.{record_at}
 use Rattle.cx_keeper.specs.declared.records.Piece.{Piece}

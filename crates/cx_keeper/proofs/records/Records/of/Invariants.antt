@@ -1,5 +1,4 @@
-use Rattle.std.proofs.Common.{◌≡◌, ◌++◌, drop}
-use Rattle.std.specs.Prelude.{IsTrue}
+use Rattle.cx_base.proofs.Common.{◌≡◌, ◌++◌, drop, IsTrue}
 use Rattle.cx_keep.specs.Keeper.{all_fit}
 use Rattle.cx_keeper.proofs.records.Records.of.Given as goal
 

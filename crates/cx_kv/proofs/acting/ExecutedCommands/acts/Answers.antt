@@ -1,6 +1,5 @@
-use Rattle.std.proofs.Common.{◌≡◌, ap, sym, subst, ◌∙◌, List}
+use Rattle.cx_base.proofs.Common.{◌≡◌, ap, sym, subst, ◌∙◌, List, acts}
 use Rattle.cx_base.specs.declared.command.Command.{Command}
-use Rattle.cx_base.specs.Fold.{acts}
 use Rattle.cx_table.specs.Judged.{is_new, judge_of}
 use Rattle.cx_kv.proofs.Used.{acts_new}
 use Rattle.cx_kv.proofs.acting.ExecutedCommands.acts.Goals as goal

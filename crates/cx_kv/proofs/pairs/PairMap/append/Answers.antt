@@ -1,5 +1,4 @@
-use Rattle.std.proofs.Common.{◌≡◌, Some, rules, arith}
-use Rattle.cx_base.specs.Fold.{text_at}
+use Rattle.cx_base.proofs.Common.{◌≡◌, Some, rules, arith, text_at}
 use Rattle.cx_kv.proofs.Maps.{map_appended_full}
 use Rattle.cx_kv.proofs.pairs.PairMap.append.Goals as goal
 

@@ -1,5 +1,4 @@
-use Rattle.std.proofs.Common.{◌≡◌, true, subst}
-use Rattle.cx_base.specs.Lists.{rises}
+use Rattle.cx_base.proofs.Common.{◌≡◌, true, subst, rises}
 use Rattle.cx_kv.specs.Rising.{has_lower_key}
 use Rattle.cx_kv.specs.State.{MapState}
 use Rattle.cx_kv.proofs.Pushing.{all_rise}

@@ -1,5 +1,4 @@
-use Rattle.cx_role.proofs.Common.{◌≡◌, Some, sym, subst, ap, ◌∙◌, Outcome, IsReply}
-use Rattle.cx_model.specs.Leader.{LeaderVolatile, leader_rules}
+use Rattle.cx_role.proofs.Common.{◌≡◌, Some, sym, subst, ap, ◌∙◌, Outcome, IsReply, LeaderVolatile, leader_rules}
 use Rattle.cx_leader.proofs.PromiseLaws.{promised_is}
 use Rattle.cx_leader.proofs.leader.Leader.promise.Goals as goal
 

@@ -1,6 +1,6 @@
-use Rattle.cx_role.proofs.Common.{◌≡◌, ◌++◌, ◌∷◌, [], ap, refl, rules, subst, sym, ◌∙◌, Promised, Outcome, IsReply}
-use Rattle.cx_model.specs.Leader.{LeaderVolatile, lead_with, leader_rules}
-use Rattle.cx_model.specs.Plan.{plan}
+use Rattle.cx_model.specs.Prelude.{lead_with, plan}
+use Rattle.cx_role.proofs.Common.{◌≡◌, ◌++◌, ◌∷◌, [], ap, refl, rules, subst, sym, ◌∙◌, Outcome, IsReply, LeaderVolatile, leader_rules}
+use Rattle.cx_model.specs.declared.states.Promised.{Promised}
 use Rattle.cx_phase1.specs.Counting.{count_promise, counted_by}
 use Rattle.cx_phase1.specs.declared.told.Told.TheVariants as told
 use Rattle.cx_leader.specs.Promising.{counting, told_row}

@@ -1,6 +1,5 @@
 use Rattle.std.proofs.Common.{subst}
-use Rattle.cx_letter.specs.Letter.{Letter}
-use Rattle.cx_letter.specs.LetterParts.{PartsFit}
+use Rattle.cx_letter.specs.Prelude.{Letter, PartsFit}
 use Rattle.cx_letter.proofs.PartsLaws.{parts}
 use Rattle.cx_letter.proofs.datagram.Datagram.msg.Goals as goal
 

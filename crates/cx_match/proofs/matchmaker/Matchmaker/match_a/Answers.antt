@@ -1,9 +1,8 @@
-use Rattle.cx_role.proofs.Common.{length, arith, rules, done}
+use Rattle.cx_role.proofs.Common.{length, arith, rules, real_above, err_from_is_err_and}
+use Rattle.cx_role.proofs.Step.{done}
 use Rattle.cx_match.proofs.EntryLaws.{all_before, greatest_fits, some_later}
 use Rattle.cx_match.proofs.SoundLaws.{has_space, match_fits, sound_match}
-use Rattle.cx_role.proofs.Ranges.{real_above}
 use Rattle.cx_match.proofs.Telling.{one_told}
-use Rattle.std.proofs.lemmas.Result.{err_from_is_err_and}
 use Rattle.cx_match.proofs.matchmaker.Matchmaker.match_a.Goals as goal
 
 pub match_nack-requires-clause-other : goal.match_nack-requires-clause-other

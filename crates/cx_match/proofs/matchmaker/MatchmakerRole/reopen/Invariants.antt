@@ -1,6 +1,5 @@
-use Rattle.cx_role.proofs.Common.{drop}
+use Rattle.cx_model.specs.Prelude.{drop, matchmaker_rules}
 use Rattle.cx_role.proofs.Reopening.{IsReopening}
-use Rattle.cx_model.specs.Matchmaker.{matchmaker_rules}
 use Rattle.cx_match.proofs.matchmaker.MatchmakerRole.reopen.Given as goal
 
 abbrev pub invariant-loop-index : goal.invariant-loop-index

@@ -1,9 +1,6 @@
-use Rattle.std.proofs.Common.{◌≡◌, length, get_or, option_map, Some, Err, slice_get, refl, ap, ◌∙◌}
-use Rattle.std.proofs.lemmas.Option.{slice_get_read}
-use Rattle.std.proofs.lemmas.Result.{err_from_is_err_and}
+use Rattle.cx_node.proofs.Common.{◌≡◌, length, get_or, option_map, Some, Err, slice_get, refl, ap, ◌∙◌, slice_get_read, err_from_is_err_and}
+use Rattle.cx_node.proofs.Common.{changing, NodeState}
 use Rattle.cx_node.specs.declared.node.Stop.TheVariants as stop
-use Rattle.cx_seat.specs.Changing.{changing}
-use Rattle.cx_node.specs.Node.{NodeState}
 use Rattle.cx_seat.specs.Noting.{with_more_lines, noting, shown}
 use Rattle.cx_node.proofs.SeatedActs.{acts_seated, acts_unasked, acts_unsent, acts_unspelled, acts_unwritten, fits_still}
 use Rattle.cx_node.proofs.node.Node.act.Goals as goal

@@ -1,5 +1,4 @@
-use Rattle.std.proofs.Common.{sym, ◌∙◌}
-use Rattle.cx_node.proofs.Places.{place_within}
+use Rattle.cx_node.proofs.Common.{sym, ◌∙◌, place_within}
 use Rattle.cx_node.proofs.node.Node.act_named.Goals as goal
 
 pub act-requires-clause-place : goal.act-requires-clause-place

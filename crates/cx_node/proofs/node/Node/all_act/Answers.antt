@@ -1,14 +1,7 @@
-use Rattle.std.proofs.Common.{◌≡◌, ◌<◌, [], Ok, Err, length, arith, rules, refl, ap, ◌∙◌, subst}
-use Rattle.std.proofs.lemmas.List.{length-map}
-use Rattle.std.proofs.lemmas.Result.{err_from_is_err_and}
-use Rattle.cx_base.specs.declared.cluster.Cluster.{Cluster}
-use Rattle.cx_node.specs.Node.{course_at}
-use Rattle.cx_node.specs.Acts.{Acts, failed, scene_of}
-use Rattle.cx_seat.specs.Changing.{changing}
-use Rattle.cx_seat.specs.Guest.{hosted_in, hosted_of}
-use Rattle.cx_course.specs.Course.{does_at}
+use Rattle.cx_node.proofs.Common.{◌≡◌, ◌<◌, [], Ok, Err, length, arith, rules, refl, ap, ◌∙◌, subst, length-map, err_from_is_err_and}
+use Rattle.cx_node.proofs.Common.{Cluster, course_at, Acts, failed, scene_of, changing, hosted_in, hosted_of, does_at, acts_nothing}
+use Rattle.cx_node.proofs.Common.{blames_then, no_blame}
 use Rattle.cx_course.specs.Run.{first_do}
-use Rattle.cx_node.proofs.Actions.{acts_nothing, blames_then, no_blame}
 use Rattle.cx_node.proofs.Parts.{next_done, next_stopped}
 use Rattle.cx_node.proofs.node.Node.all_act.Goals as goal
 

@@ -1,7 +1,4 @@
-use Rattle.std.proofs.Common.{◌≡◌, [], length, Ok}
-use Rattle.cx_node.specs.Node.{course_at}
-use Rattle.cx_node.specs.Acts.{Acts, Blames, failed, scene_of}
-use Rattle.cx_seat.specs.Changing.{changing}
+use Rattle.cx_node.proofs.Common.{◌≡◌, [], length, Ok, course_at, Acts, Blames, failed, scene_of, changing}
 use Rattle.cx_course.specs.Run.{first_do}
 use Rattle.cx_node.proofs.node.Node.all_act.Given as goal
 

@@ -1,13 +1,8 @@
-use Rattle.std.proofs.Common.{◌≡◌, ◌+◌, Ok, Err, arith, sym, ap, ◌∙◌, subst}
-use Rattle.std.proofs.lemmas.Result.{err_from_is_err_and}
-use Rattle.cx_base.specs.declared.cluster.Cluster.{Cluster}
-use Rattle.cx_node.specs.Node.{course_at}
-use Rattle.cx_node.specs.Acts.{scene_of}
+use Rattle.cx_node.proofs.Common.{◌≡◌, ◌+◌, Ok, Err, arith, sym, ap, ◌∙◌, subst, err_from_is_err_and, Cluster, course_at, scene_of}
+use Rattle.cx_node.proofs.Common.{changing, tended, blames_then}
 use Rattle.cx_node.specs.declared.node.Stop.TheVariants as stop
-use Rattle.cx_seat.specs.Changing.{changing}
 use Rattle.cx_course.specs.Tending.{any_turn}
-use Rattle.cx_node.specs.Tends.{TendsOnce, tended}
-use Rattle.cx_node.proofs.Actions.{blames_then}
+use Rattle.cx_node.specs.Tends.{TendsOnce}
 use Rattle.cx_node.proofs.Turned.{begun_underway, never_begun, stopped_begun, stopped_turn, turned_underway}
 use Rattle.cx_node.proofs.node.Node.all_turns.Goals as goal
 

@@ -1,6 +1,4 @@
-use Rattle.std.proofs.Common.{◌≡◌, ◌-◌, ◌≤◌, Ok}
-use Rattle.cx_seat.specs.Changing.{changing}
-use Rattle.cx_node.specs.Acts.{Blames, failed, scene_of}
+use Rattle.cx_node.proofs.Common.{◌≡◌, ◌-◌, ◌≤◌, Ok, changing, Blames, failed, scene_of}
 use Rattle.cx_node.proofs.Turned.{Underway}
 use Rattle.cx_node.proofs.node.Node.all_turns.Given as goal
 

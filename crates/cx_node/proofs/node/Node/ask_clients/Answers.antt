@@ -1,18 +1,10 @@
-use Rattle.std.proofs.Common.{◌≡◌, Ok, length, List, min, refl, sym, ap, ◌∙◌}
 use Rattle.std.specs.Prelude.{filter, sum_by}
+use Rattle.cx_node.proofs.Common.{◌≡◌, Ok, length, List, min, refl, sym, ap, ◌∙◌, scene_of, changing, hosted_of, NodeState, course_at}
+use Rattle.cx_node.proofs.Common.{stays, is_client, clients_tended, completed, those_tick, tended, Guest, acts_nothing, counts_as, act_as}
+use Rattle.cx_node.proofs.Common.{moved_as}
 use Rattle.cx_base.specs.declared.role.Kind.TheVariants as kind
-use Rattle.cx_node.specs.Acts.{scene_of}
-use Rattle.cx_seat.specs.Changing.{changing}
-use Rattle.cx_seat.specs.Guest.{hosted_of}
-use Rattle.cx_node.specs.Node.{NodeState, course_at}
-use Rattle.cx_course.specs.Course.{stays}
-use Rattle.cx_course.specs.Run.{is_client}
-use Rattle.cx_course.specs.Tending.{clients_tended, completed, is_of_kind, kind_ticks, next_pass, those_tick, within}
-use Rattle.cx_node.specs.Tends.{tended}
-use Rattle.cx_seat.specs.declared.guest.Guest.{Guest}
-use Rattle.cx_node.proofs.Actions.{acts_nothing}
-use Rattle.cx_node.proofs.Tended.{all_there, clients_ask, clients_over, clients_there, clients_wait, counts_as, kind_is, on_ok}
-use Rattle.cx_node.proofs.TendedActs.{act_as, moved_as}
+use Rattle.cx_course.specs.Tending.{is_of_kind, kind_ticks, next_pass, within}
+use Rattle.cx_node.proofs.Tended.{all_there, clients_ask, clients_over, clients_there, clients_wait, kind_is, on_ok}
 use Rattle.cx_node.proofs.node.Node.ask_clients.Goals as goal
 
 pub returns-then-asks_again-clause-acts : goal.returns-then-asks_again-clause-acts

@@ -1,16 +1,8 @@
-use Rattle.std.proofs.Common.{not}
-use Rattle.std.proofs.Common.{◌≡◌, [], Ok, Err, ap, ◌∙◌, subst}
-use Rattle.std.proofs.lemmas.Result.{err_from_is_err_and}
-use Rattle.cx_base.specs.declared.cluster.Cluster.{Cluster}
-use Rattle.cx_node.specs.Node.{course_at}
-use Rattle.cx_node.specs.Acts.{Acts, scene_of}
-use Rattle.cx_seat.specs.Changing.{changing}
-use Rattle.cx_seat.specs.Guest.{hosted_in}
-use Rattle.cx_course.specs.Run.{is_client}
-use Rattle.cx_course.specs.Tending.{clients_tended, first_leader, leader_tended, others_tick, those_tick, without_care}
-use Rattle.cx_node.specs.Tends.{tended}
+use Rattle.cx_node.proofs.Common.{not, ◌≡◌, [], Ok, Err, ap, ◌∙◌, subst, err_from_is_err_and, Cluster, course_at, Acts, scene_of, changing}
+use Rattle.cx_node.proofs.Common.{hosted_in, is_client, clients_tended, those_tick, without_care, tended, act_as}
+use Rattle.cx_course.specs.Tending.{first_leader, leader_tended, others_tick}
 use Rattle.cx_node.proofs.Tended.{others_is}
-use Rattle.cx_node.proofs.TendedActs.{act_as, beat_clients, beat_counts, beat_leader, beat_others}
+use Rattle.cx_node.proofs.TendedActs.{beat_clients, beat_counts, beat_leader, beat_others}
 use Rattle.cx_node.proofs.node.Node.beat.Goals as goal
 
 pub returns-in_err-tick_those-clause-acts : goal.returns-in_err-tick_those-clause-acts

@@ -1,9 +1,5 @@
-use Rattle.std.proofs.Common.{sym, ap, ◌∙◌}
-use Rattle.cx_base.specs.Role.{role, same_role}
+use Rattle.cx_node.proofs.Common.{sym, ap, ◌∙◌, role, same_role, course_at, scene_of, changing}
 use Rattle.cx_base.specs.declared.role.Kind.TheVariants as kind
-use Rattle.cx_node.specs.Node.{course_at}
-use Rattle.cx_node.specs.Acts.{scene_of}
-use Rattle.cx_seat.specs.Changing.{changing}
 use Rattle.cx_course.specs.Tending.{collected}
 use Rattle.cx_node.proofs.TendedActs.{due, not_due}
 use Rattle.cx_node.proofs.node.Node.collect_for.Goals as goal

@@ -1,5 +1,4 @@
-use Rattle.cx_node.specs.Acts.{scene_of}
-use Rattle.cx_seat.specs.Changing.{changing}
+use Rattle.cx_node.proofs.Common.{scene_of, changing}
 use Rattle.cx_node.proofs.TendedActs.{gets_none, gets_some}
 use Rattle.cx_node.proofs.node.Node.command.Goals as goal
 

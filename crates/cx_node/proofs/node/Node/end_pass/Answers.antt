@@ -1,11 +1,6 @@
-use Rattle.std.proofs.Common.{◌≡◌, [], List, map, ℕ, Ok, Err, ap, ◌∙◌, subst}
-use Rattle.std.proofs.lemmas.Result.{err_from_is_err_and}
-use Rattle.cx_node.specs.Acts.{Acts, scene_of}
-use Rattle.cx_seat.specs.Changing.{changing}
-use Rattle.cx_seat.specs.Guest.{hosted_of}
-use Rattle.cx_node.specs.Node.{NodeState, course_at}
-use Rattle.cx_course.specs.Tending.{completed, in_turn, is_overtaken}
-use Rattle.cx_seat.specs.declared.guest.Guest.{Guest}
+use Rattle.cx_node.proofs.Common.{◌≡◌, [], List, map, ℕ, Ok, Err, ap, ◌∙◌, subst, err_from_is_err_and, Acts, scene_of, changing, hosted_of}
+use Rattle.cx_node.proofs.Common.{NodeState, course_at, completed, Guest}
+use Rattle.cx_course.specs.Tending.{in_turn, is_overtaken}
 use Rattle.cx_node.specs.declared.node.Stop.TheVariants.{NoMemory}
 use Rattle.cx_node.proofs.Tended.{marks_there, pass_counts}
 use Rattle.cx_node.proofs.TendedActs.{then_stops}

@@ -1,13 +1,6 @@
-use Rattle.std.proofs.Common.{Ok, refl, sym, ◌∙◌}
-use Rattle.cx_node.specs.Node.{course_at}
-use Rattle.cx_node.specs.Acts.{scene_of}
-use Rattle.cx_seat.specs.Changing.{changing}
-use Rattle.cx_course.specs.Course.{stays}
+use Rattle.cx_node.proofs.Common.{Ok, refl, sym, ◌∙◌, course_at, scene_of, changing, stays, tended, acts_nothing, counts_as, moved_as}
 use Rattle.cx_course.specs.Tending.{beat, turn_ended}
-use Rattle.cx_node.specs.Tends.{tended}
-use Rattle.cx_node.proofs.Actions.{acts_nothing}
-use Rattle.cx_node.proofs.Tended.{counts_as, ended_beat, ended_still}
-use Rattle.cx_node.proofs.TendedActs.{moved_as}
+use Rattle.cx_node.proofs.Tended.{ended_beat, ended_still}
 use Rattle.cx_node.proofs.node.Node.end_turn.Goals as goal
 
 pub returns-then-is_beat-clause-acts : goal.returns-then-is_beat-clause-acts

@@ -1,8 +1,6 @@
-use Rattle.std.proofs.Common.{ap, position, ◌∙◌}
-use Rattle.cx_base.specs.Role.{same_role}
-use Rattle.cx_seat.specs.declared.guest.Guest.{Guest}
+use Rattle.std.proofs.Common.{position}
+use Rattle.cx_node.proofs.Common.{ap, ◌∙◌, same_role, Guest, NodeState}
 use Rattle.cx_seat.specs.Guest.{who}
-use Rattle.cx_node.specs.Node.{NodeState}
 use Rattle.cx_node.proofs.Places.{place_is}
 use Rattle.cx_node.proofs.node.Node.find.Goals as goal
 

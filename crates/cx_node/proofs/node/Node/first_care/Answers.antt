@@ -1,6 +1,4 @@
-use Rattle.std.proofs.Common.{◌≡◌, [], refl, sym, subst}
-use Rattle.std.specs.Prelude.{IfOk}
-use Rattle.cx_seat.specs.Guest.{hosted_in}
+use Rattle.cx_node.proofs.Common.{◌≡◌, [], refl, sym, subst, IfOk, hosted_in}
 use Rattle.cx_course.specs.Tending.{first_care}
 use Rattle.cx_node.proofs.node.Node.first_care.Goals as goal
 

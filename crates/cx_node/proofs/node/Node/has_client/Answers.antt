@@ -1,9 +1,4 @@
-use Rattle.std.proofs.Common.{ap, ◌∙◌}
-use Rattle.std.specs.List.{list_any}
-use Rattle.cx_seat.specs.declared.guest.Guest.{Guest}
-use Rattle.cx_seat.specs.Guest.{hosted_of}
-use Rattle.cx_node.specs.Node.{NodeState}
-use Rattle.cx_course.specs.Run.{is_client}
+use Rattle.cx_node.proofs.Common.{ap, ◌∙◌, list_any, Guest, hosted_of, NodeState, is_client}
 use Rattle.cx_node.proofs.Places.{any_hosted}
 use Rattle.cx_node.proofs.node.Node.has_client.Goals as goal
 

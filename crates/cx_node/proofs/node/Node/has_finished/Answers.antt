@@ -1,9 +1,5 @@
-use Rattle.std.proofs.Common.{ap, ◌∙◌}
-use Rattle.std.specs.List.{list_all, list_any}
-use Rattle.cx_seat.specs.declared.guest.Guest.{Guest}
-use Rattle.cx_seat.specs.Guest.{hosted_of}
-use Rattle.cx_node.specs.Node.{NodeState}
-use Rattle.cx_course.specs.Run.{has_finished, is_client}
+use Rattle.cx_node.proofs.Common.{ap, ◌∙◌, list_all, list_any, Guest, hosted_of, NodeState, is_client}
+use Rattle.cx_course.specs.Run.{has_finished}
 use Rattle.cx_node.proofs.Places.{finished_there, none_there}
 use Rattle.cx_node.proofs.node.Node.has_finished.Goals as goal
 

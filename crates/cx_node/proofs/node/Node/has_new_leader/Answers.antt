@@ -1,16 +1,8 @@
-use Rattle.std.proofs.Common.{◌≡◌, ◌<◌, Some, length, get_or, slice_get, arith, refl, sym, ap, ◌∙◌}
-use Rattle.std.proofs.lemmas.Option.{slice_get_read}
-use Rattle.cx_base.specs.Role.{role}
+use Rattle.cx_model.specs.Prelude.{LeaderDurable, LeaderVolatile, Running}
+use Rattle.cx_seat.specs.Prelude.{is_new_leader, is_leader_so}
+use Rattle.cx_node.proofs.Common.{◌≡◌, ◌<◌, Some, length, get_or, slice_get, arith, refl, sym, ap, ◌∙◌, slice_get_read, role, hosted_in}
+use Rattle.cx_node.proofs.Common.{NodeState, hosted_place, place_within, first_none, first_some}
 use Rattle.cx_base.specs.declared.role.Kind.TheVariants as kind
-use Rattle.cx_leader.specs.Tending.{is_new_leader}
-use Rattle.cx_model.specs.Leader.{LeaderDurable, LeaderVolatile}
-use Rattle.cx_model.specs.Rules.{Running}
-use Rattle.cx_seat.specs.Guest.{hosted_in}
-use Rattle.cx_node.specs.Node.{NodeState}
-use Rattle.cx_course.specs.Run.{hosted_place}
-use Rattle.cx_seat.specs.Seat.{is_leader_so}
-use Rattle.cx_node.proofs.Places.{place_within}
-use Rattle.cx_node.proofs.Tended.{first_none, first_some}
 use Rattle.cx_node.proofs.node.Node.has_new_leader.Goals as goal
 
 pub returns-in_default : goal.returns-in_default

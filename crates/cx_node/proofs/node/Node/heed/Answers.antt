@@ -1,13 +1,7 @@
-use Rattle.std.proofs.Common.{◌≡◌, [], Ok, Err, ap, ◌∙◌, subst, if◌then◌else◌}
-use Rattle.std.proofs.lemmas.Result.{err_from_is_err_and}
-use Rattle.cx_base.specs.Role.{role, same_role}
-use Rattle.cx_base.specs.declared.cluster.Cluster.{Cluster}
+use Rattle.std.proofs.Common.{if◌then◌else◌}
+use Rattle.cx_node.proofs.Common.{◌≡◌, [], Ok, Err, ap, ◌∙◌, subst, err_from_is_err_and, role, same_role, Cluster, course_at, changing}
+use Rattle.cx_node.proofs.Common.{stays, Acts, scene_of, hosted_in}
 use Rattle.cx_base.specs.declared.role.Kind.TheVariants as kind
-use Rattle.cx_node.specs.Node.{course_at}
-use Rattle.cx_seat.specs.Changing.{changing}
-use Rattle.cx_course.specs.Course.{stays}
-use Rattle.cx_node.specs.Acts.{Acts, scene_of}
-use Rattle.cx_seat.specs.Guest.{hosted_in}
 use Rattle.cx_course.specs.Tending.{collected, held_by_role, reported}
 use Rattle.cx_node.proofs.TendedActs.{heed_collect, heed_report, heed_take}
 use Rattle.cx_node.proofs.node.Node.heed.Goals as goal

@@ -1,9 +1,5 @@
-use Rattle.std.proofs.Common.{◌≡◌, ◌<◌, Some, length, get_or, slice_get, arith, refl, sym, ap, ◌∙◌}
-use Rattle.std.proofs.lemmas.Option.{slice_get_read}
-use Rattle.cx_seat.specs.Guest.{hosted_in}
-use Rattle.cx_node.specs.Node.{NodeState}
-use Rattle.cx_course.specs.Run.{hosted_place}
-use Rattle.cx_node.proofs.Places.{place_within}
+use Rattle.cx_node.proofs.Common.{◌≡◌, ◌<◌, Some, length, get_or, slice_get, arith, refl, sym, ap, ◌∙◌, slice_get_read, hosted_in}
+use Rattle.cx_node.proofs.Common.{NodeState, hosted_place, place_within}
 use Rattle.cx_node.proofs.Tended.{held_none, held_some}
 use Rattle.cx_node.proofs.node.Node.held_by.Goals as goal
 

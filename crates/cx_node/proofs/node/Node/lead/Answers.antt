@@ -1,19 +1,11 @@
-use Rattle.std.proofs.Common.{◌≡◌, ◌<◌, [], Some, None, length, get_or, slice_get, arith, refl, sym, ap, ◌∙◌, subst}
-use Rattle.std.proofs.lemmas.Option.{slice_get_read}
+use Rattle.cx_seat.specs.Prelude.{Give, grid_of, idle_at}
+use Rattle.cx_node.proofs.Common.{◌≡◌, ◌<◌, [], Some, None, length, get_or, slice_get, arith, refl, sym, ap, ◌∙◌, subst, slice_get_read}
+use Rattle.cx_node.proofs.Common.{role, Acts, scene_of, changing, hosted_in, NodeState, course_at, does_at, hosted_place, place_within}
 use Rattle.cx_base.specs.Grid.{Shape}
-use Rattle.cx_base.specs.Role.{role}
 use Rattle.cx_base.specs.declared.event.Order.TheVariants as order
 use Rattle.cx_base.specs.declared.role.Kind.TheVariants as kind
 use Rattle.cx_letter.specs.declared.input.Input.TheVariants as input
-use Rattle.cx_course.specs.declared.doing.Doing.TheVariants.{Give}
-use Rattle.cx_node.specs.Acts.{Acts, scene_of}
-use Rattle.cx_seat.specs.Changing.{changing}
-use Rattle.cx_seat.specs.Guest.{hosted_in}
-use Rattle.cx_node.specs.Node.{NodeState, course_at}
-use Rattle.cx_course.specs.Course.{does_at}
-use Rattle.cx_course.specs.Run.{grid_of, idle_at, hosted_place}
 use Rattle.cx_node.proofs.Parts.{lead_busy, lead_idle, lead_none}
-use Rattle.cx_node.proofs.Places.{place_within}
 use Rattle.cx_node.proofs.SeatedActs.{hosted_at}
 use Rattle.cx_node.proofs.node.Node.lead.Goals as goal
 

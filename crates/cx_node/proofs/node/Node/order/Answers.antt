@@ -1,6 +1,4 @@
-use Rattle.std.proofs.Common.{sym, ◌∙◌}
-use Rattle.cx_seat.specs.Changing.{changing}
-use Rattle.cx_node.specs.Acts.{scene_of}
+use Rattle.cx_node.proofs.Common.{sym, ◌∙◌, changing, scene_of}
 use Rattle.cx_node.proofs.Parts.{order_due, order_none}
 use Rattle.cx_node.proofs.node.Node.order.Goals as goal
 

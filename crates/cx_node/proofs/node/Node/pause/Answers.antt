@@ -1,11 +1,8 @@
-use Rattle.std.proofs.Common.{sym, ◌∙◌}
+use Rattle.cx_node.proofs.Common.{sym, ◌∙◌, course_at, scene_of, changing, those_tick, act_as}
 use Rattle.cx_base.specs.declared.role.Kind.TheVariants as kind
-use Rattle.cx_node.specs.Node.{course_at}
-use Rattle.cx_node.specs.Acts.{scene_of}
-use Rattle.cx_seat.specs.Changing.{changing}
-use Rattle.cx_course.specs.Tending.{is_of_kind, kind_ticks, those_tick}
+use Rattle.cx_course.specs.Tending.{is_of_kind, kind_ticks}
 use Rattle.cx_node.proofs.Tended.{kind_is}
-use Rattle.cx_node.proofs.TendedActs.{act_as, pause_begins, pause_lasts, pause_none}
+use Rattle.cx_node.proofs.TendedActs.{pause_begins, pause_lasts, pause_none}
 use Rattle.cx_node.proofs.node.Node.pause.Goals as goal
 
 pub returns-then-has_paused-clause-acts : goal.returns-then-has_paused-clause-acts

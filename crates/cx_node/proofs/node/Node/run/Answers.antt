@@ -1,7 +1,4 @@
-use Rattle.std.proofs.Common.{Err, ap, ◌∙◌}
-use Rattle.std.proofs.lemmas.Result.{err_from_is_err_and}
-use Rattle.cx_seat.specs.Changing.{changing}
-use Rattle.cx_node.specs.Acts.{scene_of}
+use Rattle.cx_node.proofs.Common.{Err, ap, ◌∙◌, err_from_is_err_and, changing, scene_of}
 use Rattle.cx_node.proofs.Turned.{run_stops}
 use Rattle.cx_node.proofs.node.Node.run.Goals as goal
 

@@ -1,14 +1,7 @@
-use Rattle.std.proofs.Common.{◌≡◌, ◌<◌, Some, length, get_or, slice_get, arith, refl, sym, ap, ◌∙◌}
-use Rattle.std.proofs.lemmas.Option.{slice_get_read}
-use Rattle.std.specs.Option.{option_map}
-use Rattle.cx_base.specs.Role.{role}
+use Rattle.cx_node.proofs.Common.{◌≡◌, ◌<◌, Some, length, get_or, slice_get, arith, refl, sym, ap, ◌∙◌, slice_get_read, option_map, role}
+use Rattle.cx_node.proofs.Common.{hosted_in, NodeState, hosted_place, place_within, first_none, first_some}
 use Rattle.cx_base.specs.declared.role.Kind.TheVariants as kind
-use Rattle.cx_seat.specs.Guest.{hosted_in}
-use Rattle.cx_node.specs.Node.{NodeState}
-use Rattle.cx_course.specs.Run.{hosted_place}
 use Rattle.cx_course.specs.Tending.{standing_of}
-use Rattle.cx_node.proofs.Places.{place_within}
-use Rattle.cx_node.proofs.Tended.{first_none, first_some}
 use Rattle.cx_node.proofs.node.Node.standing.Goals as goal
 
 pub returns-in_default : goal.returns-in_default

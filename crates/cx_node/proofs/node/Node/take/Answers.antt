@@ -1,10 +1,7 @@
-use Rattle.std.proofs.Common.{◌≡◌, Ok, Err, Option, refl, ap, ◌∙◌, subst}
-use Rattle.std.proofs.lemmas.Result.{err_from_is_err_and}
+use Rattle.cx_node.proofs.Common.{◌≡◌, Ok, Err, Option, refl, ap, ◌∙◌, subst, err_from_is_err_and, scene_of, changing, NodeState}
 use Rattle.cx_node.specs.declared.come.Come.{Come}
 use Rattle.cx_node.specs.declared.come.Come.TheVariants as come
-use Rattle.cx_node.specs.Acts.{Receives, scene_of}
-use Rattle.cx_seat.specs.Changing.{changing}
-use Rattle.cx_node.specs.Node.{NodeState}
+use Rattle.cx_node.specs.Acts.{Receives}
 use Rattle.cx_node.proofs.Parts.{take_none, take_some, take_stops}
 use Rattle.cx_record.specs.Numbers.{Recorded}
 use Rattle.cx_node.proofs.node.Node.take.Goals as goal

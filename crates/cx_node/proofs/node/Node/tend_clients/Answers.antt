@@ -1,10 +1,7 @@
-use Rattle.std.proofs.Common.{ℕ, List, [], Option, Ok, sym, subst}
-use Rattle.cx_node.specs.Node.{course_at}
-use Rattle.cx_node.specs.Acts.{Acts, Blames, failed, failures, scene_of}
+use Rattle.cx_node.proofs.Common.{ℕ, List, [], Option, Ok, sym, subst, course_at, Acts, Blames, failed, scene_of, changing, clients_tended}
+use Rattle.cx_node.proofs.Common.{without_care, tended}
+use Rattle.cx_node.specs.Acts.{failures}
 use Rattle.cx_node.specs.Doing.{scene}
-use Rattle.cx_seat.specs.Changing.{changing}
-use Rattle.cx_course.specs.Tending.{clients_tended, without_care}
-use Rattle.cx_node.specs.Tends.{tended}
 use Rattle.cx_node.proofs.node.Node.tend_clients.Goals as goal
 
 pub returns-clause-acts : goal.returns-clause-acts

@@ -1,16 +1,8 @@
-use Rattle.std.proofs.Common.{◌≡◌, [], Ok, refl, sym, ap, ◌∙◌, subst, Option}
-use Rattle.cx_base.specs.declared.cluster.Cluster.{Cluster}
+use Rattle.cx_node.proofs.Common.{◌≡◌, [], Ok, refl, sym, ap, ◌∙◌, subst, Option, Cluster, changing, stays, Acts, scene_of, hosted_in}
+use Rattle.cx_node.proofs.Common.{NodeState, course_at, tended, acts_nothing, counts_as, moved_as}
 use Rattle.cx_base.specs.declared.event.Order.{Order}
-use Rattle.cx_seat.specs.Changing.{changing}
-use Rattle.cx_course.specs.Course.{stays}
-use Rattle.cx_node.specs.Acts.{Acts, scene_of}
-use Rattle.cx_seat.specs.Guest.{hosted_in}
-use Rattle.cx_node.specs.Node.{NodeState, course_at}
 use Rattle.cx_course.specs.Tending.{first_leader, gets, leader_asked, leader_cared, leader_tended, with_care}
-use Rattle.cx_node.specs.Tends.{tended}
-use Rattle.cx_node.proofs.Actions.{acts_nothing}
-use Rattle.cx_node.proofs.Tended.{counts_as, leader_none, leader_some, on_ok}
-use Rattle.cx_node.proofs.TendedActs.{moved_as}
+use Rattle.cx_node.proofs.Tended.{leader_none, leader_some, on_ok}
 use Rattle.cx_node.proofs.node.Node.tend_leader.Goals as goal
 
 pub returns-in-Some-clause-acts : goal.returns-in-Some-clause-acts

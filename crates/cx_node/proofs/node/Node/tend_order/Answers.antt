@@ -1,6 +1,4 @@
-use Rattle.std.proofs.Common.{sym, ◌∙◌}
-use Rattle.cx_node.specs.Acts.{scene_of}
-use Rattle.cx_seat.specs.Changing.{changing}
+use Rattle.cx_node.proofs.Common.{sym, ◌∙◌, scene_of, changing}
 use Rattle.cx_node.proofs.TendedActs.{order_comes, order_waits}
 use Rattle.cx_node.proofs.node.Node.tend_order.Goals as goal
 

@@ -1,9 +1,4 @@
-use Rattle.std.proofs.Common.{◌≡◌, [], Err, ap, ◌∙◌, subst}
-use Rattle.std.proofs.lemmas.Result.{err_from_is_err_and}
-use Rattle.cx_base.specs.declared.cluster.Cluster.{Cluster}
-use Rattle.cx_node.specs.Node.{course_at}
-use Rattle.cx_node.specs.Acts.{Acts, scene_of}
-use Rattle.cx_seat.specs.Changing.{changing}
+use Rattle.cx_node.proofs.Common.{◌≡◌, [], Err, ap, ◌∙◌, subst, err_from_is_err_and, Cluster, course_at, Acts, scene_of, changing}
 use Rattle.cx_course.specs.Run.{snaps}
 use Rattle.cx_node.proofs.TendedActs.{tend_prepare_order, tend_prepare_snap}
 use Rattle.cx_node.proofs.node.Node.tend_prepare.Goals as goal

@@ -1,8 +1,5 @@
-use Rattle.std.proofs.Common.{◌≡◌, Ok, Err, Option, ap, ◌∙◌, subst}
-use Rattle.std.proofs.lemmas.Result.{err_from_is_err_and}
-use Rattle.cx_node.specs.Acts.{Receives, scene_of}
-use Rattle.cx_seat.specs.Changing.{changing}
-use Rattle.cx_node.specs.Node.{NodeState}
+use Rattle.cx_node.proofs.Common.{◌≡◌, Ok, Err, Option, ap, ◌∙◌, subst, err_from_is_err_and, scene_of, changing, NodeState}
+use Rattle.cx_node.specs.Acts.{Receives}
 use Rattle.cx_node.specs.declared.come.Come.TheVariants as come
 use Rattle.cx_node.specs.declared.come.Come.{Come}
 use Rattle.cx_node.proofs.TendedActs.{took_fault, took_foreign, took_letter, took_nothing}

@@ -1,13 +1,7 @@
-use Rattle.std.proofs.Common.{◌∷◌}
-use Rattle.std.proofs.Common.{◌≡◌, [], Ok, Err, ap, ◌∙◌, subst}
-use Rattle.std.proofs.lemmas.Result.{err_from_is_err_and}
 use Rattle.std.specs.Prelude.{OnOk}
-use Rattle.cx_base.specs.declared.cluster.Cluster.{Cluster}
-use Rattle.cx_node.specs.Node.{course_at}
-use Rattle.cx_node.specs.Acts.{Acts, scene_of}
-use Rattle.cx_seat.specs.Changing.{changing}
-use Rattle.cx_course.specs.Tending.{paused, tend_comes, turn_ended, without_care}
-use Rattle.cx_node.specs.Tends.{tended}
+use Rattle.cx_node.proofs.Common.{◌∷◌, ◌≡◌, [], Ok, Err, ap, ◌∙◌, subst, err_from_is_err_and, Cluster, course_at, Acts, scene_of, changing}
+use Rattle.cx_node.proofs.Common.{without_care, tended}
+use Rattle.cx_course.specs.Tending.{paused, tend_comes, turn_ended}
 use Rattle.cx_node.proofs.TendedActs.{turn_end, turn_pause, turn_prepare, turn_take}
 use Rattle.cx_node.proofs.node.Node.tended_turn.Goals as goal
 

@@ -1,14 +1,7 @@
-use Rattle.std.proofs.Common.{slice_get, arith, ap, ◌∙◌}
-use Rattle.std.proofs.lemmas.List.{length-map}
+use Rattle.cx_seat.specs.Prelude.{is_so, Give}
+use Rattle.cx_node.proofs.Common.{slice_get, arith, ap, ◌∙◌, length-map, scene_of, changing, hosted_in, hosted_of, NodeState, course_at}
+use Rattle.cx_node.proofs.Common.{does_at, is_meant}
 use Rattle.cx_letter.specs.declared.input.Input.TheVariants as input
-use Rattle.cx_node.specs.Acts.{scene_of}
-use Rattle.cx_seat.specs.Changing.{changing}
-use Rattle.cx_seat.specs.Guest.{hosted_in, hosted_of}
-use Rattle.cx_node.specs.Node.{NodeState, course_at}
-use Rattle.cx_course.specs.Course.{does_at}
-use Rattle.cx_course.specs.Tending.{is_so}
-use Rattle.cx_node.specs.Tends.{is_meant}
-use Rattle.cx_course.specs.declared.doing.Doing.TheVariants.{Give}
 use Rattle.cx_node.proofs.TendedActs.{due, not_due, so_at, so_within}
 use Rattle.cx_node.proofs.node.Node.tick_at.Goals as goal
 

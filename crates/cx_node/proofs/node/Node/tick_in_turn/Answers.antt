@@ -1,14 +1,7 @@
-use Rattle.std.proofs.Common.{◌≡◌, ◌+◌, [], drop, get_or, Ok, Err, refl, ap, ◌∙◌, subst}
 use Rattle.std.proofs.lemmas.List.{drop_all, drop_more}
-use Rattle.std.proofs.lemmas.Result.{err_from_is_err_and}
-use Rattle.cx_base.specs.declared.cluster.Cluster.{Cluster}
-use Rattle.cx_node.specs.Node.{course_at}
-use Rattle.cx_node.specs.Acts.{Acts, failed, scene_of}
-use Rattle.cx_seat.specs.Changing.{changing}
-use Rattle.cx_seat.specs.Guest.{AreReady}
+use Rattle.cx_node.proofs.Common.{◌≡◌, ◌+◌, [], drop, get_or, Ok, Err, refl, ap, ◌∙◌, subst, err_from_is_err_and, Cluster, course_at, Acts}
+use Rattle.cx_node.proofs.Common.{failed, scene_of, changing, AreReady, is_meant, blames_then, no_blame}
 use Rattle.cx_course.specs.Tending.{ticks_if}
-use Rattle.cx_node.specs.Tends.{is_meant}
-use Rattle.cx_node.proofs.Actions.{blames_then, no_blame}
 use Rattle.cx_node.proofs.TendedActs.{all_asked, none_asked, one_asked, one_stopped}
 use Rattle.cx_node.proofs.node.Node.tick_in_turn.Goals as goal
 

@@ -1,8 +1,4 @@
-use Rattle.std.proofs.Common.{◌≡◌, drop, Ok}
-use Rattle.cx_node.specs.Acts.{Blames, failed, scene_of}
-use Rattle.cx_seat.specs.Changing.{changing}
-use Rattle.cx_seat.specs.Guest.{AreReady}
-use Rattle.cx_node.specs.Tends.{is_meant}
+use Rattle.cx_node.proofs.Common.{◌≡◌, drop, Ok, Blames, failed, scene_of, changing, AreReady, is_meant}
 use Rattle.cx_node.proofs.TendedActs.{Asked}
 use Rattle.cx_node.proofs.node.Node.tick_in_turn.Given as goal
 

@@ -1,16 +1,8 @@
-use Rattle.std.proofs.Common.{◌≡◌, ◌-◌, ◌+◌, ◌<◌, [], Ok, Err, length, arith, rules, refl, ap, ◌∙◌, subst}
-use Rattle.std.proofs.lemmas.List.{length-map}
-use Rattle.std.proofs.lemmas.Result.{err_from_is_err_and}
-use Rattle.cx_base.specs.Lists.{below, numbers}
-use Rattle.cx_base.specs.declared.cluster.Cluster.{Cluster}
+use Rattle.cx_node.proofs.Common.{◌≡◌, ◌-◌, ◌+◌, ◌<◌, [], Ok, Err, length, arith, rules, refl, ap, ◌∙◌, subst, length-map}
+use Rattle.cx_node.proofs.Common.{err_from_is_err_and, below, numbers, Cluster, course_at, Acts, failed, scene_of, changing, AreReady}
+use Rattle.cx_node.proofs.Common.{hosted_in, hosted_of, is_meant, blames_then, no_blame}
 use Rattle.cx_grid.proofs.Crossing.{numbers_more}
-use Rattle.cx_node.specs.Node.{course_at}
-use Rattle.cx_node.specs.Acts.{Acts, failed, scene_of}
-use Rattle.cx_seat.specs.Changing.{changing}
-use Rattle.cx_seat.specs.Guest.{AreReady, hosted_in, hosted_of}
 use Rattle.cx_course.specs.Tending.{ticks_if}
-use Rattle.cx_node.specs.Tends.{is_meant}
-use Rattle.cx_node.proofs.Actions.{blames_then, no_blame}
 use Rattle.cx_node.proofs.TendedActs.{all_asked, none_asked, one_asked, one_stopped}
 use Rattle.cx_node.proofs.node.Node.tick_those.Goals as goal
 

@@ -1,9 +1,4 @@
-use Rattle.std.proofs.Common.{◌≡◌, ◌-◌, length, Ok}
-use Rattle.cx_base.specs.Lists.{below, numbers}
-use Rattle.cx_node.specs.Acts.{Blames, failed, scene_of}
-use Rattle.cx_seat.specs.Changing.{changing}
-use Rattle.cx_seat.specs.Guest.{AreReady, hosted_in}
-use Rattle.cx_node.specs.Tends.{is_meant}
+use Rattle.cx_node.proofs.Common.{◌≡◌, ◌-◌, length, Ok, below, numbers, Blames, failed, scene_of, changing, AreReady, hosted_in, is_meant}
 use Rattle.cx_node.proofs.TendedActs.{Asked}
 use Rattle.cx_node.proofs.node.Node.tick_those.Given as goal
 

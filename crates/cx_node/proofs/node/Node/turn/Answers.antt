@@ -1,5 +1,4 @@
-use Rattle.cx_seat.specs.Changing.{changing}
-use Rattle.cx_node.specs.Acts.{scene_of}
+use Rattle.cx_node.proofs.Common.{changing, scene_of}
 use Rattle.cx_node.proofs.Turned.{once_untended}
 use Rattle.cx_node.proofs.node.Node.turn.Goals as goal
 

@@ -1,9 +1,5 @@
-use Rattle.std.proofs.Common.{◌≡◌, [], Ok, Err, ap, ◌∙◌, subst}
-use Rattle.std.proofs.lemmas.Result.{err_from_is_err_and}
-use Rattle.cx_base.specs.declared.cluster.Cluster.{Cluster}
-use Rattle.cx_node.specs.Node.{course_at}
-use Rattle.cx_node.specs.Acts.{Acts, ActsOnce, scene_of}
-use Rattle.cx_seat.specs.Changing.{changing}
+use Rattle.cx_node.proofs.Common.{◌≡◌, [], Ok, Err, ap, ◌∙◌, subst, err_from_is_err_and, Cluster, course_at, Acts, scene_of, changing}
+use Rattle.cx_node.specs.Acts.{ActsOnce}
 use Rattle.cx_course.specs.Run.{comes, ticked}
 use Rattle.cx_node.proofs.Parts.{turn_prepare, turn_take, turn_tick}
 use Rattle.cx_node.proofs.node.Node.untended_turn.Goals as goal

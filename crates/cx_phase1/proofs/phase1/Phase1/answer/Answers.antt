@@ -1,8 +1,7 @@
-use Rattle.std.proofs.Common.{◌≡◌, ◌<◌, ◌++◌, ◌∷◌, [], true, false, refl, arith, sym, ap, ◌∙◌}
-use Rattle.cx_grid.specs.Quorum.{with_mark}
+use Rattle.std.proofs.Common.{arith, sym, ap, ◌∙◌}
+use Rattle.cx_model.specs.Prelude.{◌≡◌, ◌<◌, ◌++◌, ◌∷◌, [], true, false, refl, with_mark, is_member_of, rows_whole, has_promised}
+use Rattle.cx_model.specs.Prelude.{promised_by}
 use Rattle.cx_model.specs.declared.states.Promised.{Promised}
-use Rattle.cx_model.specs.Matched.{is_member_of, rows_whole}
-use Rattle.cx_model.specs.Plan.{has_promised, promised_by}
 use Rattle.cx_phase1.specs.Sound.{IsPromiseInRange}
 use Rattle.cx_phase1.proofs.CountLaws.{member_below_64, marked_more, rows-marked, promise_told, sound_more}
 use Rattle.cx_phase1.proofs.phase1.Phase1.answer.Goals as goal

@@ -1,5 +1,4 @@
-use Rattle.std.proofs.Common.{◌≡◌, ◌∙◌, Some, None, length, sym}
-use Rattle.std.specs.List.{slice_get}
+use Rattle.cx_base.proofs.Common.{◌≡◌, ◌∙◌, Some, None, length, sym, slice_get}
 use Rattle.cx_pieces.proofs.Cuts.{cut_nowhere, cut_there, lies}
 use Rattle.cx_pieces.proofs.chunk.Chunk.shared.Goals as goal
 

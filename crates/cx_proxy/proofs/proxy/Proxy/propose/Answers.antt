@@ -1,5 +1,4 @@
-use Rattle.cx_role.proofs.Common.{◌≡◌, map, refl, subst, sym, true, rules, Pending}
-use Rattle.cx_model.specs.Proxy.{phase2a_to, column_for}
+use Rattle.cx_role.proofs.Common.{◌≡◌, map, refl, subst, sym, true, rules, Pending, phase2a_to, column_for}
 use Rattle.cx_ring.specs.Ring.{raise_ring}
 use Rattle.cx_proxy.specs.Holds.{HasPendingRing}
 use Rattle.cx_proxy.specs.Slots.{ring_with, slot_of}

@@ -1,5 +1,4 @@
-use Rattle.cx_role.proofs.Common.{role, Reader, is_member_of, live_entries}
-use Rattle.cx_role.proofs.Sends.{IsSendingTo}
+use Rattle.cx_role.proofs.Common.{role, Reader, is_member_of, live_entries, IsSendingTo}
 use Rattle.cx_model.specs.Reader.{pre_read_to}
 use Rattle.cx_reader.proofs.batch.Batch.ask_acceptors.Given as goal
 

@@ -1,5 +1,4 @@
-use Rattle.cx_role.proofs.Common.{◌∙◌, live_entries}
-use Rattle.cx_model.specs.Reader.{acked_by}
+use Rattle.cx_role.proofs.Common.{◌∙◌, live_entries, acked_by}
 use Rattle.cx_reader.proofs.Counted.{acked_are, rows_alike}
 use Rattle.cx_reader.proofs.batch.Batch.rows_whole.Goals as goal
 

@@ -1,8 +1,7 @@
-use Rattle.cx_role.proofs.Common.{rules, ◌≡◌, ◌++◌, ◌∷◌, [], ◌&&◌, not, true, false, List, Option, Some, refl, Cluster, RoleId, Round}
-use Rattle.cx_role.proofs.Common.{Entry, is_in}
-use Rattle.cx_field.specs.declared.parts.Asking.{Asking}
-use Rattle.cx_model.specs.Matched.{is_counted}
-use Rattle.cx_model.specs.Reader.{Batch, ReaderDurable, ReaderVolatile, is_matched, is_of_batch, match_ack_counted, match_ack_row}
+use Rattle.std.proofs.Common.{rules}
+use Rattle.cx_model.specs.Prelude.{◌≡◌, ◌++◌, ◌∷◌, [], ◌&&◌, not, true, false, List, Option, Some, refl, Cluster, RoleId, Round, Entry}
+use Rattle.cx_model.specs.Prelude.{is_in, Asking, is_counted, Batch, ReaderDurable, ReaderVolatile, is_matched, is_of_batch}
+use Rattle.cx_model.specs.Prelude.{match_ack_counted, match_ack_row}
 use Rattle.cx_reader.proofs.Memory.{match_ack_takes}
 use Rattle.cx_reader.proofs.reader.Reader.match_answer.Goals as goal
 

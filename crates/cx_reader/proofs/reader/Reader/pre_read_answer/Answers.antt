@@ -1,8 +1,7 @@
-use Rattle.cx_role.proofs.Common.{rules, ◌≡◌, ◌++◌, ◌∷◌, [], ◌&&◌, true, false, Option, Some, ℕ, refl, Cluster, RoleId, Round}
-use Rattle.cx_role.proofs.Common.{same_round, greatest_watermark, is_member_of, live_entries}
-use Rattle.cx_field.specs.declared.parts.Asking.{Asking}
-use Rattle.cx_model.specs.Reader.{Batch, ReaderDurable, ReaderVolatile, has_acked, is_matched, is_of_batch, pre_read_ack_row}
-use Rattle.cx_model.specs.Reader.{pre_read_counted}
+use Rattle.std.proofs.Common.{rules}
+use Rattle.cx_model.specs.Prelude.{◌≡◌, ◌++◌, ◌∷◌, [], ◌&&◌, true, false, Option, Some, ℕ, refl, Cluster, RoleId, Round, same_round}
+use Rattle.cx_model.specs.Prelude.{greatest_watermark, is_member_of, live_entries, Asking, Batch, ReaderDurable, ReaderVolatile, has_acked}
+use Rattle.cx_model.specs.Prelude.{is_matched, is_of_batch, pre_read_ack_row, pre_read_counted}
 use Rattle.cx_reader.proofs.Memory.{pre_read_takes}
 use Rattle.cx_reader.proofs.reader.Reader.pre_read_answer.Goals as goal
 

@@ -1,6 +1,4 @@
-use Rattle.cx_role.proofs.Common.{◌≡◌, true, [], None, drop, folded_from, refused_from}
-use Rattle.cx_model.specs.Matched.{first_set}
-use Rattle.cx_model.specs.Reader.{reader_rules}
+use Rattle.cx_model.specs.Prelude.{◌≡◌, true, [], None, drop, folded_from, refused_from, first_set, reader_rules}
 use Rattle.cx_reader.proofs.reader.ReaderRole.reopen.Given as goal
 
 abbrev pub invariant-loop-index : goal.invariant-loop-index

@@ -1,5 +1,4 @@
-use Rattle.cx_role.proofs.Common.{◌≡◌, ◌≤◌, ◌&&◌, true, rules, subst, same_role, names, Running}
-use Rattle.cx_model.specs.Reader.{ReaderDurable, ReaderVolatile, last_turn}
+use Rattle.cx_role.proofs.Common.{◌≡◌, ◌≤◌, ◌&&◌, true, rules, subst, same_role, names, Running, ReaderDurable, ReaderVolatile, last_turn}
 use Rattle.cx_reader.proofs.FitLaws.{take_fit}
 use Rattle.cx_reader.proofs.reader.ReaderRole.take.Goals as goal
 

@@ -1,6 +1,4 @@
-use Rattle.std.proofs.Common.{◌≡◌, true}
-use Rattle.cx_base.specs.declared.command.Answered.{Answered}
-use Rattle.cx_field.specs.Fields.{answered}
+use Rattle.cx_role.specs.Prelude.{◌≡◌, true, Answered, answered}
 use Rattle.cx_replica.proofs.Executing.{answer_fits, answer_to, noted_fit, one_more_fits}
 use Rattle.cx_replica.proofs.machine.Machine.act.Goals as goal
 use Rattle.cx_replica.proofs.machine.Machine.act.Goals.{After-push_reserved}

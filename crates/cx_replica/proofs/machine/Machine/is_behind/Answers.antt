@@ -1,7 +1,5 @@
-use Rattle.std.proofs.Common.{◌≡◌, ◌++◌, ◌∷◌, [], ◌+◌, ◌-◌, ◌∙◌, true, false, sym, subst, arith, ap}
-use Rattle.std.specs.Prelude.{is_some, nat_le}
-use Rattle.std.proofs.lemmas.Bool.Decides.{nat_tests}
-use Rattle.cx_base.specs.Noted.{are_rising, floor_of}
+use Rattle.cx_role.proofs.Common.{◌≡◌, ◌++◌, ◌∷◌, [], ◌+◌, ◌-◌, ◌∙◌, true, false, sym, subst, arith, ap, is_some, nat_le, nat_tests}
+use Rattle.cx_role.proofs.Common.{are_rising, floor_of}
 use Rattle.cx_replica.specs.Room.{MachineState}
 use Rattle.cx_replica.proofs.Rises.{are_floors_below, last_rises, one_less, some_above, still_below}
 use Rattle.cx_replica.proofs.machine.Machine.is_behind.Goals as goal

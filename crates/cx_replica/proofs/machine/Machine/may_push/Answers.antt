@@ -1,5 +1,4 @@
-use Rattle.std.proofs.Common.{◌≡◌, ◌++◌, ◌-◌, ◌∙◌, subst, arith}
-use Rattle.cx_base.specs.Lists.{rises}
+use Rattle.cx_base.proofs.Common.{◌≡◌, ◌++◌, ◌-◌, ◌∙◌, subst, arith, rises}
 use Rattle.cx_kv.specs.Rising.{has_lower_key}
 use Rattle.cx_replica.specs.Room.{MachineState}
 use Rattle.cx_replica.proofs.Rises.{keys_last}

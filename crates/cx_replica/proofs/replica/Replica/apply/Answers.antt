@@ -1,8 +1,5 @@
-use Rattle.std.proofs.Common.{◌≡◌, ◌+◌, ◌≤◌, ◌^◌, true, rules, sym, subst, length, List, ◌++◌, refl, ◌∙◌}
-use Rattle.cx_base.specs.declared.command.Value.{Value}
-use Rattle.cx_base.specs.Log.{ready_values}
-use Rattle.cx_model.specs.Replica.{ReplicaDurable, ReplicaVolatile, machine_from, replica_rules, still_deferred}
-use Rattle.cx_model.specs.Rules.{Running, running_after}
+use Rattle.cx_role.proofs.Common.{◌≡◌, ◌+◌, ◌≤◌, ◌^◌, true, rules, sym, subst, length, List, ◌++◌, refl, ◌∙◌, Value, ready_values}
+use Rattle.cx_role.proofs.Common.{ReplicaDurable, ReplicaVolatile, machine_from, replica_rules, still_deferred, Running, running_after}
 use Rattle.cx_role.proofs.Step.{done}
 use Rattle.cx_replica.specs.Rows.{applied_in, replica_view}
 use Rattle.cx_replica.specs.Sound.{are_own, are_own_early, are_reads}

@@ -1,6 +1,5 @@
-use Rattle.std.proofs.Common.{◌≡◌, true, sym, ◌∙◌}
-use Rattle.cx_model.specs.Replica.{is_renewal_whole, replica_rules}
-use Rattle.cx_role.specs.Role.{MayKeep}
+use Rattle.cx_role.proofs.Common.{◌≡◌, true, sym, ◌∙◌, replica_rules, MayKeep}
+use Rattle.cx_model.specs.Replica.{is_renewal_whole}
 use Rattle.cx_replica.specs.Rows.{chosen_row_in}
 use Rattle.cx_replica.proofs.Executing.{slot_below}
 use Rattle.cx_replica.proofs.Rows.{chosen_fits, next_below, wants_nothing}

@@ -1,10 +1,8 @@
-use Rattle.std.proofs.Common.{◌≡◌, ℕ, ◌≤◌, Some, refl, ap, subst, ◌∙◌}
-use Rattle.cx_model.specs.Replica.{ReplicaDurable, ReplicaVolatile, replica_renewed, replica_rules}
-use Rattle.cx_model.specs.Rules.{Running}
+use Rattle.cx_role.proofs.Common.{◌≡◌, ℕ, ◌≤◌, Some, refl, ap, subst, ◌∙◌, ReplicaDurable, ReplicaVolatile, replica_renewed, replica_rules}
+use Rattle.cx_role.proofs.Common.{Running, snapped_by}
 use Rattle.cx_replica.specs.Rows.{replica_view}
 use Rattle.cx_replica.proofs.Renewable.{sound_renewed, state_renewed}
 use Rattle.cx_replica.proofs.replica.Replica.forget_below.Goals as goal
-use Rattle.cx_role.specs.Snap.{snapped_by}
 use Rattle.cx_rlog.specs.State.{LogState, held}
 
 pub invariant_of-self-2 : goal.invariant_of-self-2

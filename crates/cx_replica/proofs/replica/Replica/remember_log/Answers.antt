@@ -1,5 +1,4 @@
-use Rattle.std.proofs.Common.{◌≡◌, ap, refl, ◌++◌}
-use Rattle.cx_model.specs.Replica.{machine_from}
+use Rattle.cx_role.proofs.Common.{◌≡◌, ap, refl, ◌++◌, machine_from}
 use Rattle.cx_rlog.specs.State.{LogState, held}
 use Rattle.cx_replica.specs.Rows.{replica_durable}
 use Rattle.cx_replica.proofs.Rows.{logged_own, logged_parts, sound_more, none_own}

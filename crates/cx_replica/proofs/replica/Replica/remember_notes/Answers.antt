@@ -1,5 +1,4 @@
-use Rattle.std.proofs.Common.{subst, sym}
-use Rattle.cx_model.specs.Replica.{Machine}
+use Rattle.cx_role.proofs.Common.{subst, sym, Machine}
 use Rattle.cx_replica.specs.Rows.{replica_durable}
 use Rattle.cx_replica.specs.Sound.{IsTableOfCluster}
 use Rattle.cx_replica.proofs.Noted.{client_noted}

@@ -1,8 +1,5 @@
-use Rattle.std.proofs.Common.{◌≡◌, ◌-◌, ◌≤◌, ◌<◌, ◌^◌, [], length, arith, refl, subst, sym, true}
-use Rattle.cx_base.specs.declared.command.Value.{Value}
-use Rattle.cx_field.specs.Fields.{value}
-use Rattle.cx_model.specs.Replica.{ReplicaDurable, ReplicaVolatile}
-use Rattle.cx_model.specs.Rules.{Running}
+use Rattle.cx_role.proofs.Common.{◌≡◌, ◌-◌, ◌≤◌, ◌<◌, ◌^◌, [], length, arith, refl, subst, sym, true, Value, value, ReplicaDurable}
+use Rattle.cx_role.proofs.Common.{ReplicaVolatile, Running}
 use Rattle.cx_letter.specs.declared.kept.Record.TheVariants as kept
 use Rattle.cx_replica.specs.Sound.{are_values}
 use Rattle.cx_replica.proofs.Rows.{own_fits}

@@ -1,7 +1,5 @@
-use Rattle.std.proofs.Common.{◌≡◌, ◌≤◌, ℕ, None, rules, subst}
-use Rattle.std.proofs.lemmas.Option.{same_Some}
-use Rattle.cx_model.specs.Replica.{ReplicaDurable, ReplicaVolatile, replica_renewed, replica_rules}
-use Rattle.cx_model.specs.Rules.{Running, refused}
+use Rattle.cx_role.proofs.Common.{◌≡◌, ◌≤◌, ℕ, None, rules, subst, same_Some, ReplicaDurable, ReplicaVolatile, replica_renewed}
+use Rattle.cx_role.proofs.Common.{replica_rules, Running, refused}
 use Rattle.cx_replica.proofs.Renewable.{renewed_opens}
 use Rattle.cx_replica.proofs.replica.Replica.snap_slot.Goals as goal
 use Rattle.cx_rlog.specs.State.{held}

@@ -1,6 +1,4 @@
-use Rattle.std.proofs.Common.{◌≡◌, false, [], drop}
-use Rattle.cx_model.specs.Replica.{replica_rules}
-use Rattle.cx_model.specs.Rules.{folded_from, refused_from}
+use Rattle.cx_model.specs.Prelude.{◌≡◌, false, [], drop, replica_rules, folded_from, refused_from}
 use Rattle.cx_replica.proofs.replica.ReplicaRole.reopen.Given as goal
 
 abbrev pub invariant-loop-index : goal.invariant-loop-index

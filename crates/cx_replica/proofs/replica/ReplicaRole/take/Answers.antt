@@ -1,6 +1,4 @@
-use Rattle.std.proofs.Common.{◌≡◌, ◌&&◌, true, rules}
-use Rattle.cx_base.specs.Role.{same_role}
-use Rattle.cx_model.specs.Names.{names}
+use Rattle.cx_role.proofs.Common.{◌≡◌, ◌&&◌, true, rules, same_role, names}
 use Rattle.cx_replica.proofs.replica.ReplicaRole.take.Goals as goal
 
 pub returns-in_default : goal.returns-in_default

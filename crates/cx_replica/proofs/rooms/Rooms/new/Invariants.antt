@@ -1,5 +1,4 @@
-use Rattle.std.proofs.Common.{◌≡◌, vec_len}
-use Rattle.std.specs.List.{All}
+use Rattle.cx_base.proofs.Common.{◌≡◌, vec_len, All}
 use Rattle.cx_replica.specs.Room.{IsVacant}
 use Rattle.cx_replica.proofs.rooms.Rooms.new.Given as goal
 

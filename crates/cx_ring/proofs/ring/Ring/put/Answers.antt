@@ -1,5 +1,4 @@
-use Rattle.std.proofs.Common.{◌≡◌, ◌%◌, ◌∙◌, ◌<◌, None, length, get_or, sym, ap, arith, vec_len}
-use Rattle.std.proofs.lemmas.Nat.{mod_below}
+use Rattle.cx_base.proofs.Common.{◌≡◌, ◌%◌, ◌∙◌, ◌<◌, None, length, get_or, sym, ap, arith, vec_len, mod_below}
 use Rattle.cx_ring.specs.Ring.{IsNear, value_at}
 use Rattle.cx_ring.proofs.Window.{get_or-within}
 use Rattle.cx_ring.proofs.Steps.{with_one, room_is}

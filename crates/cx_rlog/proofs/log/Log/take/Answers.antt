@@ -1,5 +1,4 @@
-use Rattle.std.proofs.Common.{◌+◌, sym, ◌∙◌, subst, arith, vec_len}
-use Rattle.cx_base.specs.Log.{value_for}
+use Rattle.cx_base.proofs.Common.{◌+◌, sym, ◌∙◌, subst, arith, vec_len, value_for}
 use Rattle.cx_rlog.specs.State.{AreEarly}
 use Rattle.cx_rlog.proofs.Waiting.{AreEarly-waiting}
 use Rattle.cx_rlog.proofs.log.Log.take.Goals as goal

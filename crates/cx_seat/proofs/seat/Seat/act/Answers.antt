@@ -1,10 +1,8 @@
-use Rattle.std.proofs.Common.{Option, ap, sym, ◌∙◌, rules, subst}
-use Rattle.std.specs.Prelude.{slice_get}
+use Rattle.cx_base.proofs.Common.{Option, ap, sym, ◌∙◌, rules, subst, slice_get}
+use Rattle.cx_seat.specs.Prelude.{changes_of, changing, HasChangeFailedIn, hosted_of, keeper_of, who, Step, does}
 use Rattle.cx_seat.specs.declared.guest.Guest.{Guest}
-use Rattle.cx_course.specs.Changing.{changes_of}
-use Rattle.cx_seat.specs.Changing.{changing}
-use Rattle.cx_seat.specs.Guest.{HasChangeFailedIn, KeeperFails, hosted_of, keeper_of, who}
-use Rattle.cx_course.specs.Hosted.{Step, does, given}
+use Rattle.cx_seat.specs.Guest.{KeeperFails}
+use Rattle.cx_course.specs.Hosted.{given}
 use Rattle.cx_seat.proofs.Acted.{given_is, sends_are, text_is}
 use Rattle.cx_seat.proofs.Named.{is_shown, keeper_named, named_itself, own_name}
 use Rattle.cx_seat.proofs.seat.Seat.act.Goals as goal

@@ -1,6 +1,5 @@
-use Rattle.std.proofs.Common.{◌≡◌, ◌∙◌, false, sym, subst, ap}
 use Rattle.std.specs.Prelude.{IsSome}
-use Rattle.cx_base.specs.Noted.{floor_of}
+use Rattle.cx_base.proofs.Common.{◌≡◌, ◌∙◌, false, sym, subst, ap, floor_of}
 use Rattle.cx_table.specs.Judged.{is_new, judge_of}
 use Rattle.cx_table.specs.State.{TableState}
 use Rattle.cx_table.specs.declared.judge.Judge.TheVariants as judge

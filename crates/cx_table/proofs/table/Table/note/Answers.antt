@@ -1,8 +1,5 @@
-use Rattle.std.proofs.Common.{◌≡◌, ◌∙◌, arith, refl, sym, subst}
-use Rattle.std.specs.Prelude.{nat_eq, Some}
-use Rattle.std.specs.Map.{lookup}
 use Rattle.indexmap.specs.IndexMap.{set_value_at}
-use Rattle.cx_base.specs.Noted.{Table}
+use Rattle.cx_base.proofs.Common.{◌≡◌, ◌∙◌, arith, refl, sym, subst, nat_eq, Some, lookup, Table}
 use Rattle.cx_table.specs.Entries.{AreClientEntries, rooms_in}
 use Rattle.cx_table.specs.Judged.{judge_of}
 use Rattle.cx_table.specs.State.{TableState, TakesRoom}

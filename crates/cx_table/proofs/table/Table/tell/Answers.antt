@@ -1,8 +1,5 @@
-use Rattle.std.proofs.Common.{◌≡◌, arith, subst}
-use Rattle.std.specs.Prelude.{nat_eq, Some}
-use Rattle.std.specs.Map.{lookup}
 use Rattle.indexmap.specs.IndexMap.{set_value_at}
-use Rattle.cx_base.specs.Noted.{Table}
+use Rattle.cx_base.proofs.Common.{◌≡◌, arith, subst, nat_eq, Some, lookup, Table}
 use Rattle.cx_table.specs.Entries.{rooms_in}
 use Rattle.cx_table.specs.State.{KeepsRoom, TableState}
 use Rattle.cx_table.proofs.Held.{write_changed, write_found, write_kept}

@@ -1,7 +1,5 @@
-use Rattle.std.proofs.Common.{◌≡◌, true, Err, None, ap, refl, rules}
-use Rattle.std.specs.Prelude.{if◌then◌else◌}
-use Rattle.cx_model.specs.Replica.{ReplicaDurable, ReplicaVolatile, replica_rules}
-use Rattle.cx_model.specs.Rules.{Running}
+use Rattle.cx_role.proofs.Common.{◌≡◌, true, Err, None, ap, refl, rules, if◌then◌else◌, ReplicaDurable, ReplicaVolatile, replica_rules}
+use Rattle.cx_role.proofs.Common.{Running}
 use Rattle.cx_world.specs.LastKeeper.{LastState, list_kept}
 use Rattle.cx_world.proofs.Standing.{here, knows, seen}
 use Rattle.cx_world.proofs.Snapping.{SaysFirst, refused_snap, snap_failed, snap_fell, snap_of, snap_turned, snapped}

@@ -1,5 +1,4 @@
-use Rattle.std.proofs.Common.{Err, None, ap, rules}
-use Rattle.std.specs.Prelude.{if◌then◌else◌}
+use Rattle.cx_base.proofs.Common.{Err, None, ap, rules, if◌then◌else◌}
 use Rattle.cx_world.specs.LastKeeper.{LastState, list_kept}
 use Rattle.cx_world.proofs.Standing.{failed_turned, fell, here, knows, seen, stepped}
 use Rattle.cx_world.proofs.seat.Seat.give.Goals as goal

@@ -1,7 +1,4 @@
-use Rattle.std.proofs.Common.{List, ap, subst, ◌∙◌}
-use Rattle.std.specs.Prelude.{IfOk}
-use Rattle.cx_base.specs.declared.command.Value.{Value}
-use Rattle.cx_model.specs.World.{World}
+use Rattle.cx_role.proofs.Common.{List, ap, subst, ◌∙◌, IfOk, Value, World}
 use Rattle.cx_promises.specs.Lawful.{IsCommandList}
 use Rattle.cx_world.specs.World.{WorldState, seat_roles, lists_of}
 use Rattle.cx_world.proofs.Answered.{ok_then}

@@ -1,6 +1,4 @@
-use Rattle.std.proofs.Common.{◌≡◌, List, ap, subst, true, ◌∙◌}
-use Rattle.cx_base.specs.declared.event.Happened.{Happened}
-use Rattle.cx_model.specs.World.{event_list}
+use Rattle.cx_role.proofs.Common.{◌≡◌, List, ap, subst, true, ◌∙◌, Happened, event_list}
 use Rattle.cx_promises.proofs.Lawful.{lawful}
 use Rattle.cx_world.specs.World.{WorldState, are_taken}
 use Rattle.cx_world.proofs.world.World.law.Goals as goal

@@ -1,5 +1,4 @@
-use Rattle.std.proofs.Common.{[], refl, ap, subst}
-use Rattle.cx_model.specs.World.{start}
+use Rattle.cx_inv_run.proofs.Common.{[], refl, ap, subst, start}
 use Rattle.cx_role.specs.Outbox.{Outgoing}
 use Rattle.cx_world.specs.World.{HasSeats, lists_of}
 use Rattle.cx_world.proofs.Seats.{states_are}

@@ -1,5 +1,4 @@
-use Rattle.std.proofs.Common.{◌≡◌, false, List, ap, length, refl, subst, take, take_all, arith, ◌∙◌}
-use Rattle.cx_model.specs.World.{World, event_list, step}
+use Rattle.cx_role.proofs.Common.{◌≡◌, false, List, ap, length, refl, subst, take, take_all, arith, ◌∙◌, World, event_list, step}
 use Rattle.cx_promises.proofs.Lawful.{lawful}
 use Rattle.cx_world.specs.World.{BeginWith, WorldState, seat_roles, lists_of, world_of}
 use Rattle.cx_world.proofs.Answered.{on_err}
