@@ -116,4 +116,4 @@ forgotten_is_kept c es p within =
     omega (arith, stores.forgotten p within, same, log)
 
 pub safe_snapshots : SafeSnapshots
-safe_snapshots = record { nothing_is_lost = λ c es p within. tied_in c es p; forgotten_is_kept = forgotten_is_kept }
+safe_snapshots = record { nothing_is_lost = tied_in; forgotten_is_kept = forgotten_is_kept }
