@@ -61,6 +61,14 @@ lead_first own seen i l is = go (max own.r seen.r == 4294967295) is
     go true q = cc
     go false q = subst (λ (x : Round). is_changed x ≡ false) (same_Some _ i q) (grind (arith, nat_tests))
 
+-- the round that follows another one
+pub next_round : (i j : Round) → change_after j ≡ Some i → i ≡ record j { s = j.s + 1 }
+next_round i j = go (j.s == 4294967295)
+  where
+    go : (b : Bool) → (if b then None else Some (record j { s = j.s + 1 })) ≡ Some i → i ≡ record j { s = j.s + 1 }
+    go true q = cc
+    go false q = sym (same_Some _ i q)
+
 abbrev is_bypassed : Why → Bool
 is_bypassed why.Bypassed = true
 is_bypassed other = false

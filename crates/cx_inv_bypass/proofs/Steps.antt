@@ -2,13 +2,13 @@
 use Rattle.cx_inv_run.proofs.Common.{◌≡◌, ◌≤◌, ◌<◌, ℕ, ◌+◌, ◌-◌, Bool, true, false, List, [], ◌∷◌, ◌++◌, map, reverse, Option, Some, None}
 use Rattle.cx_inv_run.proofs.Common.{ap, sym, ◌∙◌, subst, refl, inl, inr, arith, slice_get, length, true≢false, same_Some, Cluster, Placed}
 use Rattle.cx_inv_run.proofs.Common.{Value, Cut, Whole, Torn, Kept, Event, Replace, Kind, RoleId, Round, Shape, below, role, change_after}
-use Rattle.cx_inv_run.proofs.Common.{Entry, Token, Letter, letter, Act, Give, Snap, Stop, Wake, Input, Record, Msg, IsProposed, heard_by}
+use Rattle.cx_inv_run.proofs.Common.{Entry, Token, Letter, Act, Give, Snap, Stop, Wake, Input, Record, Msg, IsProposed, heard_by}
 use Rattle.cx_inv_run.proofs.Common.{finish_with, finish_by, LeaderDurable, LeaderVolatile, leader_rules, leader_row, round_of, bypass}
 use Rattle.cx_inv_run.proofs.Common.{leads_to, propose_to, Member, names_role, Outcome, either_way, OfEveryRun, is_stale, request, Turn}
 use Rattle.cx_inv_run.proofs.Common.{turn, turn_with, whole_turn, still, World, change, changed, come, ask, nothing, act_at, act_of}
 use Rattle.cx_inv_run.proofs.Common.{durable_part, run, State, LeaderIn, leader_volatile, HoldsIn, durable_by_time, state_own, Member-cases}
 use Rattle.cx_inv_run.proofs.Common.{Member-first, Member-map, map-Member, Member-numbers, named, only_leader, run_cluster, is_changed}
-use Rattle.cx_inv_run.proofs.Common.{Matching, ◌==◌, if◌then◌else◌}
+use Rattle.cx_inv_run.proofs.Common.{Matching}
 use Rattle.cx_base.specs.declared.event.Event.TheVariants as event
 use Rattle.cx_base.specs.declared.role.Kind.TheVariants as kind
 use Rattle.cx_base.specs.declared.why.Why.TheVariants as why
@@ -21,7 +21,7 @@ use Rattle.cx_inv_vote.proofs.Steps.{facts_hold}
 use Rattle.cx_inv_bypass.specs.Bypassed.{Bypasses, GoesOn, BypassedRounds, IsOfRound}
 use Rattle.cx_inv_bypass.specs.Full.{IsFull, FullIn, FullState, Full}
 use Rattle.cx_inv_bypass.proofs.Keep.{full_runs}
-use Rattle.cx_inv_bypass.proofs.Rows.{IsBypassing, bypassing, other_word}
+use Rattle.cx_inv_bypass.proofs.Rows.{IsBypassing, bypassing, next_round, other_word}
 
 -- what the datagrams of that row are
 
@@ -84,14 +84,6 @@ record Did (w : World) (ch : Change) (i : Round) : Type 0 where
   covers : (s : ℕ) (v : Value) → IsProposed w.sent before s v → s < end
   proposes : (s : ℕ) → cw ≤ s → s < end → (v : Value) × IsProposed w.sent before s v × IsProposed ch.sends i s v
   only : (j : Round) (s : ℕ) (v : Value) → IsProposed ch.sends j s v → (j ≡ i) × (cw ≤ s) × (s < end) × IsProposed w.sent before s v
-
--- the round that follows another one
-next_round : (i j : Round) → change_after j ≡ Some i → i ≡ record j { s = j.s + 1 }
-next_round i j = go (j.s == 4294967295)
-  where
-    go : (b : Bool) → (if b then None else Some (record j { s = j.s + 1 })) ≡ Some i → i ≡ record j { s = j.s + 1 }
-    go true q = cc
-    go false q = sym (same_Some _ i q)
 
 module _ (c : Cluster) (w : World) (is_c : w.cluster ≡ c) (full : HoldsIn Full w) (facts : HoldsIn (Facts c) w) where
   abbrev last_round : RoleId → Round

@@ -1,7 +1,7 @@
 -- What is promised of one run: that of these events over this cluster. Each sentence is under its name in cx_model's Promises, but for the
 -- announcement, which is cx_inv_announce's, the change of grid, which is cx_inv_bypass's, recovery, which is cx_inv_open's, and progress,
 -- which is cx_inv_alive's.
-use Rattle.std.specs.Prelude.{◌≡◌, ℕ, ◌<◌, true, List, slice_get, Some}
+use Rattle.std.specs.Prelude.{◌≡◌, ℕ, true, List, slice_get, Some}
 use Rattle.cx_model.specs.Prelude.{Cluster, Value, Event, KeptRecord, is_chosen, chosen_prefix, Begins, OfEveryRun, Agreement}
 use Rattle.cx_model.specs.Prelude.{ReadsAreRight, ReadsAreOfTheirReplica, ReadsComeAfterAnswers, ReadsComeAfterReads}
 use Rattle.cx_model.specs.Prelude.{SessionsComeAfterHeard, RoundsAskLater, TurnsAskLater, ReadsAskLater, OneNextSet, SetsAreDecided}
