@@ -55,19 +55,16 @@ module _ (c : Cluster) (me : RoleId) where
   all_kept : (ks : List KeptRecord) (list : List Record) → NoSnap ks
       → list_after_kept matchmaker_rules me list ks ≡ list ++ records_of me ks
   all_kept [] list none = sym (append-nil list)
-  all_kept (k ∷ ks) list none = go (same_role me k.role) refl
+  all_kept (k ∷ ks) list none = go (λ l. all_kept ks l (λ x m. none x (inr m))) (same_role me k.role) refl
     where
-      later : NoSnap ks
-      later x m = none x (inr m)
-
-      go : (b : Bool) → same_role me k.role ≡ b
+      go : ((l : List Record) → list_after_kept matchmaker_rules me l ks ≡ l ++ records_of me ks) → (b : Bool) → same_role me k.role ≡ b
           → (if b then list_after_kept matchmaker_rules me (list_after matchmaker_rules list k.what) ks
           else list_after_kept matchmaker_rules me list ks)
           ≡ list ++ (if b then records_in k.what ++ records_of me ks else records_of me ks)
-      go true e =
+      go rest true e =
           ap (λ l. list_after_kept matchmaker_rules me l ks) (added list k.what (none k (inl refl) e))
-          ∙ all_kept ks (list ++ records_in k.what) later ∙ append_assoc list (records_in k.what) (records_of me ks)
-      go false e = all_kept ks list later
+          ∙ rest (list ++ records_in k.what) ∙ append_assoc list (records_in k.what) (records_of me ks)
+      go rest false e = rest list
 
 -- each change fits those before it
 fits_at : (c : Cluster) (k : KeptRecord) (ks : List KeptRecord) → AllFit c ks → Member k ks
@@ -92,7 +89,7 @@ module _ (c : Cluster) (es : List Event) (m : ℕ) where
 
   first_booted : is_in m (first_set c) ≡ true → is_booted c me matchmaker_rules.empty ≡ true
   first_booted t =
-      let low = below-Member (2 * c.f + 1) m (is_in-Member m (first_set c) t) in
+      let low = below-Member m (2 * c.f + 1) (is_in-Member m (first_set c) t) in
       let test : nat_lt m (2 * c.f + 1) ≡ true = grind (arith, nat_tests) in
       rw test refl
 

@@ -11,9 +11,10 @@ use Rattle.cx_inv_open.proofs.Steps.{roles_reopen}
 use Rattle.cx_inv_list.proofs.Answers.{answers_are_of_a_log, one_list, reads_tell}
 use Rattle.cx_inv_list.proofs.Requests.{requests_are_once}
 use Rattle.cx_inv_list.proofs.Right.{machine_is_the_fold}
-use Rattle.cx_inv_read.proofs.Results.{after_answers, after_heard, after_reads}
+use Rattle.cx_inv_read.proofs.Results.{after_answers, after_reads}
 use Rattle.cx_inv_retire.proofs.Later.{rounds_ask_later, turns_ask_later, reads_ask_later}
 use Rattle.cx_promises.specs.Lawful.{IsLawful, IsCommandList}
+use Rattle.cx_promises.proofs.Heard.{heard_before}
 
 pub lawful : (c : Cluster) (es : List Event) → IsLawful c es
 lawful c es = record {
@@ -33,7 +34,7 @@ lawful c es = record {
   reads_of_their_replica = answers_are_of_a_log.read c es;
   reads_after_answers = after_answers c es;
   reads_after_reads = after_reads c es;
-  sessions_after_heard = after_heard c es;
+  sessions_after_heard = heard_before c es;
   chosen_below = kept_watermarks.chosen_below c es;
   held = kept_watermarks.held c es;
   rounds_ask_later = rounds_ask_later c es;
