@@ -61,6 +61,14 @@ lead_first own seen i l is = go (max own.r seen.r == 4294967295) is
     go true q = cc
     go false q = subst (λ (x : Round). is_changed x ≡ false) (same_Some _ i q) (grind (arith, nat_tests))
 
+-- the round that follows another one
+pub next_round : (i j : Round) → change_after j ≡ Some i → i ≡ record j { s = j.s + 1 }
+next_round i j = go (j.s == 4294967295)
+  where
+    go : (b : Bool) → (if b then None else Some (record j { s = j.s + 1 })) ≡ Some i → i ≡ record j { s = j.s + 1 }
+    go true q = cc
+    go false q = sym (same_Some _ i q)
+
 abbrev is_bypassed : Why → Bool
 is_bypassed why.Bypassed = true
 is_bypassed other = false
@@ -75,12 +83,16 @@ round_after d None = round_of d.own
 round_after d (Some r) = round_of (leader_after d r).own
 
 -- the row that bypasses the first phase, in a round that follows another one in which the leader's window is full
-pub record IsBypassing (c : Cluster) (me : RoleId) (sent : List Letter) (d : LeaderDurable) (o : Outcome LeaderVolatile) : Type 0 where
+pub record IsBypassing (c : Cluster) (me : RoleId) (sent : List Letter) (d : LeaderDurable) (v : LeaderVolatile)
+    (o : Outcome LeaderVolatile) : Type 0 where
   pub own : Entry
   pub has_own : d.own ≡ Some own
   pub before : Round
   pub follows : change_after before ≡ Some own.round
+  pub changed : is_changed own.round ≡ true
+  pub mode : v.mode ≡ Matching
   pub last : LeaderVolatile
+  pub next : last.next ≡ v.next
   pub full : IsFull sent before last.cw last.next last.proposed
   pub row : o ≡ bypass c me own last
 
@@ -89,7 +101,7 @@ module _ (c : Cluster) (me : RoleId) (sent : List Letter) (d : LeaderDurable) (v
   abbrev Good : Outcome LeaderVolatile → Type 0
   Good o =
       FullIn (sent ++ o.sends) (round_after d o.kept) (o.volatile).cw (o.volatile).next (o.volatile).proposed (o.volatile).mode
-      × (o.why ≡ why.Bypassed → IsBypassing c me sent d o)
+      × (o.why ≡ why.Bypassed → IsBypassing c me sent d v o)
 
   -- a row with another word that keeps nothing
   says : (w : Why) (u : LeaderVolatile) (ds : List Letter) → is_bypassed w ≡ false
@@ -143,7 +155,10 @@ module _ (c : Cluster) (me : RoleId) (sent : List Letter) (d : LeaderDurable) (v
           has_own = e;
           before = old.0;
           follows = old.1 ∙ ap (λ (o : Option Entry). Some (round_of o)) e;
+          changed = changed;
+          mode = matching_is v.mode t;
           last = w;
+          next = next;
           full = full;
           row = refl;
         },
@@ -321,5 +336,5 @@ module _ (c : Cluster) (me : RoleId) (sent : List Letter) (d : LeaderDurable) (v
   leader_full i = (row_full i).0
 
   -- the word is true
-  pub bypassing : (i : Input) → (leader_row c me d v i).why ≡ why.Bypassed → IsBypassing c me sent d (leader_row c me d v i)
+  pub bypassing : (i : Input) → (leader_row c me d v i).why ≡ why.Bypassed → IsBypassing c me sent d v (leader_row c me d v i)
   bypassing i = (row_full i).1

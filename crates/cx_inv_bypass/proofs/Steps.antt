@@ -2,12 +2,13 @@
 use Rattle.cx_inv_run.proofs.Common.{◌≡◌, ◌≤◌, ◌<◌, ℕ, ◌+◌, ◌-◌, Bool, true, false, List, [], ◌∷◌, ◌++◌, map, reverse, Option, Some, None}
 use Rattle.cx_inv_run.proofs.Common.{ap, sym, ◌∙◌, subst, refl, inl, inr, arith, slice_get, length, true≢false, same_Some, Cluster, Placed}
 use Rattle.cx_inv_run.proofs.Common.{Value, Cut, Whole, Torn, Kept, Event, Replace, Kind, RoleId, Round, Shape, below, role, change_after}
-use Rattle.cx_inv_run.proofs.Common.{Entry, Token, Letter, letter, Act, Give, Snap, Stop, Wake, Input, Record, Msg, IsProposed, heard_by}
+use Rattle.cx_inv_run.proofs.Common.{Entry, Token, Letter, Act, Give, Snap, Stop, Wake, Input, Record, Msg, IsProposed, heard_by}
 use Rattle.cx_inv_run.proofs.Common.{finish_with, finish_by, LeaderDurable, LeaderVolatile, leader_rules, leader_row, round_of, bypass}
 use Rattle.cx_inv_run.proofs.Common.{leads_to, propose_to, Member, names_role, Outcome, either_way, OfEveryRun, is_stale, request, Turn}
 use Rattle.cx_inv_run.proofs.Common.{turn, turn_with, whole_turn, still, World, change, changed, come, ask, nothing, act_at, act_of}
 use Rattle.cx_inv_run.proofs.Common.{durable_part, run, State, LeaderIn, leader_volatile, HoldsIn, durable_by_time, state_own, Member-cases}
-use Rattle.cx_inv_run.proofs.Common.{Member-first, Member-map, map-Member, Member-numbers, named, only_leader, run_cluster}
+use Rattle.cx_inv_run.proofs.Common.{Member-first, Member-map, map-Member, Member-numbers, named, only_leader, run_cluster, is_changed}
+use Rattle.cx_inv_run.proofs.Common.{Matching}
 use Rattle.cx_base.specs.declared.event.Event.TheVariants as event
 use Rattle.cx_base.specs.declared.role.Kind.TheVariants as kind
 use Rattle.cx_base.specs.declared.why.Why.TheVariants as why
@@ -15,16 +16,14 @@ use Rattle.cx_letter.specs.declared.input.Input.TheVariants as input
 use Rattle.cx_letter.specs.declared.message.Msg.TheVariants as msg
 use Rattle.cx_model.specs.World.{Change}
 use Rattle.cx_inv_run.proofs.Members.{numbers-Member}
-use Rattle.cx_inv_bypass.specs.Bypassed.{Bypasses, GoesOn, BypassedRounds}
+use Rattle.cx_inv_match.specs.Prelude.{Facts, InMode, InState}
+use Rattle.cx_inv_vote.proofs.Steps.{facts_hold}
+use Rattle.cx_inv_bypass.specs.Bypassed.{Bypasses, GoesOn, BypassedRounds, IsOfRound}
 use Rattle.cx_inv_bypass.specs.Full.{IsFull, FullIn, FullState, Full}
 use Rattle.cx_inv_bypass.proofs.Keep.{full_runs}
-use Rattle.cx_inv_bypass.proofs.Rows.{IsBypassing, bypassing, other_word}
+use Rattle.cx_inv_bypass.proofs.Rows.{IsBypassing, bypassing, next_round, other_word}
 
 -- what the datagrams of that row are
-
-abbrev is_question : Msg → Bool
-is_question (msg.Phase1A i) = true
-is_question other = false
 
 abbrev is_proposal : Msg → Bool
 is_proposal (msg.Propose i g s cw v) = true
@@ -38,11 +37,12 @@ module _ (c : Cluster) (me : RoleId) (own : Entry) (cw : ℕ) (ps : List Placed)
   abbrev sends : List Letter
   sends = map (propose_to c me own cw) ps ++ map (leads_to me own.round) (below c.batchers)
 
-  no_question : (from to : RoleId) (k : Round) → Member (letter from to (msg.Phase1A k)) sends → ⊥
-  no_question from to k m = elim (Member-cases _ (map (propose_to c me own cw) ps) (map (leads_to me own.round) (below c.batchers)) m) [
-    | inl p ↦ (let r = Member-map (propose_to c me own cw) _ ps p in absurd (true≢false (ap (λ (d : Letter). is_question d.msg) r.2)))
-    | inr q ↦ (let r = Member-map (leads_to me own.round) _ (below c.batchers) q in
-        absurd (true≢false (ap (λ (d : Letter). is_question d.msg) r.2)))
+  of_round : (d : Letter) → Member d sends → IsOfRound own.round d.msg
+  of_round d m = elim (Member-cases d (map (propose_to c me own cw) ps) (map (leads_to me own.round) (below c.batchers)) m) [
+    | inl p ↦ (let r = Member-map (propose_to c me own cw) d ps p in
+        subst (λ (x : Letter). IsOfRound own.round x.msg) (sym r.2) refl)
+    | inr q ↦ (let r = Member-map (leads_to me own.round) d (below c.batchers) q in
+        subst (λ (x : Letter). IsOfRound own.round x.msg) (sym r.2) refl)
   ]
 
   asks_for : (p : Placed) → Member p ps → IsProposed sends own.round p.slot p.value
@@ -74,17 +74,18 @@ module _ (c : Cluster) (me : RoleId) (own : Entry) (cw : ℕ) (ps : List Placed)
 
 -- what a change does that answers `bypassed`
 record Did (w : World) (ch : Change) (i : Round) : Type 0 where
-  asks_nobody : (from to : RoleId) (k : Round) → Member (letter from to (msg.Phase1A k)) ch.sends → ⊥
+  asks_nobody : (d : Letter) → Member d ch.sends → IsOfRound i d.msg
   before : Round
   follows : change_after before ≡ Some i
   cw : ℕ
   end : ℕ
   finish : finish_by (length w.events + 1) ch.who ch.why ch.roles w.kept
       ≡ record { event = length w.events + 1; round = i; cw = cw; end = end } ∷ []
+  covers : (s : ℕ) (v : Value) → IsProposed w.sent before s v → s < end
   proposes : (s : ℕ) → cw ≤ s → s < end → (v : Value) × IsProposed w.sent before s v × IsProposed ch.sends i s v
   only : (j : Round) (s : ℕ) (v : Value) → IsProposed ch.sends j s v → (j ≡ i) × (cw ≤ s) × (s < end) × IsProposed w.sent before s v
 
-module _ (c : Cluster) (w : World) (is_c : w.cluster ≡ c) (full : HoldsIn Full w) where
+module _ (c : Cluster) (w : World) (is_c : w.cluster ≡ c) (full : HoldsIn Full w) (facts : HoldsIn (Facts c) w) where
   abbrev last_round : RoleId → Round
   last_round a = round_of (durable_part leader_rules a w.kept).own
 
@@ -100,21 +101,35 @@ module _ (c : Cluster) (w : World) (is_c : w.cluster ≡ c) (full : HoldsIn Full
     its_window = subst (λ (x : LeaderDurable). FullIn w.sent (round_of x.own) v.cw v.next v.proposed v.mode)
         (sym (durable_by_time leader_rules me w.kept)) (subst (λ (s : State). FullState (reverse w.kept) w.sent me s) running (full me))
 
+    its_mode : InMode c (reverse w.kept) w.sent d.own v v.mode
+    its_mode = subst (λ (x : LeaderDurable). InMode c (reverse w.kept) w.sent x.own v v.mode) (sym (durable_by_time leader_rules me w.kept))
+        (subst (λ (s : State). InState c (reverse w.kept) w.sent me s) running (facts.running me)).1
+
+    -- all that was proposed in the round before lies below the next slot
+    below_next : (own : Entry) → d.own ≡ Some own → is_changed own.round ≡ true → v.mode ≡ Matching → (j : Round)
+        → change_after j ≡ Some own.round → (s : ℕ) (u : Value) → IsProposed w.sent j s u → s < v.next
+    below_next own e changed mode j follows =
+        let m = subst (λ o. InMode c (reverse w.kept) w.sent o v Matching) e
+        (subst (λ x. InMode c (reverse w.kept) w.sent d.own v x) mode its_mode) in
+        ((m.2 changed).covered j (next_round own.round j follows)).1
+
     abbrev left_by : Outcome LeaderVolatile → Change
     left_by o = changed LeaderIn me w.roles (whole_turn o)
 
     row_did : (own : Entry) (last : LeaderVolatile) (j : Round) → d.own ≡ Some own → change_after j ≡ Some own.round
-        → IsFull w.sent j last.cw last.next last.proposed → Did w (left_by (bypass c me own last)) (round_of d.own)
-    row_did own last j e follows window =
+        → IsFull w.sent j last.cw last.next last.proposed → ((s : ℕ) (u : Value) → IsProposed w.sent j s u → s < last.next)
+        → Did w (left_by (bypass c me own last)) (round_of d.own)
+    row_did own last j e follows window covers =
         let same : own.round ≡ round_of d.own = ap round_of (sym e) in
         record {
-          asks_nobody = no_question c me own last.cw last.proposed;
+          asks_nobody = λ x m. subst (λ (k : Round). IsOfRound k x.msg) same (of_round c me own last.cw last.proposed x m);
           before = j;
           follows = follows ∙ ap (λ (x : Round). Some x) same;
           cw = last.cw;
           end = last.next;
           finish = ap (λ (s : State). finish_with (length w.events + 1) (round_of d.own) s)
               (state_own me (LeaderIn ((bypass c me own last).volatile)) w.roles);
+          covers = covers;
           proposes = λ s low high.
               let there = Member-map (λ (p : Placed). p.slot) s last.proposed
               (subst (λ (ns : List ℕ). Member s ns) (sym window.slots)
@@ -141,8 +156,10 @@ module _ (c : Cluster) (w : World) (is_c : w.cluster ≡ c) (full : HoldsIn Full
 
     whole_did : (i : Input) → (leader_row c me d v i).why ≡ why.Bypassed → Did w (left_by (leader_row c me d v i)) (round_of d.own)
     whole_did i word =
-        let r : IsBypassing c me w.sent d (leader_row c me d v i) = bypassing c me w.sent d v its_window i word in
-        subst (λ o. Did w (left_by o) (round_of d.own)) (sym r.row) (row_did r.own r.last r.before r.has_own r.follows r.full)
+        let r : IsBypassing c me w.sent d v (leader_row c me d v i) = bypassing c me w.sent d v its_window i word in
+        subst (λ o. Did w (left_by o) (round_of d.own)) (sym r.row)
+        (row_did r.own r.last r.before r.has_own r.follows r.full (subst (λ n. (s : ℕ) (u : Value) → IsProposed w.sent r.before s u → s < n)
+        (sym r.next) (below_next r.own r.has_own r.changed r.mode r.before r.follows)))
 
     cut_did : (i : Input) (cut : Cut) (r : Option Record)
         → (turn_with cut r (leader_row c me d v i)).why ≡ why.Bypassed
@@ -241,9 +258,10 @@ module _ (c : Cluster) (w : World) (is_c : w.cluster ≡ c) (full : HoldsIn Full
         cw = r.cw;
         end = r.end;
         finish = r.finish;
+        covers = r.covers;
         proposes = r.proposes;
         only = r.only;
       }
 
 pub bypassed_rounds : OfEveryRun BypassedRounds
-bypassed_rounds c es then later e same i b = goes_on c (run c then) (run_cluster c then) (full_runs c then) e i b
+bypassed_rounds c es then later e same i b = goes_on c (run c then) (run_cluster c then) (full_runs c then) (facts_hold c then) e i b

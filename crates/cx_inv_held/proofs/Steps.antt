@@ -120,7 +120,7 @@ forgotten_is_kept c es p within =
 
 pub safe_snapshots : SafeSnapshots
 safe_snapshots = record {
-  nothing_is_lost = λ c es p within. tied_in c es p;
+  nothing_is_lost = tied_in;
   forgotten_is_kept = forgotten_is_kept;
   renewals_keep_all = renewals_keep_all;
 }

@@ -1,6 +1,6 @@
 -- Going on with another grid: what a leading leader proposed may be proposed in its next round, before anybody is asked; and when enough
 -- matchmakers took that round, it leads.
-use Rattle.cx_inv_run.proofs.Common.{◌≡◌, ℕ, ◌+◌, ◌<◌, ◌≤◌, true, ◌⊎◌, List, [], inl, inr, sym, subst, arith, nat_tests, Cluster, Placed}
+use Rattle.cx_inv_run.proofs.Common.{◌≡◌, ℕ, ◌+◌, ◌<◌, ◌≤◌, true, ◌⊎◌, List, [], inl, inr, ap, sym, subst, arith, nat_tests, Cluster, Placed}
 use Rattle.cx_inv_run.proofs.Common.{Value, Round, Shape, role, is_before, Entry, Letter, KeptRecord, Matching, Leading, not_collecting}
 use Rattle.cx_inv_run.proofs.Common.{IsProposed, LeaderVolatile, Member, HasKept, IsConfig, before_cases}
 use Rattle.cx_inv_match.specs.Prelude.{IsMatched, IsShut, IsSettled, IsLeft, IsSpent, IsSafe, IsMatching, InStage, IsReady, IsLeading}
@@ -18,6 +18,15 @@ before_next i j l = go (before_cases j i)
     go (inl k) = inl k
     go (inr (inl e)) = inr e
     go (inr (inr k)) = absurd (none k l)
+
+-- a round is the next one of one round
+same_parts : (i j : Round) → i.r ≡ j.r → i.id ≡ j.id → i.s ≡ j.s → i ≡ j
+same_parts i j r id s = grind (arith, nat_tests)
+
+round_before : (i j : Round) → record i { s = i.s + 1 } ≡ record j { s = j.s + 1 } → i ≡ j
+round_before i j e =
+    let next : i.s + 1 ≡ j.s + 1 = ap (λ (x : Round). x.s) e in
+    same_parts i j (ap (λ (x : Round). x.r) e) (ap (λ (x : Round). x.id) e) (omega arith)
 
 module _ (c : Cluster) (history : List KeptRecord) (sent : List Letter) (own : Entry) (v : LeaderVolatile)
     (leading : IsLeading c history sent own v) (g : Shape)
@@ -57,6 +66,9 @@ module _ (c : Cluster) (history : List KeptRecord) (sent : List Letter) (own : E
     free = λ s u l. let k = leading.end_next in next_safe s u (leading.free s u (omega arith))
         (λ w x. let b = leading.below_next s w x in absurd (omega arith));
     cw_next = leading.cw_next;
+    covered = λ j e.
+        let same = round_before own.round j e in
+        (subst (λ i. IsLeft history i) same left, λ s u x. leading.below_next s u (subst (λ i. IsProposed sent i s u) (sym same) x));
   }
 
 -- enough matchmakers took the round

@@ -12,7 +12,7 @@ use Rattle.cx_inv_match.specs.Words.{IsShut, IsWatermark, IsJoin, IsMember, SetF
 
 -- sets without a common member
 
-above_at : (t s : List ℕ) → is_above t s ≡ true → (m n : ℕ) → Member m t → Member n s → n < m
+pub above_at : (t s : List ℕ) → is_above t s ≡ true → (m n : ℕ) → Member m t → Member n s → n < m
 above_at t s e m n i k =
     ltb-true n m (all-Member (λ x. nat_lt x m) s (all-Member (λ y. list_all (λ x. nat_lt x y) s) t e m i) n k)
 

@@ -1,5 +1,5 @@
 -- The facts that hold at every moment of every run, and from which agreement follows.
-use Rattle.std.specs.Prelude.{◌≡◌, ◌⊎◌, ℕ, ◌<◌, ◌≤◌, true, false, List, [], ◌∷◌, length, slice_get, Option, None, Some}
+use Rattle.std.specs.Prelude.{◌≡◌, ◌⊎◌, ℕ, ◌+◌, ◌<◌, ◌≤◌, true, false, List, [], ◌∷◌, length, slice_get, Option, None, Some}
 use Rattle.cx_model.specs.Prelude.{Cluster, Placed, Value, RoleId, Round, Shape, role, is_before, no_round, is_above, Entry, Vote, Letter}
 use Rattle.cx_model.specs.Prelude.{letter, KeptRecord, Msg, AcceptorDurable, acceptor_rules, Collection, HasVoted, IsProposed, IsRetiring}
 use Rattle.cx_model.specs.Prelude.{LeaderWasTold, BatcherWasTold, ReplicaWasTold, ReaderWasTold, LeaderVolatile, leader_rules, round_of}
@@ -23,7 +23,7 @@ use Rattle.cx_model.specs.Facts.{ProxyWasTold}
 use Rattle.cx_inv_run.specs.States.{durable_of, log_in}
 use Rattle.cx_inv_match.specs.Words.{HasMatch, HasGarbage, HasMark, HasPromise, HasLow, IsChosenIn, IsChosen, IsMatched, IsSafe}
 use Rattle.cx_inv_match.specs.Words.{IsCollected, IsAnswer, IsPromise, HasBoot, HasNext, HasBallot, IsHalt, IsKnown, IsDecided, IsClosed}
-use Rattle.cx_inv_match.specs.Words.{IsNextSet, IsJoin, IsBoot, IsWatermark, HasStopped, SetFacts}
+use Rattle.cx_inv_match.specs.Words.{IsLeft, IsNextSet, IsJoin, IsBoot, IsWatermark, HasStopped, SetFacts}
 
 -- What each kind of datagram says of the history. A kind that isn't named says nothing here.
 abbrev pub Says : Cluster → List KeptRecord → List Letter → RoleId → Msg → Type 0
@@ -87,6 +87,9 @@ pub record IsReady (c : Cluster) (history : List KeptRecord) (sent : List Letter
   pub safe : (p : Placed) → Member p v.proposed → IsSafe c history sent own.round p.slot p.value
   pub free : (s : ℕ) (u : Value) → v.next ≤ s → IsSafe c history sent own.round s u
   pub cw_next : v.cw ≤ v.next
+  -- the round before was left for this one, and all that was proposed in it lies below the next slot
+  pub covered : (j : Round) → own.round ≡ record j { s = j.s + 1 }
+      → IsLeft history j × ((s : ℕ) (u : Value) → IsProposed sent j s u → s < v.next)
 
 pub record IsLeading (c : Cluster) (history : List KeptRecord) (sent : List Letter) (own : Entry) (v : LeaderVolatile) : Type 0 where
   pub config : IsConfig history own.round own.grid

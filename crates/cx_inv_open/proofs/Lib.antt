@@ -1,5 +1,6 @@
 pub mod Acceptors
 pub mod Anew
+pub mod Begins
 pub mod Keep
 pub mod LeaderRows
 pub mod Leaders

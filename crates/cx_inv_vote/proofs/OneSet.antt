@@ -1,16 +1,16 @@
 -- In place of each set of matchmakers at most one next one is decided, over the whole run, and a set begins only after that.
-use Rattle.cx_inv_run.proofs.Common.{◌≡◌, ◌⊎◌, ℕ, suc, List, [], ◌∷◌, ◌++◌, reverse, inl, inr, ap, sym, subst, ◌∙◌, refl, append-nil}
+use Rattle.cx_inv_run.proofs.Common.{◌≡◌, ◌⊎◌, ◌<◌, ℕ, zero, suc, true, List, [], ◌∷◌, ◌++◌, reverse, inl, inr, ap, sym, subst, ◌∙◌, refl, append-nil}
 use Rattle.cx_inv_run.proofs.Common.{append_assoc, Cluster, Event, RoleId, Round, role, Entry, Letter, KeptRecord, Booting, Member}
 use Rattle.cx_inv_run.proofs.Common.{names_role, either_way, HasKept, OfEveryRun, ReplacerVolatile, replacer_rules, World, change, run_from}
 use Rattle.cx_inv_run.proofs.Common.{run, State, Down, ReplacerIn, durable_of, Member-cases, Member-first, Member-reverse, Member-turned}
-use Rattle.cx_inv_run.proofs.Common.{run_append}
-use Rattle.cx_inv_match.specs.Prelude.{IsKnown, IsDecided, InState, InWork}
+use Rattle.cx_inv_run.proofs.Common.{run_append, arith, same_Some, some_passes, first_set, Member-is_in}
+use Rattle.cx_inv_match.specs.Prelude.{IsKnown, IsDecided, IsNth, IsUsed, InState, InWork}
 use Rattle.cx_base.specs.declared.role.Kind.TheVariants as kind
 use Rattle.cx_letter.specs.declared.kept.Record.TheVariants as kept
 use Rattle.cx_letter.specs.declared.message.Msg.TheVariants as msg
-use Rattle.cx_model.specs.Promises.{Decides, OneNextSet, SetsAreDecided}
+use Rattle.cx_model.specs.Promises.{Decides, OneNextSet, SetsAreAChain, SetsAreDecided, WasDecided}
 use Rattle.cx_model.specs.World.{step}
-use Rattle.cx_inv_match.proofs.Chains.{decided_once, nth_once}
+use Rattle.cx_inv_match.proofs.Chains.{above_at, began, decided_once, nth_meet, nth_once}
 use Rattle.cx_inv_match.proofs.Grow.{more_nth}
 use Rattle.cx_inv_vote.specs.Laws.{Boots, OneBegins}
 use Rattle.cx_inv_vote.proofs.DecidingEvents.{DecidedBy, Follows, follows}
@@ -95,15 +95,19 @@ one_next_set c es then more later e f is s t u first second =
     same : (then ++ e ∷ more) ++ f ∷ [] ≡ (then ++ e ∷ []) ++ (more ++ f ∷ [])
     same = append_assoc then (e ∷ more) (f ∷ []) ∙ sym (append_assoc then (e ∷ []) (more ++ f ∷ []))
 
+-- what an event decided stays decided
+decided_more : (c : Cluster) (then more : List Event) (s t : List ℕ) → WasDecided c then s t → WasDecided c (then ++ more) s t
+decided_more c then more s t d = (d.0, d.1 ++ more, d.2, ap (λ l. l ++ more) d.3 ∙ append_assoc d.0 (d.2 ∷ d.1) more, d.4)
+
 -- one of these events decided this set
-abbrev WasDecided : Cluster → List Event → List ℕ → Type 0
-WasDecided c es t = (then later : List Event) × (e : Event) × (s : List ℕ) × (es ≡ then ++ e ∷ later) × Decides (run c then) e s t
+abbrev IsOfChain : Cluster → List Event → List ℕ → Type 0
+IsOfChain c es t = (s : List ℕ) × WasDecided c es s t
 
 -- Whoever is asked to begin in a set, whoever begins in it, and whatever set a replacer lets begin: one of the events decided it.
 record AreDecided (c : Cluster) (es : List Event) (w : World) : Type 0 where
-  asks : (d : Letter) → Member d w.sent → (t : List ℕ) (v : Round) (xs : List Entry) → msg.BootA t v xs ≡ d.msg → WasDecided c es t
-  begins : (who : RoleId) (t : List ℕ) (v : Round) (xs : List Entry) → HasKept w.kept who (kept.Boot t v xs) → WasDecided c es t
-  boots : (x : ℕ) (v : ReplacerVolatile) → w.roles (role kind.Replacer x) ≡ ReplacerIn v → v.mode ≡ Booting → WasDecided c es v.next
+  asks : (d : Letter) → Member d w.sent → (t : List ℕ) (v : Round) (xs : List Entry) → msg.BootA t v xs ≡ d.msg → IsOfChain c es t
+  begins : (who : RoleId) (t : List ℕ) (v : Round) (xs : List Entry) → HasKept w.kept who (kept.Boot t v xs) → IsOfChain c es t
+  boots : (x : ℕ) (v : ReplacerVolatile) → w.roles (role kind.Replacer x) ≡ ReplacerIn v → v.mode ≡ Booting → IsOfChain c es v.next
 
 fresh_rests : (v u : ReplacerVolatile) → ReplacerIn v ≡ ReplacerIn u → u ≡ v
 fresh_rests v u e = cc
@@ -115,7 +119,7 @@ start_decided : (c : Cluster) → AreDecided c [] (run c [])
 start_decided c = record {
   asks = λ d m. absurd m;
   begins = λ who t v xs m. absurd m;
-  boots = λ x u e m. either_way (λ (s : State). s ≡ ReplacerIn u → WasDecided c [] u.next) (names_role c (role kind.Replacer x))
+  boots = λ x u e m. either_way (λ (s : State). s ≡ ReplacerIn u → IsOfChain c [] u.next) (names_role c (role kind.Replacer x))
       (ReplacerIn (replacer_rules.fresh c)) Down
       (λ e. rests (subst (λ (y : ReplacerVolatile). y.mode ≡ Booting) (fresh_rests (replacer_rules.fresh c) u e) m)) (λ e. never_up u e) e;
 }
@@ -128,33 +132,28 @@ module _ (c : Cluster) (then : List Event) (e : Event) (old : AreDecided c then 
   w = run c then
 
   abbrev After : List ℕ → Type 0
-  After t = WasDecided c (then ++ e ∷ []) t
+  After t = IsOfChain c (then ++ e ∷ []) t
 
-  done : Follows w (WasDecided c then) old.asks old.boots (change w e)
-  done = follows w (WasDecided c then) old.asks old.boots e
+  done : Follows w (IsOfChain c then) old.asks old.boots (change w e)
+  done = follows w (IsOfChain c then) old.asks old.boots e
 
-  longer : (t : List ℕ) → WasDecided c then t → After t
-  longer t d = (d.0, d.1 ++ e ∷ [], d.2, d.3, ap (λ l. l ++ e ∷ []) d.4 ∙ append_assoc d.0 (d.2 ∷ d.1) (e ∷ []), d.5)
+  longer : (t : List ℕ) → IsOfChain c then t → After t
+  longer t d = (d.0, decided_more c then (e ∷ []) d.0 t d.1)
 
-  now : (t : List ℕ) → WasDecided c then t ⊎ DecidedBy w (WasDecided c then) old.asks old.boots (change w e) t → After t
+  now : (t : List ℕ) → IsOfChain c then t ⊎ DecidedBy w (IsOfChain c then) old.asks old.boots (change w e) t → After t
   now t (inl d) = longer t d
-  now t (inr d) = (
-    then,
-    [],
-    e,
-    d.volatile.set,
-    refl,
-    record {
-      who = role kind.Replacer d.index;
-      volatile = d.volatile;
-      kind_is = refl;
-      at_it = d.at_it;
-      word = d.word;
-      knew = d.knew;
-      set_is = refl;
-      next_is = d.next_is;
-    },
-  )
+  now t (inr d) =
+      let decides : Decides w e d.volatile.set t = record {
+        who = role kind.Replacer d.index;
+        volatile = d.volatile;
+        kind_is = refl;
+        at_it = d.at_it;
+        word = d.word;
+        knew = d.knew;
+        set_is = refl;
+        next_is = d.next_is;
+      } in
+      (d.volatile.set, (then, [], e, refl, decides))
 
   step_decided : AreDecided c (then ++ e ∷ []) (step w e)
   unfolding step
@@ -175,4 +174,79 @@ all_decided c then (e ∷ later) h =
     (subst (λ w. AreDecided c (then ++ e ∷ []) w) (sym (run_append c then (e ∷ []))) (step_decided c then e h)))
 
 pub sets_are_decided : OfEveryRun SetsAreDecided
-sets_are_decided c es who t w xs m = (all_decided c [] es (start_decided c)).begins who t w xs m
+sets_are_decided c es who t w xs m =
+    let began = (facts_hold c es).sets.booted who t w xs (Member-reverse _ (run c es).kept m) in
+    (Member-is_in who.index t began.0, (all_decided c [] es (start_decided c)).begins who t w xs m)
+
+-- THE CHAIN
+
+-- an event of a list with one more is one of the list, or the last
+last_cases : (es before after : List Event) (e f : Event) → es ++ e ∷ [] ≡ before ++ f ∷ after
+    → ((more : List Event) × (es ≡ before ++ f ∷ more)) ⊎ ((before ≡ es) × (f ≡ e))
+last_cases [] [] after e f q = inr (refl, cc)
+last_cases [] (y ∷ []) after e f q = cc
+last_cases [] (y ∷ z ∷ before) after e f q = cc
+last_cases (x ∷ es) [] after e f q = let h : x ≡ f = cc in inl (es, ap (λ g. g ∷ es) h)
+last_cases (x ∷ es) (y ∷ before) after e f q =
+    let h : x ≡ y = cc in
+    let rest : es ++ e ∷ [] ≡ before ++ f ∷ after = cc in
+    elim (last_cases es before after e f rest) [
+      | inl r ↦ inl (r.0, ap (λ g. g ∷ es) h ∙ ap (λ l. y ∷ l) r.1)
+      | inr r ↦ inr (ap (λ g. g ∷ before) (sym h) ∙ ap (λ l. x ∷ l) r.0, r.1)
+    ]
+
+one_volatile : (s : State) (v u : ReplacerVolatile) → s ≡ ReplacerIn v → s ≡ ReplacerIn u → v ≡ u
+one_volatile s v u p q = fresh_rests u v (sym q ∙ p)
+
+-- an event decides one set
+decides_one : (w : World) (e : Event) (r s t : List ℕ) → Decides w e r s → Decides w e s t → s ≡ t
+decides_one w e r s t one two =
+    let same : one.who ≡ two.who = same_Some one.who two.who (sym one.at_it ∙ two.at_it) in
+    let volatile = one_volatile (w.roles two.who) one.volatile two.volatile
+    (subst (λ a. w.roles a ≡ ReplacerIn one.volatile) same one.knew) two.knew in
+    sym one.next_is ∙ ap (λ (v : ReplacerVolatile). v.next) volatile ∙ two.next_is
+
+module _ (c : Cluster) (then : List Event) (e : Event) (s t : List ℕ) (d : Decides (run c then) e s t) where
+  abbrev after : List Event
+  after = then ++ e ∷ []
+
+  abbrev history : List KeptRecord
+  history = reverse (run c after).kept
+
+  parts : IsKnown c history s × IsDecided c history s t
+  parts = boots_decided c after d.who.index s t (decides_boots c then e s t d)
+
+  -- one of its members began in a later set than the first
+  member : (m : ℕ) × Member m s × (parts.1.who m ≡ true)
+  member = some_passes c s parts.1.who parts.1.most
+
+  later_began : (n : ℕ) → IsNth c history (suc n) s → IsOfChain c after s
+  later_began n nth =
+      let facts = (facts_hold c after).sets in
+      let me = role kind.Matchmaker member.0 in
+      let used : IsUsed history me = inr (parts.1.ballot, inr (t, parts.1.each member.0 member.2)) in
+      let b = began c history (run c after).sent facts n s nth member.0 member.1 (facts.members me used) in
+      let boot = facts.booted me b.0 b.1 b.2 b.3 in
+      let same : b.0 ≡ s = (nth_meet c history (run c after).sent facts (suc boot.1.place) (suc n) b.0 s
+      (boot.1.set, boot.1.nth, boot.1.decided) nth member.0 boot.0 member.1).1 in
+      subst (λ x. IsOfChain c after x) same (sets_are_decided c after me b.0 b.1 b.2 (Member-turned _ (run c after).kept b.3)).1
+
+  -- this event didn't decide it
+  decided_before : (r : List ℕ) → WasDecided c after r s → WasDecided c then r s
+  decided_before r was = elim (last_cases then was.0 was.1 e was.2 was.3) [
+    | inl q ↦ (was.0, q.0, was.2, q.1, was.4)
+    | inr q ↦ (let now : Decides (run c then) e r s =
+        subst (λ l. Decides (run c l) e r s) q.0 (subst (λ f. Decides (run c was.0) f r s) q.1 was.4) in
+        let same : s ≡ t = decides_one (run c then) e r s t now d in
+        let low : member.0 < member.0 = above_at t s parts.1.above member.0 member.0
+        (subst (λ l. Member member.0 l) same member.1) member.1 in
+        absurd (omega arith))
+  ]
+
+  follows_one : (n : ℕ) → IsNth c history n s → (s ≡ first_set c) ⊎ ((r : List ℕ) × WasDecided c then r s)
+  follows_one zero nth = inl nth
+  follows_one (suc n) nth = let was = later_began n nth in inr (was.0, decided_before was.0 was.1)
+
+pub sets_are_a_chain : OfEveryRun SetsAreAChain
+sets_are_a_chain c es then later e same s t d =
+    ((parts c then e s t d).1.above, follows_one c then e s t d (parts c then e s t d).0.0 (parts c then e s t d).0.1)

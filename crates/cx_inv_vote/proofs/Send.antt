@@ -76,7 +76,7 @@ leader_told sent ds me i v h = record {
   promises = λ p m. Member-first _ sent ds (h.promises p m);
   chosen = λ s t m. let r = h.chosen s t m in (r.0, Member-first _ sent ds r.1);
   held = λ p n e. elim (h.held p n e) [ inl z ↦ inl z | inr m ↦ inr (Member-first _ sent ds m) ];
-  informed = λ a t m. let r = h.informed a t m in (r.0, r.1, r.2, Member-first _ sent ds r.3);
+  informed = λ a t m. let r = h.informed a t m in (r.0, r.1, Member-first _ sent ds r.2);
   forgotten = λ a t m. Member-first _ sent ds (h.forgotten a t m);
 }
 

@@ -154,7 +154,7 @@ pub record LeaderWasTold (sent : List Letter) (me : RoleId) (i : Round) (v : Lea
   pub chosen : (s : ℕ) → is_leading v.mode ≡ true → Member s v.chosen → (from : RoleId) × Member (letter from me (msg.ChosenIn i s)) sent
   pub held : (p n : ℕ) → slice_get v.held p ≡ Some n → (n ≡ 0) ⊎ Member (letter (role kind.Replica p) me (msg.Held n)) sent
   pub informed : (a : ℕ) → is_informing v.collection.stage ≡ true → Member a v.collection.counted
-      → IsInformed sent (role kind.Acceptor a) i v.collection.mark
+      → (n : ℕ) × (v.collection.mark ≤ n) × Member (letter (role kind.Acceptor a) me (msg.Informed i n)) sent
   pub forgotten : (m : ℕ) → is_collecting v.collection.stage ≡ true → Member m v.collection.counted
       → Member (letter (role kind.Matchmaker m) me (msg.GarbageB i)) sent
 

@@ -1,17 +1,20 @@
 -- Every run is lawful: its promises, put together from the law crates.
-use Rattle.cx_model.specs.Prelude.{List, Cluster, Event, chosen_prefix, run, log_of}
+use Rattle.cx_model.specs.Prelude.{List, Cluster, Event, chosen_prefix, run}
 use Rattle.cx_inv_vote.proofs.Agree.{agreement}
-use Rattle.cx_inv_vote.proofs.OneSet.{one_next_set, sets_are_decided}
+use Rattle.cx_inv_vote.proofs.OneSet.{one_next_set, sets_are_a_chain, sets_are_decided}
 use Rattle.cx_inv_alive.proofs.Runs.{no_dead_ends}
 use Rattle.cx_inv_announce.proofs.Steps.{announced}
 use Rattle.cx_inv_bypass.proofs.Steps.{bypassed_rounds}
 use Rattle.cx_inv_held.proofs.Steps.{kept_watermarks, safe_snapshots}
+use Rattle.cx_inv_open.proofs.Begins.{each_begins_once}
 use Rattle.cx_inv_open.proofs.Steps.{roles_reopen}
 use Rattle.cx_inv_list.proofs.Answers.{answers_are_of_a_log, one_list, reads_tell}
+use Rattle.cx_inv_list.proofs.Requests.{requests_are_once}
 use Rattle.cx_inv_list.proofs.Right.{machine_is_the_fold}
-use Rattle.cx_inv_read.proofs.Results.{after_answers, after_heard, after_reads}
+use Rattle.cx_inv_read.proofs.Results.{after_answers, after_reads}
 use Rattle.cx_inv_retire.proofs.Later.{rounds_ask_later, turns_ask_later, reads_ask_later}
 use Rattle.cx_promises.specs.Lawful.{IsLawful, IsCommandList}
+use Rattle.cx_promises.proofs.Heard.{heard_before}
 
 pub lawful : (c : Cluster) (es : List Event) → IsLawful c es
 lawful c es = record {
@@ -19,25 +22,28 @@ lawful c es = record {
   chosen = one_list.chosen c es;
   replicas_hold_it = one_list.replicas_hold_it c es;
   it_grows = one_list.it_grows c es;
-  maps_are_folds = λ p. machine_is_the_fold.map (log_of p (run c es).kept);
-  tables_are_folds = λ p. machine_is_the_fold.table (log_of p (run c es).kept);
+  maps_are_folds = machine_is_the_fold.map c es;
+  tables_are_folds = machine_is_the_fold.table c es;
   none_acts_twice = one_list.none_acts_twice _;
   answers_are_right = one_list.answers_are_right c es;
   results_are_right = answers_are_of_a_log.results c es;
   commands_were_asked = one_list.commands_were_asked c es;
+  requests_are_once = requests_are_once c es;
   order = one_list.order c es;
   reads_are_right = reads_tell c es;
   reads_of_their_replica = answers_are_of_a_log.read c es;
   reads_after_answers = after_answers c es;
   reads_after_reads = after_reads c es;
-  sessions_after_heard = after_heard c es;
+  sessions_after_heard = heard_before c es;
   chosen_below = kept_watermarks.chosen_below c es;
   held = kept_watermarks.held c es;
   rounds_ask_later = rounds_ask_later c es;
   turns_ask_later = turns_ask_later c es;
   reads_ask_later = reads_ask_later c es;
   one_next_set = one_next_set c es;
+  sets_are_a_chain = sets_are_a_chain c es;
   sets_are_decided = sets_are_decided c es;
+  each_begins_once = each_begins_once c es;
   nothing_is_lost = safe_snapshots.nothing_is_lost c es;
   forgotten_is_kept = safe_snapshots.forgotten_is_kept c es;
   renewals_keep_all = safe_snapshots.renewals_keep_all c es;

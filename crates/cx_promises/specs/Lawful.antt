@@ -1,14 +1,14 @@
 -- What is promised of one run: that of these events over this cluster. Each sentence is under its name in cx_model's Promises, but for the
 -- announcement, which is cx_inv_announce's, the change of grid, which is cx_inv_bypass's, recovery, which is cx_inv_open's, and progress,
 -- which is cx_inv_alive's.
-use Rattle.std.specs.Prelude.{◌≡◌, ℕ, ◌<◌, true, List, slice_get, Some}
+use Rattle.std.specs.Prelude.{◌≡◌, ℕ, true, List, slice_get, Some}
 use Rattle.cx_model.specs.Prelude.{Cluster, Value, Event, KeptRecord, is_chosen, chosen_prefix, Begins, OfEveryRun, Agreement}
 use Rattle.cx_model.specs.Prelude.{ReadsAreRight, ReadsAreOfTheirReplica, ReadsComeAfterAnswers, ReadsComeAfterReads}
 use Rattle.cx_model.specs.Prelude.{SessionsComeAfterHeard, RoundsAskLater, TurnsAskLater, ReadsAskLater, OneNextSet, SetsAreDecided}
 use Rattle.cx_model.specs.Prelude.{ForgottenIsKept, run, log_of}
 use Rattle.cx_model.specs.Promises.{ListIsChosen, ReplicasHoldIt, ListGrows, MapsAreFolds, TablesAreFolds, NoneActsTwice, AnswersAreRight}
-use Rattle.cx_model.specs.Promises.{ResultsAreRight, CommandsWereAsked, OrderIsKept, ChosenBelow, HeldBelow, NothingIsLost}
-use Rattle.cx_model.specs.Promises.{RenewalsKeepAll}
+use Rattle.cx_model.specs.Promises.{ResultsAreRight, CommandsWereAsked, RequestsAreOnce, OrderIsKept, ChosenBelow, HeldBelow}
+use Rattle.cx_model.specs.Promises.{NothingIsLost, RenewalsKeepAll, SetsAreAChain, EachBeginsOnce}
 use Rattle.cx_inv_alive.specs.Alive.{NoDeadEnds}
 use Rattle.cx_inv_announce.specs.Announced.{Announced}
 use Rattle.cx_inv_bypass.specs.Bypassed.{BypassedRounds}
@@ -27,6 +27,7 @@ pub record IsLawful (c : Cluster) (es : List Event) : Type 0 where
   pub answers_are_right : AnswersAreRight c es
   pub results_are_right : ResultsAreRight c es
   pub commands_were_asked : CommandsWereAsked c es
+  pub requests_are_once : RequestsAreOnce c es
   pub order : OrderIsKept c es
   -- fresh reads, and sessions
   pub reads_are_right : ReadsAreRight c es
@@ -42,7 +43,9 @@ pub record IsLawful (c : Cluster) (es : List Event) : Type 0 where
   pub reads_ask_later : ReadsAskLater c es
   -- sets of matchmakers
   pub one_next_set : OneNextSet c es
+  pub sets_are_a_chain : SetsAreAChain c es
   pub sets_are_decided : SetsAreDecided c es
+  pub each_begins_once : EachBeginsOnce c es
   -- safe snapshots
   pub nothing_is_lost : NothingIsLost c es
   pub forgotten_is_kept : ForgottenIsKept c es
@@ -65,4 +68,4 @@ RunsAreLawful = OfEveryRun IsLawful
 pub record IsCommandList (c : Cluster) (history : List KeptRecord) (values : List Value) : Type 0 where
   pub chosen : (s : ℕ) (v : Value) → slice_get values s ≡ Some v → is_chosen history s v ≡ true
   pub only : (s : ℕ) (v w : Value) → slice_get values s ≡ Some v → is_chosen history s w ≡ true → w ≡ v
-  pub replicas : (p : ℕ) → p < c.replicas → Begins (log_of p history) values
+  pub replicas : (p : ℕ) → Begins (log_of p history) values
