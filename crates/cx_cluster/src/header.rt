@@ -6,6 +6,7 @@ ghost use Rattle.std.specs.BTreeMap.{keys, IsOrdered};
 ghost use Rattle.std.specs.String.{string_cmp};
 ghost use Rattle.cx_cluster.specs.Reading.{IsNumber, ranged, value_number, number_at, optional_at, most_own, port_at, cluster_at, header_cluster};
 ghost use Rattle.cx_cluster.specs.declared.fault.ClusterFault.TheVariants.{NoMemory, Unknown};
+ghost use Rattle.cx_cluster.specs.declared.key.ClusterKey.TheVariants.{OwnProxies};
 ghost use Rattle.cx_cluster.specs.Keys.{key_name, is_key};
 ghost use Rattle.toml.specs.Data.{get_member};
 ghost use Rattle.toml.specs.View.{table_view, view};
@@ -80,12 +81,16 @@ fn port(table: &Table) -> Result<Option<u16>, ClusterFault>
     }
 }
 
-/// The greatest number of `own_proxies`: 1 where all leaders can have the same number of proxies.
-fn most_own(leaders: u16, proxies: u16) -> u16
+/// The number of `own_proxies`: at most 1 where all leaders can have the same number of proxies, else 0.
+fn own_proxies(table: &Table, leaders: u16, proxies: u16) -> Result<u16, ClusterFault>
     requires { 1 ≤ leaders }
-    ensures { result ≡ most_own leaders proxies }
+    ensures { IsNumber result
+        (optional_at (table_view table.now) OwnProxies 0 (most_own leaders proxies)) }
 {
-    if proxies % leaders == 0 { 1 } else { 0 }
+    if proxies % leaders == 0 {
+        return optional(table, ClusterKey::OwnProxies, 0, 1);
+    }
+    optional(table, ClusterKey::OwnProxies, 0, 0)
 }
 
 /// The cluster of a table, or the fault of the first key that has one.
@@ -107,8 +112,7 @@ fn cluster_of(table: &Table) -> Result<Cluster, ClusterFault>
     let pool = optional(table, ClusterKey::Pool, 2 * f + 1, MATCHMAKERS)?;
     let replacers = optional(table, ClusterKey::Replacers, 0, REPLACERS)?;
     let one_entry_a_grid = optional(table, ClusterKey::OneEntryAGrid, 0, 1)?;
-    let own_most = most_own(leaders, proxies);
-    let own_proxies = optional(table, ClusterKey::OwnProxies, 0, own_most)?;
+    let own_proxies = own_proxies(table, leaders, proxies)?;
     Ok(Cluster {
         f: f as u8,
         leaders,
