@@ -23,6 +23,10 @@ pub struct Cluster {
     /// How many matchmakers there are. The first 2f + 1 are the first set; the others may be of later sets.
     pub pool: u16,
     pub replacers: u16,
+    /// Whether a matchmaker without room records a round whose grid it has, in place of the entries with that grid.
+    pub one_entry_a_grid: bool,
+    /// Whether each leader has its values voted for through proxy leaders of its own, `proxies / leaders` of them.
+    pub own_proxies: bool,
     pub ghost f_fits: { f ≤ 3 },
     pub ghost some_leader: { 1 ≤ leaders },
     pub ghost leaders_fit: { leaders ≤ 8 },

@@ -1,5 +1,5 @@
 -- Two clusters with the same counts are the same: a bound has one proof.
-use Rattle.std.proofs.Common.{◌≡◌, ◌≤◌, ◌+◌, ◌*◌, ℕ, Option, ap}
+use Rattle.std.proofs.Common.{◌≡◌, ◌≤◌, ◌+◌, ◌*◌, ℕ, Bool, Option, ap}
 use Rattle.std.proofs.Math.Bridge.{le_prop}
 use Rattle.cx_base.specs.declared.cluster.Cluster.{Cluster}
 
@@ -17,6 +17,8 @@ pub record Counts : Type 0 where
   pub base_port : Option ℕ
   pub pool : ℕ
   pub replacers : ℕ
+  pub one_entry_a_grid : Bool
+  pub own_proxies : Bool
 
 pub record Bounds (c : Counts) : Type 0 where
   pub f_fits : c.f ≤ 3
@@ -57,6 +59,8 @@ cluster c b = record {
   base_port = c.base_port;
   pool = c.pool;
   replacers = c.replacers;
+  one_entry_a_grid = c.one_entry_a_grid;
+  own_proxies = c.own_proxies;
   f_fits = b.f_fits;
   some_leader = b.some_leader;
   leaders_fit = b.leaders_fit;

@@ -3,7 +3,7 @@ use Rattle.std.specs.Prelude.{ℕ, List, [], ◌∷◌, Bool, codes, bytes_eq}
 use Rattle.std.specs.List.{list_any}
 use Rattle.cx_cluster.specs.declared.key.ClusterKey.{ClusterKey}
 use Rattle.cx_cluster.specs.declared.key.ClusterKey.TheVariants.{F, Leaders, Proxies, Acceptors, Replicas, Batchers, Unbatchers, Readers}
-use Rattle.cx_cluster.specs.declared.key.ClusterKey.TheVariants.{Clients, Batch, BasePort, Pool, Replacers}
+use Rattle.cx_cluster.specs.declared.key.ClusterKey.TheVariants.{Clients, Batch, BasePort, Pool, Replacers, OneEntryAGrid, OwnProxies}
 
 -- how a key is written
 abbrev pub key_name : ClusterKey → List ℕ
@@ -20,10 +20,13 @@ key_name Batch = codes "batch"
 key_name BasePort = codes "base_port"
 key_name Pool = codes "pool"
 key_name Replacers = codes "replacers"
+key_name OneEntryAGrid = codes "one_entry_a_grid"
+key_name OwnProxies = codes "own_proxies"
 
 abbrev pub all_keys : List ClusterKey
 all_keys =
-    F ∷ Leaders ∷ Proxies ∷ Acceptors ∷ Replicas ∷ Batchers ∷ Unbatchers ∷ Readers ∷ Clients ∷ Batch ∷ BasePort ∷ Pool ∷ Replacers ∷ []
+    F ∷ Leaders ∷ Proxies ∷ Acceptors ∷ Replicas ∷ Batchers ∷ Unbatchers ∷ Readers ∷ Clients ∷ Batch ∷ BasePort ∷ Pool ∷ Replacers
+    ∷ OneEntryAGrid ∷ OwnProxies ∷ []
 
 -- whether a text is a key of a header
 abbrev pub is_key : List ℕ → Bool

@@ -1,5 +1,5 @@
 -- The cluster that the bytes of a header say, or its first fault.
-use Rattle.std.specs.Prelude.{◌≡◌, ℕ, ◌+◌, ◌*◌, ◌≤◌, ℤ, pos, negsuc, List, Option, Some, None, Result, Ok, Err, if◌then◌else◌}
+use Rattle.std.specs.Prelude.{◌≡◌, ◌==◌, ℕ, ◌+◌, ◌*◌, ◌%◌, ◌≤◌, ℤ, pos, negsuc, List, Option, Some, None, Result, Ok, Err, if◌then◌else◌}
 use Rattle.std.specs.Cmp.Lexicographic.{slice_cmp}
 use Rattle.std.specs.Ordering.{nat_cmp, is_lt}
 use Rattle.std.specs.Str.{is_utf8}
@@ -11,7 +11,7 @@ use Rattle.cx_cluster.specs.declared.fault.ClusterFault.{ClusterFault}
 use Rattle.cx_cluster.specs.declared.fault.ClusterFault.TheVariants.{Toml, Unknown, Missing, NotNumber, Range}
 use Rattle.cx_cluster.specs.declared.key.ClusterKey.{ClusterKey}
 use Rattle.cx_cluster.specs.declared.key.ClusterKey.TheVariants.{F, Leaders, Proxies, Acceptors, Replicas, Batchers, Unbatchers, Readers}
-use Rattle.cx_cluster.specs.declared.key.ClusterKey.TheVariants.{Clients, Batch, BasePort, Pool, Replacers}
+use Rattle.cx_cluster.specs.declared.key.ClusterKey.TheVariants.{Clients, Batch, BasePort, Pool, Replacers, OneEntryAGrid, OwnProxies}
 use Rattle.cx_cluster.specs.Keys.{key_name, is_key}
 
 -- a number from low to high
@@ -77,6 +77,10 @@ base_port_of (Some value) = value_number BasePort 1024 60000 value >>= (λ port.
 abbrev pub port_at : Members → Result (Option ℕ) ClusterFault
 port_at ms = base_port_of (get_member (key_name BasePort) ms)
 
+-- the greatest number of `own_proxies`: 1 where all leaders can have the same number of proxies
+abbrev pub most_own : (leaders proxies : ℕ) → ℕ
+most_own leaders proxies = if proxies % leaders == 0 then 1 else 0
+
 -- the cluster that the members give, or the fault of the first key that has one
 unfoldable pub cluster_at : Members → Result Cluster ClusterFault
 cluster_at ms =
@@ -93,6 +97,8 @@ cluster_at ms =
     port_at ms >>= (λ base_port.
     optional_at ms Pool (2 * f.number + 1) 64 >>= (λ pool.
     optional_at ms Replacers 0 4 >>= (λ replacers.
+    optional_at ms OneEntryAGrid 0 1 >>= (λ one_entry.
+    optional_at ms OwnProxies 0 (most_own leaders.number proxies.number) >>= (λ own.
     Ok (record {
       f = f.number;
       leaders = leaders.number;
@@ -107,6 +113,8 @@ cluster_at ms =
       base_port = base_port;
       pool = pool.number;
       replacers = replacers.number;
+      one_entry_a_grid = one_entry.number == 1;
+      own_proxies = own.number == 1;
       f_fits = f.most;
       some_leader = leaders.least;
       leaders_fit = leaders.most;
@@ -129,7 +137,7 @@ cluster_at ms =
       some_pool = pool.least;
       pool_fits = pool.most;
       replacers_fit = replacers.most;
-    }))))))))))))))
+    }))))))))))))))))
 
 -- the lesser of a key and another, in byte order
 abbrev pub lesser : List ℕ → Option (List ℕ) → List ℕ

@@ -4,8 +4,9 @@ ghost use Rattle.std.specs.Prelude.{◌≡◌, ◌≢◌, ◌≤◌, option_map,
 ghost use Rattle.std.specs.Option.{option_copied};
 ghost use Rattle.std.specs.BTreeMap.{keys, IsOrdered};
 ghost use Rattle.std.specs.String.{string_cmp};
-ghost use Rattle.cx_cluster.specs.Reading.{IsNumber, ranged, value_number, number_at, optional_at, port_at, cluster_at, header_cluster};
+ghost use Rattle.cx_cluster.specs.Reading.{IsNumber, ranged, value_number, number_at, optional_at, most_own, port_at, cluster_at, header_cluster};
 ghost use Rattle.cx_cluster.specs.declared.fault.ClusterFault.TheVariants.{NoMemory, Unknown};
+ghost use Rattle.cx_cluster.specs.declared.key.ClusterKey.TheVariants.{OwnProxies};
 ghost use Rattle.cx_cluster.specs.Keys.{key_name, is_key};
 ghost use Rattle.toml.specs.Data.{get_member};
 ghost use Rattle.toml.specs.View.{table_view, view};
@@ -80,6 +81,18 @@ fn port(table: &Table) -> Result<Option<u16>, ClusterFault>
     }
 }
 
+/// The number of `own_proxies`: at most 1 where all leaders can have the same number of proxies, else 0.
+fn own_proxies(table: &Table, leaders: u16, proxies: u16) -> Result<u16, ClusterFault>
+    requires { 1 ≤ leaders }
+    ensures { IsNumber result
+        (optional_at (table_view table.now) OwnProxies 0 (most_own leaders proxies)) }
+{
+    if proxies % leaders == 0 {
+        return optional(table, ClusterKey::OwnProxies, 0, 1);
+    }
+    optional(table, ClusterKey::OwnProxies, 0, 0)
+}
+
 /// The cluster of a table, or the fault of the first key that has one.
 #[tactic(auto, unfolding(crate::specs::Reading::cluster_at))]
 fn cluster_of(table: &Table) -> Result<Cluster, ClusterFault>
@@ -98,6 +111,8 @@ fn cluster_of(table: &Table) -> Result<Cluster, ClusterFault>
     let base_port = port(table)?;
     let pool = optional(table, ClusterKey::Pool, 2 * f + 1, MATCHMAKERS)?;
     let replacers = optional(table, ClusterKey::Replacers, 0, REPLACERS)?;
+    let one_entry_a_grid = optional(table, ClusterKey::OneEntryAGrid, 0, 1)?;
+    let own_proxies = own_proxies(table, leaders, proxies)?;
     Ok(Cluster {
         f: f as u8,
         leaders,
@@ -112,6 +127,8 @@ fn cluster_of(table: &Table) -> Result<Cluster, ClusterFault>
         base_port,
         pool,
         replacers,
+        one_entry_a_grid: one_entry_a_grid == 1,
+        own_proxies: own_proxies == 1,
     })
 }
 
@@ -134,13 +151,14 @@ fn unknown(alloc: Global, key: &str) -> ClusterFault
 }
 
 /// The cluster that a header says, or the first fault, in this order: the bytes are no TOML document; a key that no header
-/// has, the least in byte order; then for each key in the order of `ClusterKey`, that it is missing (the last three
+/// has, the least in byte order; then for each key in the order of `ClusterKey`, that it is missing (the last five
 /// may be), no whole number, or outside its range.
 ///
 /// The ranges: `f` 0 to 3, `leaders` 1 to 8, `proxies` 1 to 16, `acceptors` 1 to 64, `replicas` f + 1 to 8, `batchers`,
 /// `unbatchers` and `readers` 1 to 8, `clients` 1 to 64, `batch` 1 to 8, `base_port` 1024 to 60000, `pool` 2f + 1 to 64,
-/// `replacers` 0 to 4. Without `base_port` there is no port; a `pool` or `replacers` that is missing is the least of its
-/// range (this project's own form; TOML is that of the crate `toml`).
+/// `replacers` 0 to 4, `one_entry_a_grid` 0 to 1, `own_proxies` 0 to 1 where `leaders` divides `proxies`, else 0. Without
+/// `base_port` there is no port; another of the last five that is missing is the least of its range (this project's own
+/// form; TOML is that of the crate `toml`).
 pub fn read(alloc: Global, bytes: &[u8]) -> Result<Cluster, ClusterFault>
     ensures cluster { IfOk result (λ cluster. header_cluster bytes.now ≡ Ok cluster) }
     ensures fault { IfErr result

@@ -3,7 +3,7 @@
 ghost use Rattle.std.specs.Prelude.{◌≡◌};
 ghost use Rattle.cx_cluster.specs.Keys.{key_name, is_key};
 
-/// A key of the header: a count of a cluster, or the port of its first role.
+/// A key of the header: a count of a cluster, the port of its first role, or a choice.
 #[derive(Clone, Copy, Debug, PartialEq, Eq)]
 pub enum ClusterKey {
     F,
@@ -19,9 +19,11 @@ pub enum ClusterKey {
     BasePort,
     Pool,
     Replacers,
+    OneEntryAGrid,
+    OwnProxies,
 }
 
-const KEYS: [ClusterKey; 13] = [
+const KEYS: [ClusterKey; 15] = [
     ClusterKey::F,
     ClusterKey::Leaders,
     ClusterKey::Proxies,
@@ -35,6 +37,8 @@ const KEYS: [ClusterKey; 13] = [
     ClusterKey::BasePort,
     ClusterKey::Pool,
     ClusterKey::Replacers,
+    ClusterKey::OneEntryAGrid,
+    ClusterKey::OwnProxies,
 ];
 
 impl ClusterKey {
@@ -56,6 +60,8 @@ impl ClusterKey {
             ClusterKey::BasePort => "base_port",
             ClusterKey::Pool => "pool",
             ClusterKey::Replacers => "replacers",
+            ClusterKey::OneEntryAGrid => "one_entry_a_grid",
+            ClusterKey::OwnProxies => "own_proxies",
         }
     }
 }

@@ -12,12 +12,14 @@ use Rattle.cx_inv_run.proofs.Common.{with_record, durable_of, HoldsIn, kept_long
 use Rattle.cx_inv_run.proofs.Common.{before-both, same_round-true, batcher_kinds, proxy_kinds, replica_kinds, unbatcher_kinds, reader_kinds}
 use Rattle.cx_inv_run.proofs.Common.{leader_kinds, replacer_kinds, always}
 use Rattle.cx_inv_match.specs.Prelude.{Facts, HasMark, HasPromise}
+use Rattle.std.specs.Prelude.{not}
 use Rattle.cx_base.specs.declared.event.Event.TheVariants as event
 use Rattle.cx_base.specs.declared.role.Kind.TheVariants as kind
 use Rattle.cx_base.specs.declared.why.Why.TheVariants as why
 use Rattle.cx_letter.specs.declared.input.Input.TheVariants as input
 use Rattle.cx_letter.specs.declared.kept.Record.TheVariants as kept
 use Rattle.cx_letter.specs.declared.message.Msg.TheVariants as msg
+use Rattle.cx_model.specs.Matchmaker.{again_told, has_room}
 use Rattle.cx_inv_vote.proofs.Steps.{facts_hold}
 use Rattle.cx_inv_facts.specs.Answers.{HasEntry, HasReached, AnswerSays, AnswersSay}
 
@@ -156,6 +158,14 @@ module _ (c : Cluster) (history : List KeptRecord) (sent : List Letter) (states 
       go x (inr (inl e)) = inl e
       go x (inr (inr l)) = absurd (before-both i log.watermark l from)
 
+  entry_again : (i : Round) → is_before i log.watermark ≡ false
+      → (log.watermark ≡ no_round) ⊎ ((log.watermark ≡ i) ⊎ HasEntry log.watermark (again_told c i log.entries))
+  entry_again i from =
+      either_way (λ xs. (log.watermark ≡ no_round) ⊎ ((log.watermark ≡ i) ⊎ HasEntry log.watermark xs)) c.one_entry_a_grid log.entries
+          (entries_before i log.entries)
+      (elim entry_there [ inl e ↦ inl e | inr x ↦ inr (inr x) ])
+      (entry_before i from)
+
   one_more : (r : Record) (x : Letter) → AnswerSays (entry_by matchmaker r ∷ history) x.from x.msg
       → (d : Letter) → Member d (x ∷ []) → AnswerSays (entry_by matchmaker r ∷ history) d.from d.msg
   one_more r x h = Member-one (λ (d : Letter). AnswerSays (entry_by matchmaker r ∷ history) d.from d.msg) x h
@@ -177,11 +187,11 @@ module _ (c : Cluster) (history : List KeptRecord) (sent : List Letter) (states 
 
   matchmaker_told : (from : RoleId) (x : Msg) → Answers (matchmaker_takes c matchmaker log from x)
   matchmaker_told from (msg.MatchA i g) =
-      at_work_told (match_a_row matchmaker log from i g)
+      at_work_told (match_a_row c matchmaker log from i g)
       (by_test Answers (is_before i log.watermark) _ _ (λ t. one _ tt)
       (λ low. either_way Answers (list_any (λ (e : Entry). is_before i e.round) log.entries) _ _ (one _ tt)
-      (either_way Answers (has_round i log.entries) _ _ (one _ (entry_before i low))
-      (either_way Answers (nat_le 16 (length log.entries)) _ _ (one _ tt) (one_more (kept.Match i g) _ (entry_before i low))))))
+      (either_way Answers (has_round i log.entries) _ _ (one _ (entry_again i low))
+      (either_way Answers (not (has_room c g log.entries)) _ _ (one _ tt) (one_more (kept.Match i g) _ (entry_before i low))))))
   matchmaker_told from (msg.GarbageA i g) =
       at_work_told (garbage_a_row matchmaker log from i g)
       (either_way Answers (is_before log.watermark i) _ _ (one_more (kept.Garbage i g) _ tt) (one _ tt))

@@ -4,11 +4,15 @@ use Rattle.cx_inv_run.proofs.Common.{inl, inr, ⊎_elim, arith, nat_lt, list_all
 use Rattle.cx_inv_run.proofs.Common.{Cluster, RoleId, Round, Shape, role, is_before, is_above, Entry, Letter, KeptRecord, same_number}
 use Rattle.cx_inv_run.proofs.Common.{first_set, entry, Member, names_set, all-Member, length-below, some_passes, before_cases, before-both}
 use Rattle.cx_inv_run.proofs.Common.{before-trans, before-to_at_least, before-not, least, HasRound}
+use Rattle.std.proofs.Common.{Bool}
 use Rattle.cx_base.specs.declared.role.Kind.TheVariants as kind
 use Rattle.cx_base.specs.Sets.{is_rising}
 use Rattle.cx_inv_run.proofs.Quorums.{most_meet}
 use Rattle.cx_inv_match.specs.Words.{how_many, HasBoot, HasTaken, HasNext, IsDecided, IsNth, IsClosed, IsMatched, IsMatchable, CanTake}
 use Rattle.cx_inv_match.specs.Words.{IsShut, IsWatermark, IsJoin, IsMember, SetFacts}
+use Rattle.cx_inv_run.proofs.Rounds.{before-from_at_most}
+use Rattle.cx_inv_match.specs.Words.{IsPassed, HasStopped, Covers}
+use Rattle.cx_inv_match.proofs.Parts.{covers_itself, covers_on}
 
 -- sets without a common member
 
@@ -163,12 +167,48 @@ module _ (c : Cluster) (history : List KeptRecord) (sent : List Letter) (facts :
         let e = a.1 in
         tells_join a.0 a.2 w es (omega arith) a.3 a.5
 
+  -- WHAT MEMBERS OF AN EARLIER SET HAD IS COVERED BY WHAT A LATER SET BEGINS WITH
+
+  -- more than half of the members of a set have stopped, and what they have is covered, or lies below the watermark
+  pub record IsTold (k : ℕ) (w : Round) (es : List Entry) : Type 0 where
+    pub set : List ℕ
+    pub nth : IsNth c history k set
+    pub who : ℕ → Bool
+    pub most : c.f < how_many set who
+    pub stopped : (m : ℕ) → who m ≡ true → HasStopped history (role kind.Matchmaker m)
+    pub told : (m : ℕ) → who m ≡ true → (j : Round) (g : Shape) → HasRound history (role kind.Matchmaker m) j g → (is_before j w ≡ true)
+        ⊎ Covers c j g es
+
+  joins_told : (s : List ℕ) (w : Round) (es : List Entry) (join : IsJoin c history s w es) (m : ℕ) → join.who m ≡ true
+      → (i : Round) (g : Shape) → HasRound history (role kind.Matchmaker m) i g → (is_before i w ≡ true) ⊎ Covers c i g es
+  joins_told s w es join m t i g x = elim (cases_Bool (is_before i w)) [ inl l ↦ inl l | inr l ↦ inr (join.told m t i g l x) ]
+
+  pub boot_told : (k n : ℕ) (p : List ℕ) → k < n → IsNth c history n p → (m : ℕ) → Member m p → (s : List ℕ) (w : Round) (es : List Entry)
+      → HasBoot history (role kind.Matchmaker m) s w es → IsTold k w es
+  boot_told k = tells_boot k (λ w es. IsTold k w es) base on
+    where
+      base : (s : List ℕ) (w : Round) (es : List Entry) → IsNth c history k s → IsJoin c history s w es → IsTold k w es
+      base s w es h join = record { set = s; nth = h; who = join.who; most = join.most; stopped = join.stopped; told = λ m t j g x.
+          joins_told s w es join m t j g x }
+
+      on : (s : List ℕ) (w : Round) (es : List Entry) (join : IsJoin c history s w es) (m : ℕ) → join.who m ≡ true
+          → (t : List ℕ) (v : Round) (xs : List Entry) → HasBoot history (role kind.Matchmaker m) t v xs → IsTold k v xs → IsTold k w es
+      on s w es join m t b v xs x h = record { set = h.set; nth = h.nth; who = h.who; most = h.most; stopped = h.stopped; told =
+          λ o p j g y. go j g (h.told o p j g y) }
+        where
+          go : (j : Round) (g : Shape) → (is_before j v ≡ true) ⊎ Covers c j g xs → (is_before j w ≡ true) ⊎ Covers c j g es
+          go j g (inl l) = inl (before-to_at_least j v w l (join.boots m t b v xs x))
+          go j g (inr y) = ⊎_elim
+              (λ l. inl (before-from_at_most j y.0.round w y.3 l))
+              (λ z. inr (covers_on c j g xs es y z))
+              (joins_told s w es join m t y.0.round y.0.grid (inr (b, v, xs, x, y.1)))
+
   -- A ROUND THAT WAS MATCHED ISN'T SHUT
 
   module _ (j : Round) where
-    -- the round is told, or lies below the watermark
-    abbrev Covers : Round → List Entry → Type 0
-    Covers w es = (is_before j w ≡ true) ⊎ ((g : Shape) × Member (entry j g) es)
+    -- the round is covered, or lies below the watermark
+    abbrev IsToldIn : Round → List Entry → Type 0
+    IsToldIn w es = (is_before j w ≡ true) ⊎ ((g : Shape) × (Covers c j g es × ((o : RoleId) × HasTaken history o j g)))
 
     -- a later round is told
     abbrev IsBehind : Round → List Entry → Type 0
@@ -176,7 +216,7 @@ module _ (c : Cluster) (history : List KeptRecord) (sent : List Letter) (facts :
 
     -- what a stopped member has is told by the join, or lies below its watermark
     told_or_below : (s : List ℕ) (w : Round) (es : List Entry) (join : IsJoin c history s w es) (m : ℕ) → join.who m ≡ true
-        → (i : Round) (g : Shape) → HasRound history (role kind.Matchmaker m) i g → (is_before i w ≡ true) ⊎ Member (entry i g) es
+        → (i : Round) (g : Shape) → HasRound history (role kind.Matchmaker m) i g → (is_before i w ≡ true) ⊎ Covers c i g es
     told_or_below s w es join m t i g x = elim (cases_Bool (is_before i w)) [ inl l ↦ inl l | inr l ↦ inr (join.told m t i g l x) ]
 
     -- what was taken is had
@@ -185,23 +225,30 @@ module _ (c : Cluster) (history : List KeptRecord) (sent : List Letter) (facts :
     taken_round m g (inr x) = inr (x.0, x.1, x.2, x.3, x.4)
 
     pub open_covers : (may : IsMatchable c history j) (n : ℕ) (p : List ℕ) → may.known.0 < n → IsNth c history n p → (m : ℕ) → Member m p
-        → (s : List ℕ) (w : Round) (es : List Entry) → HasBoot history (role kind.Matchmaker m) s w es → Covers w es
-    open_covers may = tells_boot may.known.0 Covers base on
+        → (s : List ℕ) (w : Round) (es : List Entry) → HasBoot history (role kind.Matchmaker m) s w es → IsToldIn w es
+    open_covers may = tells_boot may.known.0 IsToldIn base on
       where
-        base : (s : List ℕ) (w : Round) (es : List Entry) → IsNth c history may.known.0 s → IsJoin c history s w es → Covers w es
+        base : (s : List ℕ) (w : Round) (es : List Entry) → IsNth c history may.known.0 s → IsJoin c history s w es → IsToldIn w es
         base s w es h join =
             let e : s ≡ may.set = nth_once may.known.0 s may.set h may.known.1 in
             let x = most_meet c s join.who may.who (nth_length may.known.0 s h) join.most
             (subst (λ q. c.f < how_many q may.who) (sym e) may.most) in
             ⊎_elim
-            (λ r. ⊎_elim inl (λ k. inr (r.0, k)) (told_or_below s w es join x.0 x.2 j r.0 (taken_round (role kind.Matchmaker x.0) r.0 r.1)))
+            (λ r. ⊎_elim inl (λ k. inr (r.0, (k, (role kind.Matchmaker x.0, r.1))))
+                (told_or_below s w es join x.0 x.2 j r.0 (taken_round (role kind.Matchmaker x.0) r.0 r.1)))
             (λ can. absurd (can.1 (join.stopped x.0 x.2)))
             (may.each x.0 x.3)
 
         on : (s : List ℕ) (w : Round) (es : List Entry) (join : IsJoin c history s w es) (m : ℕ) → join.who m ≡ true
-            → (t : List ℕ) (v : Round) (xs : List Entry) → HasBoot history (role kind.Matchmaker m) t v xs → Covers v xs → Covers w es
+            → (t : List ℕ) (v : Round) (xs : List Entry) → HasBoot history (role kind.Matchmaker m) t v xs → IsToldIn v xs → IsToldIn w es
         on s w es join m k t v xs x (inl l) = inl (before-to_at_least j v w l (join.boots m k t v xs x))
-        on s w es join m k t v xs x (inr y) = ⊎_elim inl (λ z. inr (y.0, z)) (told_or_below s w es join m k j y.0 (inr (t, v, xs, x, y.1)))
+        on s w es join m k t v xs x (inr y) = ⊎_elim
+            (λ b. inl (below b))
+            (λ z. inr (y.0, (covers_on c j y.0 xs es y.1.0 z, y.1.1)))
+            (told_or_below s w es join m k y.1.0.0.round y.1.0.0.grid (inr (t, v, xs, x, y.1.0.1)))
+          where
+            below : is_before y.1.0.0.round w ≡ true → is_before j w ≡ true
+            below b = before-from_at_most j y.1.0.0.round w y.1.0.3 b
 
     pub shut_behind : (shut : IsShut c history j) (n : ℕ) (p : List ℕ) → shut.known.0 < n → IsNth c history n p → (m : ℕ) → Member m p
         → (s : List ℕ) (w : Round) (es : List Entry) → HasBoot history (role kind.Matchmaker m) s w es → IsBehind w es
@@ -210,7 +257,8 @@ module _ (c : Cluster) (history : List KeptRecord) (sent : List Letter) (facts :
         -- of a later round than j that a stopped member has
         later : (s : List ℕ) (w : Round) (es : List Entry) (join : IsJoin c history s w es) (m : ℕ) → join.who m ≡ true
             → (i : Round) (g : Shape) → is_before j i ≡ true → HasRound history (role kind.Matchmaker m) i g → IsBehind w es
-        later s w es join m k i g l x = ⊎_elim (below join.raised) (λ y. (entry i g, y, l)) (told_or_below s w es join m k i g x)
+        later s w es join m k i g l x = ⊎_elim (below join.raised) (λ y. (y.0, y.1, before-to_at_least j i y.0.round l y.3))
+            (told_or_below s w es join m k i g x)
           where
             below : IsWatermark history w es → is_before i w ≡ true → IsBehind w es
             below (inl e) b = absurd (true≢false (sym (subst (λ z. is_before i z ≡ true) e b) ∙ least i))
@@ -233,16 +281,16 @@ module _ (c : Cluster) (history : List KeptRecord) (sent : List Letter) (facts :
     member_of m i g x = facts.members m (inl (i, (g, inl x)))
 
     open_shut : (may : IsMatchable c history j) (shut : IsShut c history j) (k n : ℕ) → IsNth c history n may.set
-        → IsNth c history k shut.set → n ≡ may.known.0 → k ≡ shut.known.0 → (n < k) ⊎ (k ≤ n) → (k < n) ⊎ (n ≤ k) → ⊥
-    open_shut may shut zero n hn hk en ek (inl l) o = absurd (omega arith)
-    open_shut may shut (suc k) n hn hk en ek (inl l) o =
-        let x = some_passes c shut.set shut.who shut.most in
-        let r = shut.later x.0 x.2 in
-        let b = began k shut.set hk x.0 x.1 (member_of (role kind.Matchmaker x.0) r.0 r.1 r.3) in
+        → IsNth c history k shut.set
+        → n ≡ may.known.0 → k ≡ shut.known.0 → (n < k) ⊎ (k ≤ n) → (k < n) ⊎ (n ≤ k) → ⊥
+    open_shut may shut k n hn hk en ek (inl l) o =
+        let r = shut.earlier n (subst (λ z. n < z) ek l) in
+        let e : may.set ≡ r.0 = nth_once n may.set r.0 hn r.1 in
+        let x = most_meet c r.0 may.who r.2.who (nth_length n r.0 r.1) (subst (λ q. c.f < how_many q may.who) e may.most) r.2.most in
         ⊎_elim
-        (λ low. true≢false (sym low ∙ shut.low x.0 x.2 b.0 b.1 b.2 b.3))
-        (λ y. shut.never x.0 x.2 y.0 (inr (b.0, b.1, b.2, b.3, y.1)))
-        (open_covers may (suc k) shut.set (subst (λ z. z < suc k) en l) hk x.0 x.1 b.0 b.1 b.2 b.3)
+        (λ y. r.2.untaken x.0 x.3 y.0 y.1)
+        (λ can. can.1 (r.2.stopped x.0 x.3))
+        (may.each x.0 x.2)
     open_shut may shut k zero hn hk en ek (inr l) (inl b) = absurd (omega arith)
     open_shut may shut k (suc n) hn hk en ek (inr l) (inl b) =
         let x = some_passes c may.set may.who may.most in
@@ -272,7 +320,7 @@ module _ (c : Cluster) (history : List KeptRecord) (sent : List Letter) (facts :
         let x =
         most_meet c shut.set may.who shut.who (nth_length k shut.set hk) (subst (λ q. c.f < how_many q may.who) e may.most) shut.most in
         ⊎_elim
-        (λ r. shut.never x.0 x.3 r.0 (taken_round (role kind.Matchmaker x.0) r.0 r.1))
+        (λ r. shut.never x.0 x.3 r.0 r.1)
         (λ can. let y = shut.later x.0 x.3 in can.2 y.0 y.1 y.2 y.3)
         (may.each x.0 x.2)
 

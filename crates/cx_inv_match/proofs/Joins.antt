@@ -226,7 +226,8 @@ module _ (c : Cluster) (history : List KeptRecord) (sent : List Letter) (facts :
       stopped = λ m t. (own, (halted m t).2.stopped);
       told = λ m t j g l x.
           let h = halted m t in
-          join_exact h.0 h.1 (entry j g) l (h.2.all j g (at_most-trans h.0.answer.watermark water j (low_water h.0 h.1) l) x);
+          let y = h.2.all j g (at_most-trans h.0.answer.watermark water j (low_water h.0 h.1) l) x in
+          (y.0, join_exact h.0 h.1 y.0 (at_most-trans water j y.0.round l y.3) y.1, y.2, y.3, y.4);
       garbages = λ m t j g x. let h = halted m t in at_most-trans j h.0.answer.watermark water (h.2.garbages j g x) (low_water h.0 h.1);
       boots = λ m t s v xs x. let h = halted m t in at_most-trans v h.0.answer.watermark water (h.2.boots s v xs x) (low_water h.0 h.1);
       only = join_only;

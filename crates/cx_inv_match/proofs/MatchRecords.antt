@@ -7,9 +7,13 @@ use Rattle.cx_inv_run.proofs.Common.{itself-not_before, before-not, before-from_
 use Rattle.cx_inv_match.specs.Prelude.{HasMatch, HasGarbage, HasBoot, HasLog, HasStopped, IsUsed, IsCollected, IsMember, IsWatermark}
 use Rattle.cx_inv_match.specs.Prelude.{SetFacts, IsMatchmaker, Facts}
 use Rattle.cx_letter.specs.declared.kept.Record.TheVariants as kept
+use Rattle.cx_model.specs.Matchmaker.{beside, has_room}
+use Rattle.cx_model.specs.Facts.{Covers}
+use Rattle.cx_inv_run.proofs.Rounds.{at_most-trans}
 use Rattle.cx_inv_match.proofs.Grow.{Grows, grown_config, grown_round, grown_ballot, grown_watermark, grown_collected}
 use Rattle.cx_inv_match.proofs.SetLaws.{grown_sets}
-use Rattle.cx_inv_match.proofs.Parts.{entries-member, entries-there, with-member, with-older, with-itself}
+use Rattle.cx_inv_match.proofs.Parts.{entries-member, entries-there, with-member, with-older, with-itself, beside-member, beside-water}
+use Rattle.cx_inv_match.proofs.Parts.{covers_itself, covers_beside}
 use Rattle.cx_inv_match.proofs.Keep.{old_boots, old_nexts, old_ballots, old_had, more_own, old_matches, old_garbages}
 use Rattle.cx_inv_match.proofs.KeepFacts.{old_accepted, old_balloter, old_last_ballot, kept_facts, new_logs, old_owner, old_one_grid}
 use Rattle.cx_inv_match.proofs.KeepFacts.{old_last, old_asked, old_garbaged, old_acceptors, old_voted, old_logged}
@@ -23,7 +27,12 @@ module _ (c : Cluster) (history : List KeptRecord) (sent : List Letter) (states 
   -- a match
 
   module _ (above : (j : Round) → HasLog history me j → is_before j i ≡ true)
-      (at_watermark : is_before i (durable_of matchmaker_rules me history).watermark ≡ false) where
+      (at_watermark : is_before i (durable_of matchmaker_rules me history).watermark ≡ false)
+      (room : has_room c g (durable_of matchmaker_rules me history).entries ≡ true) where
+    -- the entries beside which the round is recorded
+    abbrev standing : List Entry
+    standing = beside (durable_of matchmaker_rules me history).watermark g (durable_of matchmaker_rules me history).entries
+
     match_cases : (m : RoleId) (j : Round) (h : Shape) → HasMatch (entry_by me (kept.Match i g) ∷ history) m j h
         → ((m ≡ me) × (j ≡ i) × (h ≡ g)) ⊎ HasMatch history m j h
     match_cases m j h x = ⊎_elim
@@ -58,17 +67,21 @@ module _ (c : Cluster) (history : List KeptRecord) (sent : List Letter) (states 
         (matchmaker_after (durable_of matchmaker_rules me history) (kept.Match i g))
     match_own = record {
       all = λ j h l x. ⊎_elim
-          (λ q. Member-second (entry j h) (durable_of matchmaker_rules me history).entries (entry i g ∷ []) (inl (rw (q.0, q.1) refl)))
-          (λ o. Member-first (entry j h) (durable_of matchmaker_rules me history).entries (entry i g ∷ []) ((facts.logs me).all j h l o))
+          (λ q. covers_itself c j h (standing ++ entry i g ∷ [])
+          (Member-second (entry j h) standing (entry i g ∷ []) (inl (rw (q.0, q.1) refl))))
+          (λ o. covers_beside c (durable_of matchmaker_rules me history) i j g h room (above j (h, inl o)) ((facts.logs me).all j h l o))
           (match_had j h x);
-      only = λ e m. ⊎_elim (λ o. ⊎_elim (λ y. inl (grown_round c history sent (entry_by me (kept.Match i g) ∷ history) sent grows_match me
-          e.round e.grid y)) (λ y. inr (inr y)) ((facts.logs me).only e o))
+      only = λ e m. ⊎_elim
+          (λ o. ⊎_elim (λ y. inl (grown_round c history sent (entry_by me (kept.Match i g) ∷ history) sent grows_match me e.round e.grid y))
+              (λ y. inr (inr y)) ((facts.logs me).only e (beside-member (durable_of matchmaker_rules me history) g e o)))
           (λ n. ⊎_elim (λ q. inl (inl (inl (ap (λ (y : Entry). entry_by me (kept.Match y.round y.grid)) q)))) (λ z. absurd z) n)
-          (Member-cases e (durable_of matchmaker_rules me history).entries (entry i g ∷ []) m);
+          (Member-cases e standing (entry i g ∷ []) m);
       from_watermark = λ e m. ⊎_elim
-          (λ o. (facts.logs me).from_watermark e o)
-          (λ n. ⊎_elim (λ q. subst (λ (y : Entry). is_before y.round (durable_of matchmaker_rules me history).watermark ≡ false) (sym q)
-          at_watermark) (λ z. absurd z) n) (Member-cases e (durable_of matchmaker_rules me history).entries (entry i g ∷ []) m);
+          (λ o. (facts.logs me).from_watermark e (beside-member (durable_of matchmaker_rules me history) g e o))
+          (λ n. ⊎_elim
+          (λ q. subst (λ (y : Entry). is_before y.round (durable_of matchmaker_rules me history).watermark ≡ false) (sym q) at_watermark)
+              (λ z. absurd z) n)
+          (Member-cases e standing (entry i g ∷ []) m);
       bound = λ j h x. (facts.logs me).bound j h (old_garbages me (kept.Match i g) history no me j h x);
       boots = λ s w es x. (facts.logs me).boots s w es (old_boots me (kept.Match i g) history no me s w es x);
       raised = more_entries (grown_watermark c history sent (entry_by me (kept.Match i g) ∷ history) sent grows_match
@@ -86,10 +99,13 @@ module _ (c : Cluster) (history : List KeptRecord) (sent : List Letter) (states 
       accepted = ⊎_elim inl (λ x. inr (inr x)) (facts.logs me).accepted;
     }
       where
-        more_entries : {w : Round} → IsWatermark (entry_by me (kept.Match i g) ∷ history) w (durable_of matchmaker_rules me history).entries
-            → IsWatermark (entry_by me (kept.Match i g) ∷ history) w ((durable_of matchmaker_rules me history).entries ++ entry i g ∷ [])
+        more_entries : IsWatermark (entry_by me (kept.Match i g) ∷ history) (durable_of matchmaker_rules me history).watermark
+            (durable_of matchmaker_rules me history).entries
+            → IsWatermark (entry_by me (kept.Match i g) ∷ history) (durable_of matchmaker_rules me history).watermark
+                (standing ++ entry i g ∷ [])
         more_entries (inl e) = inl e
-        more_entries (inr x) = inr (x.0, (x.1.0, Member-first _ (durable_of matchmaker_rules me history).entries (entry i g ∷ []) x.1.1))
+        more_entries (inr x) = inr (x.0, (x.1.0, Member-first _ standing (entry i g ∷ [])
+            (beside-water (durable_of matchmaker_rules me history) g x.1.0 x.1.1)))
 
     match_sets : SetFacts c (entry_by me (kept.Match i g) ∷ history)
     match_sets = grown_sets c history sent (entry_by me (kept.Match i g) ∷ history) sent grows_match facts.sets
@@ -169,9 +185,16 @@ module _ (c : Cluster) (history : List KeptRecord) (sent : List Letter) (states 
     garbage_own = record {
       all = λ j h l x.
           let above = before-to_at_least (durable_of matchmaker_rules me history).watermark i j raises l in
-          with-older i g (entries_since i (durable_of matchmaker_rules me history).entries) (entry j h)
-          (entries-there i (durable_of matchmaker_rules me history).entries (entry j h) l ((facts.logs me).all j h
-          (before-not (durable_of matchmaker_rules me history).watermark j above) (old_had me (kept.Garbage i g) history no no me j h x)));
+          let y : Covers c j h (durable_of matchmaker_rules me history).entries =
+          (facts.logs me).all j h (before-not (durable_of matchmaker_rules me history).watermark j above)
+              (old_had me (kept.Garbage i g) history no no me j h x) in (
+            y.0,
+            with-older i g (entries_since i (durable_of matchmaker_rules me history).entries) y.0
+                (entries-there i (durable_of matchmaker_rules me history).entries y.0 (at_most-trans i j y.0.round l y.3) y.1),
+            y.2,
+            y.3,
+            y.4,
+          );
       only = λ e m. ⊎_elim
           (λ q. inr (inl (ap (λ (y : Entry). entry_by me (kept.Garbage y.round y.grid)) q))) (λ o. ⊎_elim (λ y. inl (grown_round c history
           sent (entry_by me (kept.Garbage i g) ∷ history) sent grows_garbage me e.round e.grid y)) (λ y. inr (inr y))

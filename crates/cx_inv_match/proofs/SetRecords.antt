@@ -9,6 +9,7 @@ use Rattle.cx_letter.specs.declared.kept.Record.TheVariants as kept
 use Rattle.cx_inv_match.specs.Words.{HasMatch, HasBoot, HasStop, HasNext, HasBallot, IsUsed, IsMember, IsNextSet, IsBoot, SetFacts}
 use Rattle.cx_inv_match.specs.Facts.{IsMatchmaker, IsNextAsked, IsAsked, Facts}
 use Rattle.cx_inv_match.proofs.Grow.{Grows, grown_round, grown_ballot, grown_watermark}
+use Rattle.cx_inv_match.proofs.Parts.{covers_itself}
 use Rattle.cx_inv_match.proofs.SetLaws.{grown_sets}
 use Rattle.cx_inv_match.proofs.Keep.{old_boots, old_nexts, old_stops, old_ballots, old_had, more_own, old_matches, old_garbages}
 use Rattle.cx_inv_match.proofs.KeepFacts.{old_sets, old_accepted, old_balloter, new_last_ballot, old_last_ballot, kept_facts, new_logs}
@@ -243,7 +244,7 @@ module _ (c : Cluster) (history : List KeptRecord) (sent : List Letter) (states 
 
   boot_own : IsMatchmaker c (entry_by me (kept.Boot s w es) ∷ history) sent me (matchmaker_after before (kept.Boot s w es))
   boot_own = record {
-    all = λ j g l x. boot_all j g x;
+    all = λ j g l x. covers_itself c j g es (boot_all j g x);
     only = λ e m. inl (inr (s, w, es, inl refl, m));
     from_watermark = λ e m. (boot.join.only e m).1;
     bound = λ j g x. absurd (unused (inl (j, (g, inr (old_garbages me (kept.Boot s w es) history no me j g x)))));

@@ -6,10 +6,12 @@ use Rattle.cx_inv_run.proofs.Common.{matchmaker_row, matchmaker_takes, at_work, 
 use Rattle.cx_inv_run.proofs.Common.{match_a_row, set_of, names, names_body, names_entry, names_grid, names_role, names_round, names_set}
 use Rattle.cx_inv_run.proofs.Common.{Outcome, by_test, either_way, IsFit, Lands, State, plain, durable_of, none-Member, Member-all}
 use Rattle.cx_inv_run.proofs.Common.{matchmaker_kinds}
+use Rattle.std.specs.Prelude.{Bool, not}
 use Rattle.cx_base.specs.declared.role.Kind.TheVariants as kind
 use Rattle.cx_letter.specs.declared.input.Input.TheVariants as input
 use Rattle.cx_letter.specs.declared.message.Msg.TheVariants as msg
 use Rattle.cx_model.specs.Names.{names_ballot}
+use Rattle.cx_model.specs.Matchmaker.{has_room}
 use Rattle.cx_inv_open.specs.Fits.{Fitting}
 use Rattle.cx_inv_open.proofs.Keep.{calm_in, new_fits, lands}
 
@@ -26,8 +28,9 @@ all_before i es later none =
     Member-all (λ (e : Entry). is_before e.round i) es (λ e m. is_after i e.round
     (none-Member (λ (e : Entry). is_before i e.round) es later e m) (none-Member (λ (e : Entry). same_round e.round i) es none e m))
 
-has_room : (n : ℕ) → nat_le 16 n ≡ false → nat_lt n 16 ≡ true
-has_room n h = grind (arith, nat_tests)
+not_from : (b : Bool) → not b ≡ false → b ≡ true
+not_from true e = refl
+not_from false e = cc
 
 module _ (c : Cluster) (me : RoleId) (d : MatchmakerDurable) where
   abbrev Fine : Outcome (Unit {0}) → Type 0
@@ -41,13 +44,15 @@ module _ (c : Cluster) (me : RoleId) (d : MatchmakerDurable) where
   work_fine o h = set_fine _ (λ booted. by_test Fine (is_stopped d) _ _ (λ t. tt) (λ works. h booted works))
 
   match_fine : (from : RoleId) (i : Round) (g : Shape) → is_booted c me d ≡ true → is_stopped d ≡ false → names_round c i ≡ true
-      → names_grid c g ≡ true → Fine (match_a_row me d from i g)
+      → names_grid c g ≡ true
+      → Fine (match_a_row c me d from i g)
   match_fine from i g booted works round grid =
       by_test Fine (is_before i d.watermark) _ _ (λ t. tt)
       (λ high. by_test Fine (list_any (λ (e : Entry). is_before i e.round) d.entries) _ _ (λ t. tt)
       (λ last. by_test Fine (has_round i d.entries) _ _ (λ t. tt)
-      (λ new. by_test Fine (nat_le 16 (length d.entries)) _ _ (λ t. tt)
-      (λ room. (rw (booted, works, round, grid, high, all_before i d.entries last new, has_room (length d.entries) room) refl, refl)))))
+      (λ new. by_test Fine (not (has_room c g d.entries)) _ _ (λ t. tt)
+      (λ room. (rw (booted, works, round, grid, high, all_before i d.entries last new, not_from (has_room c g d.entries) room) refl,
+          refl)))))
 
   boots_fine : (from : RoleId) (s : List ℕ) (w : Round) (es : List Entry) → is_in me.index s ≡ true → names_set c s ≡ true
       → names_round c w ≡ true

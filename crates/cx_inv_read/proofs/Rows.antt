@@ -20,6 +20,7 @@ use Rattle.cx_base.specs.declared.why.Why.TheVariants.{Stopped}
 use Rattle.cx_letter.specs.declared.input.Input.TheVariants as input
 use Rattle.cx_letter.specs.declared.message.Msg.TheVariants as msg
 use Rattle.cx_model.specs.Reader.{Batch, finish}
+use Rattle.cx_model.specs.Matchmaker.{has_room}
 
 -- a message that is of no read
 abbrev pub IsPlain : Msg → Type 0
@@ -94,13 +95,14 @@ module _ (P : Letter → Type 0) (c : Cluster) (me : RoleId) (plain : (to : Role
   pub matchmaker_tells : (m : Msg) → ((u : Asking) → m ≡ msg.MatchRead u → is_booted c me d ≡ true → is_stopped d ≡ false
       → P (letter me from (msg.MatchReadAck u d.watermark d.entries))) → MatchmakerTells (matchmaker_takes c me d from m)
   matchmaker_tells (msg.MatchA i g) ack =
-      at_work_tells (match_a_row me d from i g)
+      at_work_tells (match_a_row c me d from i g)
       (λ b f. either_way MatchmakerTells (is_before i d.watermark) _ _ (matchmaker_one _ _ tt)
       (either_way MatchmakerTells (list_any (λ (e : Entry). is_before i e.round) d.entries) _ _ (matchmaker_one _ _ tt)
       (either_way MatchmakerTells (has_round i d.entries) _ _ (matchmaker_one _ _ tt)
-      (either_way MatchmakerTells (nat_le 16 (length d.entries)) _ _ (matchmaker_one _ _ tt) (matchmaker_one _ _ tt)))))
-  matchmaker_tells (msg.GarbageA i g) ack = at_work_tells (garbage_a_row me d from i g)
-      (λ b f. either_way MatchmakerTells (is_before d.watermark i) _ _ (matchmaker_one _ _ tt) (matchmaker_one _ _ tt))
+      (either_way MatchmakerTells (not (has_room c g d.entries)) _ _ (matchmaker_one _ _ tt) (matchmaker_one _ _ tt)))))
+  matchmaker_tells (msg.GarbageA i g) ack =
+      at_work_tells (garbage_a_row me d from i g) (λ b f. either_way MatchmakerTells (is_before d.watermark i) _ _ (matchmaker_one _ _ tt)
+          (matchmaker_one _ _ tt))
   matchmaker_tells (msg.MatchRead u) ack = at_work_tells (match_read_row me d from u) (λ b f. Member-one P _ (ack u refl b f))
   matchmaker_tells (msg.StopA b) ack =
       in_set_tells (stop_a_row me d from b)

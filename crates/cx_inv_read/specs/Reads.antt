@@ -9,6 +9,7 @@ use Rattle.cx_inv_match.specs.Prelude.{Deferred, log_in, AreOnce, answering_matc
 use Rattle.cx_inv_match.specs.Prelude.{IsChosenIn, IsCollected, IsKnown, SetFacts}
 use Rattle.cx_base.specs.declared.role.Kind.TheVariants as kind
 use Rattle.cx_letter.specs.declared.message.Msg.TheVariants as msg
+use Rattle.cx_model.specs.Facts.{Covers as IsGridTold}
 
 -- the longer history has all of the shorter
 abbrev pub Has : List KeptRecord → List KeptRecord → Type 0
@@ -36,10 +37,10 @@ IsRaised history w = (w ≡ no_round) ⊎ ((m : RoleId) × (g : Shape) × HasGar
 -- above it.
 pub record IsReadAnswer (c : Cluster) (asked history : List KeptRecord) (m : RoleId) (water : Round) (entries : List Entry) : Type 0 where
   pub running : HasStopped asked m → ⊥
-  pub all : (j : Round) (g : Shape) → is_before j water ≡ false → HasRound asked m j g → Member (entry j g) entries
+  pub all : (j : Round) (g : Shape) → is_before j water ≡ false → HasRound asked m j g → IsGridTold c j g entries
   pub began : Member m.index (first_set c)
       ⊎ ((t : List ℕ) × (v : Round) × (xs : List Entry) × HasBoot history m t v xs × (is_before water v ≡ false)
-      × ((e : Entry) → Member e xs → is_before e.round water ≡ false → Member e entries))
+      × ((e : Entry) → Member e xs → is_before e.round water ≡ false → IsGridTold c e.round e.grid entries))
   pub only : (e : Entry) → Member e entries → IsConfig history e.round e.grid
   pub raised : IsRaised history water
   pub has_watermark : (water ≡ no_round) ⊎ ((g : Shape) × Member (entry water g) entries)

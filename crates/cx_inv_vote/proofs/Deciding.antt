@@ -20,6 +20,7 @@ use Rattle.cx_model.specs.declared.states.Replacing.TheVariants.{Idle}
 use Rattle.cx_model.specs.Matchmaker.{boot_a_row}
 use Rattle.cx_model.specs.Replacer.{stop_a_to, next_a_to, boot_a_to, sets_to, others, sets_to_all, begin_in, stop_b_row, next_b_row}
 use Rattle.cx_model.specs.Replacer.{boot_b_row, with_seen, stop_nack_row, sets_row, tick_in}
+use Rattle.cx_model.specs.Matchmaker.{has_room}
 use Rattle.cx_inv_vote.proofs.Leading.{each}
 
 -- nobody is asked to begin by these
@@ -211,7 +212,7 @@ module _ (c : Cluster) (me : RoleId) (d : MatchmakerDurable) (m : Msg) where
   at_work_asked o h =
       in_set_asked (if is_stopped d then only_word why.Stopped tt else o) (by_test WasAsked (is_stopped d) _ _ (λ k t w es e. cc) (λ k. h))
 
-  match_a_asked : (from : RoleId) (i : Round) (g : Shape) → WasAsked (match_a_row me d from i g)
+  match_a_asked : (from : RoleId) (i : Round) (g : Shape) → WasAsked (match_a_row c me d from i g)
   match_a_asked from i g =
       by_test WasAsked (is_before i d.watermark) _ _
       (λ k t w es e. cc)
@@ -219,7 +220,7 @@ module _ (c : Cluster) (me : RoleId) (d : MatchmakerDurable) (m : Msg) where
       (λ k t w es e. cc)
       (λ k. by_test WasAsked (has_round i d.entries) _ _
       (λ k t w es e. cc)
-      (λ k. by_test WasAsked (nat_le 16 (length d.entries)) _ _
+      (λ k. by_test WasAsked (not (has_room c g d.entries)) _ _
       (λ k t w es e. cc)
       (λ k t w es e. cc))))
 
@@ -252,7 +253,7 @@ module _ (c : Cluster) (me : RoleId) (d : MatchmakerDurable) (m : Msg) where
 pub boot_asked : (c : Cluster) (me : RoleId) (d : MatchmakerDurable) (from : RoleId) (m : Msg)
     → WasAsked c me d m (matchmaker_takes c me d from m)
 boot_asked c me d from (msg.MatchA i g) =
-    at_work_asked c me d (msg.MatchA i g) (match_a_row me d from i g) (match_a_asked c me d (msg.MatchA i g) from i g)
+    at_work_asked c me d (msg.MatchA i g) (match_a_row c me d from i g) (match_a_asked c me d (msg.MatchA i g) from i g)
 boot_asked c me d from (msg.GarbageA i g) =
     at_work_asked c me d (msg.GarbageA i g) (garbage_a_row me d from i g) (garbage_a_asked c me d (msg.GarbageA i g) from i g)
 boot_asked c me d from (msg.MatchRead u) = at_work_asked c me d (msg.MatchRead u) (match_read_row me d from u) (λ t w es e. cc)

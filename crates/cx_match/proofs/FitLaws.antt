@@ -1,19 +1,20 @@
 -- A matchmaker keeps what it may keep.
-use Rattle.cx_role.proofs.Common.{bytes_eq, ◌≡◌, ℕ, ◌&&◌, true, false, nat_le, nat_lt, length, refl, list_all, list_any, arith, and_parts}
+use Rattle.cx_role.proofs.Common.{bytes_eq, ◌≡◌, ℕ, ◌&&◌, Bool, true, false, not, refl, list_all, list_any, arith, and_parts}
 use Rattle.cx_role.proofs.Common.{List, Option, None, Some, nat_tests, Cluster, RoleId, Round, Shape, same_role, same_round, is_before}
 use Rattle.cx_role.proofs.Common.{is_in, Letter, Take, Entry, Msg, names, names_round, Outcome, by_test, IsFit, matchmaker_rules, has_round}
 use Rattle.cx_model.specs.Names.{names_ballot, names_body, names_entry, names_grid, names_set}
 use Rattle.cx_role.proofs.Common.msg
 use Rattle.cx_role.proofs.Named.{body_named}
 use Rattle.cx_model.specs.Matchmaker.{MatchmakerDurable, matchmaker_row, matchmaker_takes, at_work, in_set, is_booted, is_stopped, set_of}
-use Rattle.cx_model.specs.Matchmaker.{garbage_a_row, match_a_row, stop_a_row, next_a_row, boot_in, boot_a_row}
+use Rattle.cx_model.specs.Matchmaker.{has_room, garbage_a_row, match_a_row, stop_a_row, next_a_row, boot_in, boot_a_row}
 use Rattle.cx_match.proofs.EntryLaws.{all_before, behind}
 
 abbrev Fits : Cluster → RoleId → MatchmakerDurable → Outcome (Unit {0}) → Type 0
 Fits c me d o = IsFit matchmaker_rules c me d o.kept
 
-has_room : (n : ℕ) → nat_le 16 n ≡ false → nat_lt n 16 ≡ true
-has_room n h = grind (arith, nat_tests)
+there_is : (b : Bool) → not b ≡ false → b ≡ true
+there_is true h = refl
+there_is false h = cc
 
 module _ (c : Cluster) (me : RoleId) (d : MatchmakerDurable) (from : RoleId) where
   in_set_fit : (o : Outcome (Unit {0})) → (is_booted c me d ≡ true → Fits c me d o) → Fits c me d (in_set c me d o)
@@ -25,13 +26,13 @@ module _ (c : Cluster) (me : RoleId) (d : MatchmakerDurable) (from : RoleId) whe
       by_test (Fits c me d) (is_stopped d) _ _ (λ _. tt) (fit booted)) (λ _. tt)
 
   match_a_fit : (i : Round) (g : Shape) → names_round c i ≡ true → names_grid c g ≡ true
-      → is_booted c me d ≡ true → is_stopped d ≡ false → Fits c me d (match_a_row me d from i g)
+      → is_booted c me d ≡ true → is_stopped d ≡ false → Fits c me d (match_a_row c me d from i g)
   match_a_fit i g named members booted working =
       by_test (Fits c me d) (is_before i d.watermark) _ _ (λ _. tt) (λ high.
       by_test (Fits c me d) (list_any (λ (e : Entry). is_before i e.round) d.entries) _ _ (λ _. tt) (λ last.
       by_test (Fits c me d) (has_round i d.entries) _ _ (λ _. tt) (λ new.
-      by_test (Fits c me d) (nat_le 16 (length d.entries)) _ _ (λ _. tt) (λ space.
-      (rw (booted, working, named, members, high, all_before i d.entries last new, has_room (length d.entries) space) refl, refl)))))
+      by_test (Fits c me d) (not (has_room c g d.entries)) _ _ (λ _. tt) (λ space.
+      (rw (booted, working, named, members, high, all_before i d.entries last new, there_is (has_room c g d.entries) space) refl, refl)))))
 
   garbage_a_fit : (i : Round) (g : Shape) → names_round c i ≡ true → names_grid c g ≡ true
       → is_booted c me d ≡ true → is_stopped d ≡ false → Fits c me d (garbage_a_row me d from i g)
@@ -62,7 +63,7 @@ module _ (c : Cluster) (me : RoleId) (d : MatchmakerDurable) (from : RoleId) whe
 
   takes_fit : (m : Msg) → names_body c m ≡ true → Fits c me d (matchmaker_takes c me d from m)
   takes_fit (msg.MatchA i g) named =
-      let a = and_parts (names_round c i) (names_grid c g) named in at_work_fit (match_a_row me d from i g) (match_a_fit i g a.0 a.1)
+      let a = and_parts (names_round c i) (names_grid c g) named in at_work_fit (match_a_row c me d from i g) (match_a_fit i g a.0 a.1)
   takes_fit (msg.GarbageA i g) named =
       let a = and_parts (names_round c i) (names_grid c g) named in at_work_fit (garbage_a_row me d from i g) (garbage_a_fit i g a.0 a.1)
   takes_fit (msg.MatchRead u) named = at_work_fit _ (λ _ _. tt)

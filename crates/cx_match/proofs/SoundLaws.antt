@@ -10,24 +10,66 @@ use Rattle.cx_field.specs.Fields.{goes_with, entries, grid, joined, round, round
 use Rattle.cx_letter.specs.Records.{kept_record}
 use Rattle.cx_field.proofs.ListLaws.{entries_fit, entries_snoc}
 use Rattle.cx_model.specs.Matchmaker.{matchmaker_after, matchmaker_fits, entry}
+use Rattle.cx_field.proofs.ListLaws.{entries_filter}
+use Rattle.cx_field.proofs.Rising.{list_all-filter}
+use Rattle.cx_role.proofs.Common.{by_test}
+use Rattle.cx_model.specs.Matchmaker.{has_room, has_grid, same_grid, without_grid, beside}
 use Rattle.cx_match.specs.Sound.{IsSound, matchmaker_durable}
 use Rattle.cx_match.proofs.EntryLaws.{at_most_255, with_own_fits, own_round, from_fewer, filter_fewer}
+
+is_below : (n k : ℕ) → nat_lt n k ≡ true → n < k
+is_below n k h = grind (arith, nat_tests)
+
+by_grid : (a b e l : Bool) → a ≡ false → (a || (b && e && l)) ≡ true → l ≡ true
+by_grid true b e l f t = cc
+by_grid false true true l f t = t
+by_grid false true false l f t = cc
+by_grid false false e l f t = cc
 
 has_room_or : (n : ℕ) (b : Bool) → n ≤ 254 → (nat_le n 254 || b) ≡ true
 has_room_or n b few = grind (arith, nat_tests)
 
 module _ (me : RoleId) (d : MatchmakerDurable) (i : Round) (g : Shape) (sound : IsSound me d) (real : round.fits i ≡ true)
     (fit : grid.fits g ≡ true) where
-  pub sound_match : list_all (λ (e : Entry). is_before e.round i) d.entries ≡ true → length d.entries < 16
+  abbrev stays : Entry → Bool
+  stays e = same_round e.round d.watermark || not (same_grid e.grid g)
+
+  -- those beside which the round is recorded are a part of the entries
+  beside_fits : entries.fits (beside d.watermark g d.entries) ≡ true
+  beside_fits =
+      by_test (λ (xs : List Entry). entries.fits xs ≡ true) (nat_lt (length d.entries) 16) d.entries (without_grid d.watermark g d.entries)
+      (λ t. sound.entries) (λ f. entries_filter stays d.entries sound.entries)
+
+  beside_before : list_all (λ (e : Entry). is_before e.round i) d.entries ≡ true
+      → list_all (λ (e : Entry). is_before e.round i) (beside d.watermark g d.entries) ≡ true
+  beside_before before =
+      by_test (λ (xs : List Entry). list_all (λ (e : Entry). is_before e.round i) xs ≡ true) (nat_lt (length d.entries) 16) d.entries
+          (without_grid d.watermark g d.entries)
+      (λ t. before) (λ f. list_all-filter stays (λ (e : Entry). is_before e.round i) d.entries before)
+
+  beside_few : (c : Cluster) → has_room c g d.entries ≡ true → length (beside d.watermark g d.entries) < 254
+  beside_few c space =
+      by_test (λ (xs : List Entry). length xs < 254) (nat_lt (length d.entries) 16) d.entries (without_grid d.watermark g d.entries)
+      (λ t. let l = is_below (length d.entries) 16 t in omega arith)
+      (λ f. let l = filter_fewer stays d.entries in
+      let k = is_below (length d.entries) 254 (by_grid (nat_lt (length d.entries) 16) c.one_entry_a_grid (has_grid g d.entries)
+          (nat_lt (length d.entries) 254) f space) in
+      omega arith)
+
+  pub sound_match : list_all (λ (e : Entry). is_before e.round i) d.entries ≡ true → (c : Cluster) → has_room c g d.entries ≡ true
       → IsSound me (matchmaker_after d (kept.Match i g))
-  sound_match before space =
+  sound_match before c space =
       let one : List Entry = entry i g ∷ [] in
-      let count : length (d.entries ++ one) ≤ 254 = omega (arith, length-append d.entries one) in
+      let few = beside_few c space in
+      let count : length (beside d.watermark g d.entries ++ one) ≤ 254 = omega (arith, length-append (beside d.watermark g d.entries) one)
+          in
       record {
         who = sound.who;
         watermark = sound.watermark;
-        entries = entries_snoc d.entries (entry i g) sound.entries (omega arith) (rw (real, fit) refl) before;
-        room = has_room_or (length (d.entries ++ one)) (has_round d.watermark (d.entries ++ one)) count;
+        entries = entries_snoc (beside d.watermark g d.entries) (entry i g) beside_fits (omega arith) (rw (real, fit) refl)
+            (beside_before before);
+        room = has_room_or (length (beside d.watermark g d.entries ++ one)) (has_round d.watermark (beside d.watermark g d.entries ++ one))
+            count;
         ballot = sound.ballot;
         accepted = sound.accepted;
         next = sound.next;
@@ -113,17 +155,14 @@ module _ (me : RoleId) (d : MatchmakerDurable) (sound : IsSound me d) where
 last_two : (a d e : Bool) → (a && d && e) ≡ true → (d ≡ true) × (e ≡ true)
 last_two a d e h = grind (arith, nat_tests)
 
-is_below : (n k : ℕ) → nat_lt n k ≡ true → n < k
-is_below n k h = grind (arith, nat_tests)
-
 -- a record that fits leaves a sound matchmaker sound
 pub after_sound : (c : Cluster) (me : RoleId) (d : MatchmakerDurable) (r : Record) → IsSound me d → fits r ≡ true
     → matchmaker_fits c me d r ≡ true → IsSound me (matchmaker_after d r)
 unfolding kept_record
 after_sound c me d (kept.Match i g) sound fit takes =
     let a = and_parts (round.fits i) (grid.fits g) fit in
-    let t = last_two _ (list_all (λ (e : Entry). is_before e.round i) d.entries) (nat_lt (length d.entries) 16) takes in
-    sound_match me d i g sound a.0 a.1 t.0 (is_below (length d.entries) 16 t.1)
+    let t = last_two _ (list_all (λ (e : Entry). is_before e.round i) d.entries) (has_room c g d.entries) takes in
+    sound_match me d i g sound a.0 a.1 t.0 c t.1
 after_sound c me d (kept.Garbage i g) sound fit takes =
     let a = and_parts (round.fits i) (grid.fits g) fit in
     sound_garbage me d i g sound a.0 a.1 (and_parts _ (is_before d.watermark i) takes).1

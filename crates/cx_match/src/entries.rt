@@ -2,10 +2,10 @@
 
 ghost use Rattle.std.specs.Prelude.{◌≡◌, ◌<◌, ◌≤◌};
 ghost use Rattle.cx_role.specs.Prelude.{vec_len, vec_capacity, IfOk, IsTrue, list_all, list_any, is_before, Entry};
-ghost use Rattle.cx_model.specs.Matchmaker.{entries_before, entries_since, greatest, has_round, with_own};
+ghost use Rattle.cx_model.specs.Matchmaker.{again_told, beside, entries_before, entries_since, greatest, has_grid, has_room, has_round, same_grid, with_own};
 ghost use Rattle.cx_field.specs.Fields as field;
 
-use cx_base::{Few, Grid, NoMemory, Round, copy_all};
+use cx_base::{Cluster, Few, Grid, JOINED, NoMemory, ROUNDS, Round, copy_all};
 use cx_field::{Entries, Entry};
 use std::alloc::Global;
 
@@ -54,6 +54,57 @@ pub fn all_entries(alloc: Global, entries: &[Entry]) -> Result<Entries, NoMemory
     ensures { IfOk result (λ list. list ≡ entries.now) }
 {
     Ok(Few::from_vec(copy_all(alloc, entries)?))
+}
+
+fn same_grid(one: &Grid, other: &Grid) -> bool
+    ensures { result ≡ same_grid one.now other.now }
+{
+    one.rows() == other.rows() && one.cols() == other.cols() && one.members() == other.members()
+}
+
+fn has_grid(entries: &[Entry], grid: &Grid) -> bool
+    ensures { result ≡ has_grid grid.now entries.now }
+{
+    entries.iter().any(|entry| same_grid(&entry.grid, grid))
+}
+
+/// Whether a round with this grid can be recorded: fewer than 16 are, or the cluster has one entry a grid, and the round can
+/// take the place of one with its grid (this project's own).
+pub fn has_room(cluster: &Cluster, grid: &Grid, entries: &[Entry]) -> bool
+    ensures { result ≡ has_room cluster.now grid.now entries.now }
+{
+    entries.len() < ROUNDS
+        || (cluster.one_entry_a_grid && has_grid(entries, grid) && entries.len() < JOINED)
+}
+
+/// Where 16 rounds or more are recorded, takes out those with this grid, but for the retirement watermark, whose grid knows
+/// what is chosen. A round with the grid is recorded in their place.
+pub fn make_room(entries: &mut Vec<Entry>, watermark: Round, grid: &Grid)
+    ensures items { entries.new.items ≡ beside watermark grid.now entries.old.items }
+    ensures fewer { vec_len entries.new ≤ vec_len entries.old }
+    ensures room { vec_capacity entries.new ≡ vec_capacity entries.old }
+{
+    if entries.len() >= ROUNDS {
+        entries.retain(|entry| entry.round == watermark || !same_grid(&entry.grid, grid));
+    }
+}
+
+/// The entries that a repeat tells: the earlier ones, or all where the cluster has one entry a grid, for the round's own may
+/// have taken the place of an earlier one (this project's own).
+pub fn entries_again(
+    alloc: Global,
+    cluster: &Cluster,
+    entries: &[Entry],
+    round: Round,
+) -> Result<Entries, NoMemory>
+    requires { IsTrue (field.entries.fits entries.now) }
+    ensures told { IfOk result (λ list. list ≡ again_told cluster.now round entries.now) }
+    ensures fit { IfOk result (λ list. IsTrue (field.entries.fits list)) }
+{
+    if cluster.one_entry_a_grid {
+        return all_entries(alloc, entries);
+    }
+    earlier_entries(alloc, entries, round)
 }
 
 fn keep_from(entries: &mut Vec<Entry>, round: Round)

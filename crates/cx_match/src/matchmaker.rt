@@ -11,7 +11,7 @@ use std::alloc::Global;
 use std::marker::Model;
 
 /// A matchmaker: the round below which rounds are retired, and the rounds that were recorded with their grids, in rising
-/// order (JSys 2021). It records a round only while it has fewer than 16.
+/// order (JSys 2021). It records a round only while it has fewer than 16, or in the place of those with the same grid.
 ///
 /// It is of one set for ever: the first one, or the one in which it began with what the members of an earlier set had. A ballot
 /// stops it: from then on it answers only who replaces it (JSys 2021: a consensus among the old on who follows them).

@@ -7,8 +7,8 @@ ghost use Rattle.cx_letter.specs.Records.{fits as record_fits};
 ghost use Rattle.cx_role.specs.Role.{Refuses};
 
 use crate::Matchmaker;
-use crate::entries::{are_before, retire};
-use cx_base::{NoMemory, ROUNDS, copy_all};
+use crate::entries::{are_before, has_room, make_room, retire};
+use cx_base::{NoMemory, copy_all};
 use cx_field::Entry;
 use cx_keep::Keeper;
 use cx_letter::Record;
@@ -42,7 +42,7 @@ impl Matchmaker {
                     && names_grid(&self.cluster, grid)
                     && !round.is_before(&self.watermark)
                     && are_before(&self.entries, *round)
-                    && self.entries.len() < ROUNDS
+                    && has_room(&self.cluster, grid, &self.entries)
             }
             Record::Garbage { round, grid } => {
                 self.is_at_work()
@@ -88,10 +88,12 @@ impl Matchmaker {
     {
         match what {
             Record::Match { round, grid } => {
-                self.entries.push(Entry {
+                self.entries.reserve(1)?;
+                make_room(&mut self.entries, self.watermark, grid);
+                self.entries.push_reserved(Entry {
                     round: *round,
                     grid: *grid,
-                })?;
+                });
                 Ok(())
             }
             Record::Garbage { round, grid } => {

@@ -6,9 +6,12 @@ ghost use Rattle.cx_model.specs.Matchmaker.{garbage_a_row, matchmaker_rules, mat
 ghost use Rattle.cx_field.specs.Fields as field;
 
 use crate::Matchmaker;
-use crate::entries::{all_entries, earlier_entries, has_entry, has_later, last_round, retire};
+use crate::entries::{
+    all_entries, earlier_entries, entries_again, has_entry, has_later, has_room, last_round, make_room,
+    retire,
+};
 use crate::records::keep_own;
-use cx_base::{Grid, NoMemory, ROUNDS, RoleId, Round, Why};
+use cx_base::{Grid, NoMemory, RoleId, Round, Why};
 use cx_field::{Asking, Entry, NackReason};
 use cx_keep::Keeper;
 use cx_letter::{Record, garbage_b, match_b, match_nack, match_read_ack};
@@ -16,8 +19,8 @@ use cx_role::{Outbox, StepFault};
 
 impl Matchmaker {
     /// A leader asks that a round be recorded, and for the earlier rounds and their grids (JSys 2021). A round below the
-    /// retirement watermark, one below another that is recorded, and one where there are 16 or more are refused (the limit
-    /// is this project's own).
+    /// retirement watermark, one below another that is recorded, and one for which there is no room are refused (the limit
+    /// of 16 is this project's own).
     pub(crate) fn match_a<K: Keeper>(
         &mut self,
         keeper: &mut K,
@@ -31,7 +34,7 @@ impl Matchmaker {
         requires round { IsTrue (field.round.fits round) }
         requires grid { IsTrue (field.grid.fits grid) }
         ensures { IsStep K.append_gives K.tells matchmaker_rules self.old
-            (match_a_row self.old.me self.old.durable from round grid)
+            (match_a_row self.old.cluster self.old.me self.old.durable from round grid)
             result self.new keeper.old keeper.new out.new.list }
     {
         if round.is_before(&self.watermark) {
@@ -52,12 +55,12 @@ impl Matchmaker {
             return Ok(Why::Later);
         }
         if has_entry(&self.entries, round) {
-            let entries = earlier_entries(self.alloc, &self.entries, round)?;
+            let entries = entries_again(self.alloc, &self.cluster, &self.entries, round)?;
             out.room(1)?;
             out.push(match_b(self.me.index, from.index, round, self.watermark, entries));
             return Ok(Why::Same);
         }
-        if self.entries.len() >= ROUNDS {
+        if !has_room(&self.cluster, &grid, &self.entries) {
             let last = last_round(&self.entries);
             out.room(1)?;
             out.push(match_nack(self.me.index, from.index, round, NackReason::Full, last));
@@ -67,6 +70,7 @@ impl Matchmaker {
         self.entries.reserve(1)?;
         out.room(1)?;
         keep_own(keeper, &mut self.live, Record::Match { round, grid })?;
+        make_room(&mut self.entries, self.watermark, &grid);
         self.entries.push_reserved(Entry { round, grid });
         out.push(match_b(self.me.index, from.index, round, self.watermark, entries));
         Ok(Why::Matched)

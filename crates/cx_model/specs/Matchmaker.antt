@@ -1,7 +1,7 @@
 -- The matchmaker's rows: it records which grid each round uses, and is replaced as a member of a set (JSys 2021; the rows of being replaced
 -- are this project's own).
-use Rattle.std.specs.Prelude.{ℕ, ◌+◌, ◌*◌, ◌-◌, bytes_eq, Bool, true, false, not, ◌&&◌, nat_lt, nat_le, filter, if◌then◌else◌, List, []}
-use Rattle.std.specs.Prelude.{◌∷◌, ◌++◌, length, slice_get, Option, None, Some}
+use Rattle.std.specs.Prelude.{ℕ, ◌+◌, ◌*◌, ◌-◌, ◌==◌, bytes_eq, Bool, true, false, not, ◌&&◌, ◌||◌, nat_lt, nat_le, filter}
+use Rattle.std.specs.Prelude.{if◌then◌else◌, List, [], ◌∷◌, ◌++◌, length, slice_get, Option, None, Some}
 use Rattle.cx_letter.specs.Prelude.{list_all, list_any, option_map_or, Cluster, Matchmaker, RoleId, Round, Full, Idle, Old, Same, Stranger}
 use Rattle.cx_letter.specs.Prelude.{Unasked, Shape, is_in, same_role, below, is_before, same_round, no_round, Letter, letter, Entry}
 use Rattle.cx_letter.specs.Prelude.{NackReason, Asking}
@@ -68,19 +68,39 @@ greatest es = option_map_or (λ (e : Entry). e.round) (slice_get es (length es -
 abbrev pub with_own : Round → Shape → List Entry → List Entry
 with_own i g es = if has_round i es then es else entry i g ∷ es
 
+-- whether two grids are the same: their sides and their members
+abbrev pub same_grid : Shape → Shape → Bool
+same_grid g h = g.rows == h.rows && g.cols == h.cols && bytes_eq g.members h.members
+
+abbrev pub has_grid : Shape → List Entry → Bool
+has_grid g es = list_any (λ (e : Entry). same_grid e.grid g) es
+
+-- without the entries with this grid, but for the one of the retirement watermark
+abbrev pub without_grid : Round → Shape → List Entry → List Entry
+without_grid w g es = filter (λ (e : Entry). same_round e.round w || not (same_grid e.grid g)) es
+
+-- the entries beside which a round with this grid is recorded: all where there are fewer than 16, else it takes the place of those with it
+abbrev pub beside : Round → Shape → List Entry → List Entry
+beside w g es = if nat_lt (length es) 16 then es else without_grid w g es
+
+-- Whether there is room for a round with this grid: there are fewer than 16 entries; or, where the cluster has one entry a grid, it can
+-- take the place of one. After a replacement there may be up to 254: fewer leave room for one more, and for that of a retirement.
+abbrev pub has_room : Cluster → Shape → List Entry → Bool
+has_room c g es = nat_lt (length es) 16 || (c.one_entry_a_grid && has_grid g es && nat_lt (length es) 254)
+
 abbrev pub matchmaker_after : MatchmakerDurable → Record → MatchmakerDurable
-matchmaker_after d (kept.Match i g) = record d { entries = d.entries ++ entry i g ∷ [] }
+matchmaker_after d (kept.Match i g) = record d { entries = beside d.watermark g d.entries ++ entry i g ∷ [] }
 matchmaker_after d (kept.Garbage i g) = record d { watermark = i; entries = with_own i g (entries_since i d.entries) }
 matchmaker_after d (kept.Stop b) = record d { ballot = b }
 matchmaker_after d (kept.Next b s) = record d { ballot = b; accepted = b; next = s }
 matchmaker_after d (kept.Boot s w es) = record d { booted = Some s; watermark = w; entries = es }
 matchmaker_after d other = d
 
--- whether the matchmaker could have appended this record; it records at most 16 rounds
+-- whether the matchmaker could have appended this record
 abbrev pub matchmaker_fits : Cluster → RoleId → MatchmakerDurable → Record → Bool
 matchmaker_fits c me d (kept.Match i g) =
     is_booted c me d && not (is_stopped d) && names_round c i && names_grid c g && not (is_before i d.watermark)
-    && list_all (λ (e : Entry). is_before e.round i) d.entries && nat_lt (length d.entries) 16
+    && list_all (λ (e : Entry). is_before e.round i) d.entries && has_room c g d.entries
 matchmaker_fits c me d (kept.Garbage i g) =
     is_booted c me d && not (is_stopped d) && names_round c i && names_grid c g && is_before d.watermark i
 matchmaker_fits c me d (kept.Stop b) = is_booted c me d && names_ballot c b && is_before d.ballot b
@@ -93,16 +113,25 @@ matchmaker_fits c me d other = false
 abbrev pub match_b_to : RoleId → RoleId → Round → MatchmakerDurable → Letter
 match_b_to me leader i d = letter me leader (msg.MatchB i d.watermark (entries_before i d.entries))
 
+-- What a repeat tells: the earlier entries, or all where the cluster has one entry a grid, for the round's own may have taken the place of
+-- an earlier one.
+abbrev pub again_told : Cluster → Round → List Entry → List Entry
+again_told c i es = if c.one_entry_a_grid then es else entries_before i es
+
+abbrev pub match_again_to : Cluster → RoleId → RoleId → Round → MatchmakerDurable → Letter
+match_again_to c me leader i d = letter me leader (msg.MatchB i d.watermark (again_told c i d.entries))
+
 abbrev pub match_nack_to : RoleId → RoleId → Round → NackReason → Round → Letter
 match_nack_to me leader i reason other = letter me leader (msg.MatchNack i reason other)
 
 -- a leader asks for the earlier rounds and their grids
-abbrev pub match_a_row : RoleId → MatchmakerDurable → RoleId → Round → Shape → Outcome (Unit {0})
-match_a_row me d from i g =
+abbrev pub match_a_row : Cluster → RoleId → MatchmakerDurable → RoleId → Round → Shape → Outcome (Unit {0})
+match_a_row c me d from i g =
     if is_before i d.watermark then replied Collected tt (match_nack_to me from i nack.Collected d.watermark ∷ [])
-    else if list_any (λ (e : Entry). is_before i e.round) d.entries then replied Later tt (match_nack_to me from i nack.Later
-    (greatest d.entries) ∷ []) else if has_round i d.entries then replied Same tt (match_b_to me from i d ∷ [])
-    else if nat_le 16 (length d.entries) then replied Full tt (match_nack_to me from i nack.Full (greatest d.entries) ∷ [])
+    else if list_any (λ (e : Entry). is_before i e.round) d.entries
+    then replied Later tt (match_nack_to me from i nack.Later (greatest d.entries) ∷ [])
+    else if has_round i d.entries then replied Same tt (match_again_to c me from i d ∷ [])
+    else if not (has_room c g d.entries) then replied Full tt (match_nack_to me from i nack.Full (greatest d.entries) ∷ [])
     else record { why = Matched; kept = Some (kept.Match i g); volatile = tt; sends = match_b_to me from i d ∷ [] }
 
 abbrev pub garbage_b_to : RoleId → RoleId → Round → Letter
@@ -163,7 +192,7 @@ abbrev pub at_work : Cluster → RoleId → MatchmakerDurable → Outcome (Unit 
 at_work c me d o = in_set c me d (if is_stopped d then only_word Stopped tt else o)
 
 abbrev pub matchmaker_takes : Cluster → RoleId → MatchmakerDurable → RoleId → Msg → Outcome (Unit {0})
-matchmaker_takes c me d from (msg.MatchA i g) = at_work c me d (match_a_row me d from i g)
+matchmaker_takes c me d from (msg.MatchA i g) = at_work c me d (match_a_row c me d from i g)
 matchmaker_takes c me d from (msg.GarbageA i g) = at_work c me d (garbage_a_row me d from i g)
 matchmaker_takes c me d from (msg.MatchRead u) = at_work c me d (match_read_row me d from u)
 matchmaker_takes c me d from (msg.StopA b) = in_set c me d (stop_a_row me d from b)

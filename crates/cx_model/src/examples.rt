@@ -30,6 +30,7 @@ ghost use Rattle.cx_model.specs.ExamplesLowerRoundIsRefused.{LowerRoundIsRefused
 ghost use Rattle.cx_model.specs.ExamplesMatchmakersAreReplaced.{MatchmakersAreReplaced};
 ghost use Rattle.cx_model.specs.ExamplesOldAnswerIsNotCounted.{OldAnswerIsNotCounted};
 ghost use Rattle.cx_model.specs.ExamplesOlderRoundIsRefused.{OlderRoundIsRefused};
+ghost use Rattle.cx_model.specs.ExamplesOneEntryAGrid.{OneEntryAGrid};
 ghost use Rattle.cx_model.specs.ExamplesOnePut.{OnePut};
 ghost use Rattle.cx_model.specs.ExamplesOvertakenCommand.{OvertakenCommand};
 ghost use Rattle.cx_model.specs.ExamplesOwnEntryStays.{OwnEntryStays};
@@ -294,6 +295,12 @@ pub fn read_asks_the_next_set()
 /// A leader and a replica have a window of 32 slots, a matchmaker records 16 rounds, and the numbers of rounds end.
 pub fn limits()
     ensures { Limits }
+{}
+
+/// A full matchmaker of a cluster with one entry a grid records a round in the place of the earlier ones with its grid, but
+/// for its retirement watermark. It refuses a round with another grid. A repeat tells the round's own entry too.
+pub fn one_entry_a_grid()
+    ensures { OneEntryAGrid }
 {}
 
 /// The only replica forgets its value, has the map and the answers in its place, and goes on with the next command. If it

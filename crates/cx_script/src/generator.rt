@@ -24,6 +24,8 @@ pub fn gen_cluster() -> Cluster
         base_port: None,
         pool: 3,
         replacers: 0,
+        one_entry_a_grid: false,
+        own_proxies: false,
     }
 }
 

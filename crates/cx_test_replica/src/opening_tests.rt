@@ -80,6 +80,8 @@ fn cluster() -> Cluster
         base_port: None,
         pool: 3,
         replacers: 0,
+        one_entry_a_grid: false,
+        own_proxies: false,
     }
 }
 

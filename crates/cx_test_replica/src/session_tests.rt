@@ -22,6 +22,8 @@ const CLUSTER: Cluster = Cluster {
     base_port: None,
     pool: 3,
     replacers: 0,
+    one_entry_a_grid: false,
+    own_proxies: false,
 };
 
 // Client 0's command number 1, put a 1, is chosen for slot 0; told to replica 1.

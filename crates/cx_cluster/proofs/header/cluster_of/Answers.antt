@@ -19,4 +19,6 @@ returns c = rw (
   ← c.in_ok-base_port.ensures,
   c.in_ok-pool.ensures.2,
   c.in_ok-replacers.ensures.2,
+  c.in_ok-one_entry_a_grid.ensures.2,
+  c.in_ok-own_proxies.ensures.2,
 ) (ap Ok (same_cluster _ _ _))
