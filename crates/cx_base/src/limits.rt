@@ -17,7 +17,8 @@ pub const SLOTS: u64 = 1 << 40;
 
 // A cluster.
 
-/// The greatest f, the number of stores of each kind that a cluster survives the loss of: a set of matchmakers has at most 7.
+/// The greatest f. A cluster outlives the loss of f of a set of 2f + 1 matchmakers, and of f of 2f + 1 replicas; of acceptors
+/// it needs a whole row and a whole column of a grid, whatever f is. A set of matchmakers has at most 7.
 pub const MAX_F: u16 = 3;
 
 /// The most members of a set of matchmakers, which are 2f + 1, so that a set is a value that is copied.

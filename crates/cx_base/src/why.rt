@@ -10,7 +10,7 @@ pub enum Why {
     Absent,
     /// The matchmaker accepted the next set.
     Accepted,
-    /// The pending read begins anew.
+    /// A waiting read now asks what was asked again; or the batch's first read begins it anew, with all that wait.
     Again,
     /// The read, or session read, was answered.
     Answered,
@@ -28,7 +28,7 @@ pub enum Why {
     Bypassed,
     /// A value is now known to be chosen.
     Chosen,
-    /// The round is below the watermark.
+    /// The round is below the retirement watermark.
     Collected,
     /// The matchmakers were asked to forget earlier rounds.
     Collecting,
@@ -46,23 +46,23 @@ pub enum Why {
     Down,
     /// The value waits for those before it.
     Early,
-    /// There is no next round.
+    /// There is no next round, ballot or turn.
     End,
     /// The value was sent again.
     Fetched,
-    /// There is no room for more.
+    /// There is no room for more; of a replacer: too many rounds to join.
     Full,
     /// The matchmaker stopped.
     Halted,
     /// A client has it.
     Heard,
-    /// It was noted.
+    /// It was noted, or gathered for a batch.
     Held,
     /// There is nothing to do.
     Idle,
-    /// The watermark was kept.
+    /// The chosen watermark was kept.
     Informed,
-    /// The watermark is sent to the grid.
+    /// The chosen watermark is sent to the grid.
     Informing,
     /// The role crashed while its store was changed, and the change is kept.
     Kept,
@@ -84,7 +84,7 @@ pub enum Why {
     Old,
     /// The role runs again.
     Opened,
-    /// The slot lies below the watermark.
+    /// The slot lies below the chosen watermark; of a replica: it has the slot already, or has forgotten what it is asked for.
     Past,
     /// The acceptors of earlier grids are asked.
     Phase1,
@@ -94,7 +94,7 @@ pub enum Why {
     Proposed,
     /// The read waits until the asking that runs is done.
     Queued,
-    /// The watermark of rounds was raised.
+    /// The retirement watermark was raised.
     Raised,
     /// The next set of matchmakers is at work.
     Replaced,
@@ -102,7 +102,8 @@ pub enum Why {
     Resent,
     /// All earlier rounds are retired.
     Retired,
-    /// It was taken before.
+    /// It was taken before; what is answered to it is answered again. So a matchmaker says where it is to forget rounds below one
+    /// that isn't above its retirement watermark.
     Same,
     /// The request went out.
     Sent,
@@ -110,7 +111,7 @@ pub enum Why {
     Snapped,
     /// The request may not be made any more.
     Stale,
-    /// A round or a read began.
+    /// A round, a ballot or a batch of reads began.
     Started,
     /// The matchmaker has stopped.
     Stopped,
@@ -126,9 +127,9 @@ pub enum Why {
     Up,
     /// The vote was kept.
     Voted,
-    /// A slot is not known to be chosen yet.
+    /// Earlier rounds may not be retired as yet, since a slot is not known to be chosen.
     Waiting,
-    /// The slot lies past the window.
+    /// The slot lies past the window; of a leader: no slot of it is free.
     Window,
 }
 

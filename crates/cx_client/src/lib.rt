@@ -1,7 +1,7 @@
 //! A client of a node: a list of requests, up to a window of them outstanding at a time, sent again
 //! until answered.
 //!
-//! Its theorems are: each call is the model's step; what a client sends is its own
+//! Its theorems are: each call is the model's step, and what a client sends is its own
 //! (`sends_are_own`); a datagram completes an outstanding request exactly where it answers it, and
 //! no other (`completes_once`); no uncompleted number is at or below a floor that is sent
 //! (`floors_are_below`); what becomes outstanding is sent (`windows_move`); a session tells the

@@ -2,7 +2,7 @@
 //!
 //! Between a leader's round and its next one there is no other, so it knows already what a first
 //! phase could report. Its theorem is `bypassed_rounds_law`: in every run a step that answers
-//! `bypassed` asks no acceptor, and proposes in each slot from the chosen watermark to the end what its
+//! `bypassed` asks no acceptor; it proposes in each slot from the chosen watermark to the end what its
 //! leader's round before proposed there, and nothing else.
 #![tactic(auto)]
 

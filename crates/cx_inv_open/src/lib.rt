@@ -1,9 +1,9 @@
 //! Opening again: a role refuses no record of its store.
 //!
 //! A role that is opened tests each record of its store, since a store may be another role's. Its
-//! theorem is `roles_reopen_law`: in every run no role refuses a record of the list in its store, also
-//! where that was renewed, so that each can be opened again at any moment; of a replica, in runs of
-//! events that the world takes. Since a second Boot would be refused, a matchmaker keeps one at most
+//! theorem is `roles_reopen_law`: in every run (of a replica: of events that the world takes) no role
+//! refuses a record of the list in its store, also where that was renewed, so that each can be opened
+//! again at any moment. Since a second Boot would be refused, a matchmaker keeps one at most
 //! (`matchmakers_begin_once`).
 #![tactic(auto)]
 

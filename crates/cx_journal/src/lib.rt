@@ -1,6 +1,6 @@
 //! The journal of a role: its records on a disk, which outlive a crash at any moment.
 //!
-//! Its theorems are: after an append answered with Ok every crash leaves the record; a crash at any
+//! Its theorems are: after an append answered with Ok every crash leaves the record, and a crash at any
 //! moment of one leaves the records from before, or those and the one in flight; `open` gives
 //! exactly the records of the bytes, or the first break with its place. One list over two disks has the
 //! same, whatever a crash leaves of the one beside whatever it leaves of the other; and a crash at any

@@ -26,7 +26,7 @@ use Rattle.cx_model.specs.Rules.{Rules}
 pub record ReplacerDurable : Type 0 where
   pub own : Round
 
--- What it is doing; the greatest round that it was told of; the set that it knows; the set that is to follow: the one that was ordered,
+-- What it is doing; the greatest ballot that it was told of; the set that it knows; the set that is to follow: the one that was ordered,
 -- then the one that is to be decided; the answers of stopped matchmakers that it counted, and who answered the later questions; and what
 -- the members of the next set begin with.
 pub record ReplacerVolatile : Type 0 where

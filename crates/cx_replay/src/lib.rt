@@ -1,8 +1,8 @@
 //! Runs a schedule as it is read, line by line, or the generated events of a seed.
 //!
-//! Its theorems are the contracts of `replay` and `run_gen`: what was written is exactly the trace
-//! and summary of the input's run, or the short summary of the seed's, or a prefix of it and a
-//! status that says why; `replay` names exactly the first bad line; the run is lawful after each
+//! Its theorems are the contracts of `replay` and `run_gen`: what was written is exactly the
+//! text of the run, or a prefix of it and a status that says why; of an input it is the trace and the
+//! summary, of a seed the short summary; `replay` names exactly the first bad line; the run is lawful after each
 //! event.
 #![tactic(auto)]
 
