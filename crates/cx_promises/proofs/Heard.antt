@@ -1,10 +1,12 @@
 -- A client is answered by no fewer values than it had heard of, whether it asked a reader or, in a session, a replica.
-use Rattle.cx_model.specs.Prelude.{◌≡◌, ℕ, ◌≤◌, false, inl, inr, List, ◌++◌, Option, Cluster, Event, RoleId, Token, role, Letter, letter, Msg}
-use Rattle.cx_model.specs.Prelude.{Member, OfEveryRun, WasRead, SessionsComeAfterHeard, mark_told, was_asked, run, chosen_prefix}
+use Rattle.cx_model.specs.Prelude.{◌≡◌, ℕ, ◌≤◌, false, List, ◌++◌, Option, Cluster, Event, RoleId, Token, role, Letter, letter, Msg}
+use Rattle.cx_model.specs.Prelude.{Member, OfEveryRun, SessionsComeAfterHeard, run, chosen_prefix}
 use Rattle.cx_base.specs.declared.role.Kind.TheVariants as kind
 use Rattle.cx_letter.specs.declared.message.Msg.TheVariants as msg
-use Rattle.cx_model.specs.Promises.{IsRightRead, WantsText}
-use Rattle.cx_inv_run.proofs.Common.{ap, subst, arith, Member-at}
+use Rattle.cx_model.specs.Heard.{mark_told}
+use Rattle.cx_model.specs.History.{was_asked}
+use Rattle.cx_model.specs.Promises.{IsRightRead, WantsText, WasRead}
+use Rattle.cx_inv_run.proofs.Common.{inl, inr, ap, subst, arith, Member-at}
 use Rattle.cx_inv_list.proofs.Answers.{reads_tell}
 use Rattle.cx_inv_read.proofs.Results.{after_answers, after_heard, after_reads}
 
