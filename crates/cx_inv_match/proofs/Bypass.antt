@@ -1,8 +1,8 @@
 -- Going on with another grid: what a leading leader proposed may be proposed in its next round, before anybody is asked; and when enough
 -- matchmakers took that round, it leads.
-use Rattle.cx_inv_run.proofs.Common.{◌≡◌, ℕ, ◌+◌, ◌<◌, ◌≤◌, true, ◌⊎◌, List, [], inl, inr, ap, sym, subst, arith, nat_tests, Cluster, Placed}
+use Rattle.cx_inv_run.proofs.Common.{◌≡◌, ℕ, ◌+◌, ◌<◌, ◌≤◌, true, ◌⊎◌, List, [], inl, inr, sym, subst, arith, nat_tests, Cluster, Placed}
 use Rattle.cx_inv_run.proofs.Common.{Value, Round, Shape, role, is_before, Entry, Letter, KeptRecord, Matching, Leading, not_collecting}
-use Rattle.cx_inv_run.proofs.Common.{IsProposed, LeaderVolatile, Member, HasKept, IsConfig, before_cases}
+use Rattle.cx_inv_run.proofs.Common.{IsProposed, LeaderVolatile, Member, HasKept, IsConfig, ap, before_cases}
 use Rattle.cx_inv_match.specs.Prelude.{IsMatched, IsShut, IsSettled, IsLeft, IsSpent, IsSafe, IsMatching, InStage, IsReady, IsLeading}
 use Rattle.cx_base.specs.declared.role.Kind.TheVariants as kind
 use Rattle.cx_letter.specs.declared.kept.Record.TheVariants as kept
@@ -20,6 +20,7 @@ before_next i j l = go (before_cases j i)
     go (inr (inr k)) = absurd (none k l)
 
 -- a round is the next one of one round
+
 same_parts : (i j : Round) → i.r ≡ j.r → i.id ≡ j.id → i.s ≡ j.s → i ≡ j
 same_parts i j r id s = grind (arith, nat_tests)
 

@@ -1,6 +1,6 @@
 -- A matchmaker begins once at most, and a member of the first set never, since it could not be opened from a list with such a Boot.
-use Rattle.cx_inv_run.proofs.Common.{◌≡◌, ◌≤◌, ◌+◌, ◌*◌, ℕ, ◌&&◌, Bool, true, false, filter, List, [], ◌∷◌, ◌++◌, length, Option, None, Some}
-use Rattle.cx_inv_run.proofs.Common.{if◌then◌else◌, ap, sym, ◌∙◌, subst, refl, inl, inr, arith, not, nat_lt, nat_tests, append-nil}
+use Rattle.cx_inv_run.proofs.Common.{◌≡◌, ◌≤◌, ◌+◌, ◌*◌, ℕ, ◌&&◌, Bool, true, false, filter, List, [], ◌∷◌, ◌++◌, length, Option, None}
+use Rattle.cx_inv_run.proofs.Common.{Some, if◌then◌else◌, ap, sym, ◌∙◌, subst, refl, inl, inr, arith, not, nat_lt, nat_tests, append-nil}
 use Rattle.cx_inv_run.proofs.Common.{append_assoc, Cluster, Event, RoleId, role, same_role, is_in, KeptRecord, Written, Record, first_set}
 use Rattle.cx_inv_run.proofs.Common.{same_role-true, MatchmakerDurable, matchmaker_rules, is_booted, Member, Member-reverse, OfEveryRun}
 use Rattle.cx_inv_run.proofs.Common.{refused_from, list_after, list_of, records_in, records_of, run, is_in-Member}

@@ -1,9 +1,9 @@
 -- In place of each set of matchmakers at most one next one is decided, over the whole run, and a set begins only after that.
-use Rattle.cx_inv_run.proofs.Common.{◌≡◌, ◌⊎◌, ◌<◌, ℕ, zero, suc, true, List, [], ◌∷◌, ◌++◌, reverse, inl, inr, ap, sym, subst, ◌∙◌, refl, append-nil}
+use Rattle.cx_inv_run.proofs.Common.{◌≡◌, ◌⊎◌, ◌<◌, ℕ, zero, suc, true, List, [], ◌∷◌, ◌++◌, reverse, inl, inr, ap, sym, subst, ◌∙◌, refl}
 use Rattle.cx_inv_run.proofs.Common.{append_assoc, Cluster, Event, RoleId, Round, role, Entry, Letter, KeptRecord, Booting, Member}
 use Rattle.cx_inv_run.proofs.Common.{names_role, either_way, HasKept, OfEveryRun, ReplacerVolatile, replacer_rules, World, change, run_from}
 use Rattle.cx_inv_run.proofs.Common.{run, State, Down, ReplacerIn, durable_of, Member-cases, Member-first, Member-reverse, Member-turned}
-use Rattle.cx_inv_run.proofs.Common.{run_append, arith, same_Some, some_passes, first_set, Member-is_in}
+use Rattle.cx_inv_run.proofs.Common.{append-nil, run_append, arith, same_Some, some_passes, first_set, Member-is_in}
 use Rattle.cx_inv_match.specs.Prelude.{IsKnown, IsDecided, IsNth, IsUsed, InState, InWork}
 use Rattle.cx_base.specs.declared.role.Kind.TheVariants as kind
 use Rattle.cx_letter.specs.declared.kept.Record.TheVariants as kept
