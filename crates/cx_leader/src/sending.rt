@@ -100,7 +100,7 @@ fn own_share(cluster: &Cluster) -> u16
 }
 
 // The proxy of a leader's slot: all take turns, or each leader's own do.
-#[tactic(auto, using(crate::proofs::Share::share_fits))]
+#[tactic(auto, using(cx_model::proofs::Proxies::shares_fit, cx_model::proofs::Proxies::proxy_below))]
 fn proxy_of(cluster: &Cluster, leader: u16, slot: u64) -> u16
     requires { leader < cluster.now.leaders }
     ensures { result ≡ proxy_of cluster.now leader slot }

@@ -1,6 +1,6 @@
 -- The leader's rows: it begins rounds and retires the earlier ones (JSys 2021), and gives each batch a slot while it leads (VLDB 2021).
-use Rattle.std.specs.Prelude.{ℕ, ◌+◌, ◌-◌, ◌*◌, ◌/◌, ◌%◌, ◌==◌, Bool, true, false, not, ◌&&◌, ◌||◌, nat_lt, nat_le, max, map, filter, if◌then◌else◌}
-use Rattle.std.specs.Prelude.{List, [], ◌∷◌, ◌++◌, length, Option, None, Some, slice_index_or, slice_set}
+use Rattle.std.specs.Prelude.{ℕ, ◌+◌, ◌-◌, ◌*◌, ◌/◌, ◌%◌, ◌==◌, Bool, true, false, not, ◌&&◌, ◌||◌, nat_lt, nat_le, max, map, filter}
+use Rattle.std.specs.Prelude.{if◌then◌else◌, List, [], ◌∷◌, ◌++◌, length, Option, None, Some, slice_index_or, slice_set}
 use Rattle.cx_letter.specs.Prelude.{list_all, Cluster, Command, Placed, Lead, Change, Collect, Replace, RoleId, Acceptor, Batcher, Leader}
 use Rattle.cx_letter.specs.Prelude.{Matchmaker, Proxy, Round, is_above, Shape, is_in, below, numbers, same_role, role, is_before}
 use Rattle.cx_letter.specs.Prelude.{same_round, no_round, lead_after, change_after, Letter, letter, Entry, NackReason, Vote}
