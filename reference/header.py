@@ -46,7 +46,9 @@ def cluster_of(header: bytes) -> Cluster:
     f = number(members, "f", 0, 3)
     ranges = {"leaders": (1, 8), "proxies": (1, 16), "acceptors": (1, 64), "replicas": (f + 1, 8), "batchers": (1, 8), "unbatchers": (1, 8),
               "readers": (1, 8), "clients": (1, 64), "batch": (1, 8), "pool": (2 * f + 1, 64, 2 * f + 1), "replacers": (0, 4, 0)}
-    cluster = Cluster(f=f, **{key: number(members, key, *its) for key, its in ranges.items()})
+    counts = {key: number(members, key, *its) for key, its in ranges.items()}
+    own_most = 1 if counts["proxies"] % counts["leaders"] == 0 else 0
+    cluster = Cluster(f=f, **counts, own_proxies=number(members, "own_proxies", 0, own_most, 0))
     number(members, "base_port", 1024, 60000, 1024)
     if members:
         raise BadHeader("unknown")

@@ -262,8 +262,8 @@ class Leader(Rules):
 
     def propose_all(self, proposed: list[Placed]) -> list[Letter]:
         """Values are proposed in its round, each by the proxy leader that its slot belongs to."""
-        return [self.send(Role("proxy", it.slot % self.cluster.proxies), msg.Propose(*self.durable, it.slot, self.volatile.cw, it.value))
-                for it in proposed]
+        return [self.send(Role("proxy", self.cluster.proxy_of(self.me.index, it.slot)),
+                          msg.Propose(*self.durable, it.slot, self.volatile.cw, it.value)) for it in proposed]
 
     def tell_batchers(self) -> list[Letter]:
         """All batchers are told that it leads."""

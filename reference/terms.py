@@ -41,10 +41,18 @@ class Cluster:
     batch: int
     pool: int
     replacers: int
+    own_proxies: int = 0        # 1 where each leader has proxy leaders of its own
 
     def count_of(self, kind: str) -> int:
         """How many roles of a kind there are."""
         return getattr(self, COUNTED_BY[kind])
+
+    def proxy_of(self, leader: int, slot: int) -> int:
+        """The proxy leader of a leader's slot: they take turns, all of them or the leader's own."""
+        if not self.own_proxies:
+            return slot % self.proxies
+        share = self.proxies // self.leaders
+        return leader * share + slot % share
 
     @property
     def enough(self) -> int:

@@ -7,7 +7,7 @@ from headers import KINDS, Header, Role, Unusable, can_lose_any, enough_processe
 
 USUAL = {"f": 1, "leaders": 1, "proxies": 2, "acceptors": 4, "replicas": 3, "batchers": 2, "unbatchers": 2, "readers": 2, "clients": 16,
          "batch": 1, "base_port": 20000}
-LEFT_OUT = {"pool": 3, "replacers": 0}          # what it then has of these
+LEFT_OUT = {"pool": 3, "replacers": 0, "own_proxies": 0}          # what it then has of these
 
 
 def header(**numbers: int) -> Header:
@@ -44,6 +44,13 @@ class HeaderTest(unittest.TestCase):
         for numbers in ({"pool": 2}, {"pool": 65}, {"replacers": 5}, {"replacers": -1}):
             with self.subTest(numbers=numbers), self.assertRaises(Unusable):
                 header(**numbers)
+
+    def test_leaders_have_proxies_of_their_own(self) -> None:
+        self.assertEqual(header(leaders=2, proxies=4, own_proxies=1).numbers["own_proxies"], 1)
+        self.assertEqual(header(leaders=2, proxies=3, own_proxies=0).numbers["own_proxies"], 0)
+        for numbers in ({"leaders": 2, "proxies": 3}, {"leaders": 3}, {"own_proxies": 2}, {"own_proxies": -1}):
+            with self.subTest(numbers=numbers), self.assertRaises(Unusable):
+                header(**{"own_proxies": 1} | numbers)
 
     def test_the_grid_has_two_rows_where_it_can(self) -> None:
         self.assertEqual(header().grid, [named("acceptor:0 acceptor:1"), named("acceptor:2 acceptor:3")])

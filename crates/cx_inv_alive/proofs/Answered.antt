@@ -117,7 +117,6 @@ apart_kind b z f =
 -- THE STAGE
 
 module _ (c : Cluster) (l r a e b : ℕ) (command : Command) (led : nat_lt l c.leaders ≡ true) (there : nat_lt a c.acceptors ≡ true)
-    (some : nat_lt 0 c.proxies ≡ true)
     (replicated : nat_lt 0 c.replicas ≡ true) (unbatched : nat_lt 0 c.unbatchers ≡ true) (batched : nat_lt b c.batchers ≡ true)
     (left : (e == 1099511627776) ≡ false) (known : nat_lt command.client c.clients ≡ true) where
   abbrev goal : World → Type 0
@@ -136,7 +135,7 @@ module _ (c : Cluster) (l r a e b : ℕ) (command : Command) (led : nat_lt l c.l
   -- once the batch has come to the leader
   answered_from : (x : Moment) (v : LeaderVolatile) → Member (letter it me (msg.Batch (command ∷ []))) x.sent
       → durable_of leader_rules me x.kept ≡ begun_over l r (single_grid a)
-      → x.states me ≡ LeaderIn (settled_at v e) → ReadyAt goal c l r a e led there some e x
+      → x.states me ≡ LeaderIn (settled_at v e) → ReadyAt goal c l r a e led there e x
       → ((u : ℕ) → nat_lt u c.unbatchers ≡ true → x.states (role kind.Unbatcher u) ≡ Plain) → Undone x → Goes goal c x
   answered_from x v m own leads ready unbatchers undone =
       let d = letter it me (msg.Batch (command ∷ [])) in
@@ -154,7 +153,7 @@ module _ (c : Cluster) (l r a e b : ℕ) (command : Command) (led : nat_lt l c.l
       let named : names_value c (batch_of command) ≡ true = rw known refl in
       to_leader goal c x l d m (settled_at v e) (replied why.Proposed u (q ∷ [])) refl leads
       (ap (λ z. leader_row c me z (settled_at v e) (input.Take d)) own ∙ row_batch c l r a e b command v led batched known left)
-      (slot_served goal c l r a e led there some e (batch_of command) named (not_less e) x1
+      (slot_served goal c l r a e led there e (batch_of command) named (not_less e) x1
       (record {
         plain = state_other me (role kind.Acceptor a) (LeaderIn u) x.states refl ∙ ready.plain;
         voter = ready.voter;
@@ -192,7 +191,7 @@ module _ (c : Cluster) (l r a e b : ℕ) (command : Command) (led : nat_lt l c.l
   pub answered : (x : Moment) (v : LeaderVolatile) (bv : BatcherVolatile) → Member (submitted command b) x.sent
       → durable_of leader_rules me x.kept ≡ begun_over l r (single_grid a)
       → x.states me ≡ LeaderIn (settled_at v e) → x.states it ≡ BatcherIn (record bv { waiting = [] }) → bv.round.id ≡ l
-      → ReadyAt goal c l r a e led there some e x
+      → ReadyAt goal c l r a e led there e x
       → ((u : ℕ) → nat_lt u c.unbatchers ≡ true → x.states (role kind.Unbatcher u) ≡ Plain) → Undone x → Goes goal c x
   answered x v bv m own leads runs knows ready unbatchers undone =
       let empty = record bv { waiting = [] } in

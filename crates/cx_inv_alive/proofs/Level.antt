@@ -232,7 +232,7 @@ module _ (w : World) (h b : ℕ) (command : Command) (counts : HasCounts w.clust
       let vs = values ps in
       let e = h + length vs in
       let u = (led_by v ps).volatile in
-      all_served goal c 0 r 0 h counts.leaders counts.acceptors counts.proxies vs h x (not_less h) (values_are_named ps told)
+      all_served goal c 0 r 0 h counts.leaders counts.acceptors vs h x (not_less h) (values_are_named ps told)
       (record {
         plain = base.acceptors 0 counts.acceptors;
         voter = may;
@@ -257,7 +257,7 @@ module _ (w : World) (h b : ℕ) (command : Command) (counts : HasCounts w.clust
       }) (λ z t left is grown reached.
       let at_end : t.cw ≡ e = exact_end t.cw h e (le_plus h (length vs)) reached grown.top in
       let same : t ≡ settled_at t e = at_ready t e grown.mode at_end (grown.next ∙ ap (λ n. max e n) at_end ∙ max_same e) in
-      answered c 0 r 0 e b command counts.leaders counts.acceptors counts.proxies replicated counts.unbatchers batched (values_end ps told)
+      answered c 0 r 0 e b command counts.leaders counts.acceptors replicated counts.unbatchers batched (values_end ps told)
       known z t (batcher_rules.fresh c) (left.sent (submitted command b) (s.left.sent (submitted command b) base.handed))
       (left.leaders 0 refl ∙ s.left.leaders 0 refl ∙ own)
       (is ∙ ap (λ (q : LeaderVolatile). LeaderIn q) same)

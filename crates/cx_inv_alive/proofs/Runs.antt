@@ -42,7 +42,6 @@ all_counts c =
     record {
       leaders = some c.leaders c.some_leader;
       acceptors = some c.acceptors c.some_acceptor;
-      proxies = some c.proxies c.some_proxy;
       unbatchers = some c.unbatchers c.some_unbatcher;
       replicas = test (c.f + 1) c.replicas c.some_replicas;
       pool = test (2 * c.f + 1) c.pool c.some_pool;

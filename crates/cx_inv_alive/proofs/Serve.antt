@@ -1,6 +1,6 @@
 -- One slot after the other, at any cluster: a proxy that was just opened asks the acceptor, counts its vote, and all replicas execute.
 use Rattle.cx_inv_run.proofs.Common.{◌≡◌, ℕ, zero, suc, true, false, List, [], ◌∷◌, ◌++◌, map, Option, Some, None, ap, sym, ◌∙◌, subst}
-use Rattle.cx_inv_run.proofs.Common.{refl, inl, inr, arith, and_parts, nat_tests, length-append, mod_below, list_all, ◌+◌, ◌-◌, ◌%◌, ◌==◌}
+use Rattle.cx_inv_run.proofs.Common.{refl, inl, inr, arith, and_parts, nat_tests, length-append, list_all, ◌+◌, ◌-◌, ◌%◌, ◌==◌}
 use Rattle.cx_inv_run.proofs.Common.{Bool, ◌||◌, ◌&&◌, max, min, nat_le, nat_lt, length, Cluster, Placed, Value, RoleId, Round, is_in}
 use Rattle.cx_inv_run.proofs.Common.{below, following, role, is_before, column_of, Record, Letter, letter, AcceptorDurable, acceptor_row}
 use Rattle.cx_inv_run.proofs.Common.{acceptor_rules, is_of_round, vote_at, bool_cases, number_itself, same_number, same_role-itself, Member}
@@ -15,7 +15,9 @@ use Rattle.cx_base.specs.declared.why.Why.TheVariants as why
 use Rattle.cx_letter.specs.declared.input.Input.TheVariants as input
 use Rattle.cx_letter.specs.declared.kept.Record.TheVariants as kept
 use Rattle.cx_letter.specs.declared.message.Msg.TheVariants as msg
+use Rattle.cx_model.specs.Leader.{proxy_of}
 use Rattle.cx_model.specs.Proxy.{ask}
+use Rattle.cx_model.proofs.Proxies.{proxy_below}
 use Rattle.cx_model.specs.Replica.{still_deferred}
 use Rattle.cx_inv_alive.proofs.Moments.{Moment, Goes, moved, Left, left_same, left_then, left_moved, left_kept, left_still, left_weaker}
 use Rattle.cx_inv_alive.proofs.Moments.{to_acceptor, to_proxy, to_replica, fresh_proxy, left_both}
@@ -213,8 +215,7 @@ module _ (goal : World → Type 0) (c : Cluster) (q slot : ℕ) (value : Value) 
 
 -- ONE SLOT
 
-module _ (goal : World → Type 0) (c : Cluster) (l r a cw : ℕ) (led : nat_lt l c.leaders ≡ true) (there : nat_lt a c.acceptors ≡ true)
-    (some : nat_lt 0 c.proxies ≡ true) where
+module _ (goal : World → Type 0) (c : Cluster) (l r a cw : ℕ) (led : nat_lt l c.leaders ≡ true) (there : nat_lt a c.acceptors ≡ true) where
   abbrev voter_role : RoleId
   voter_role = role kind.Acceptor a
 
@@ -250,13 +251,13 @@ module _ (goal : World → Type 0) (c : Cluster) (l r a cw : ℕ) (led : nat_lt 
 
   module _ (slot : ℕ) (value : Value) (named : names_value c value ≡ true) (low : nat_lt slot cw ≡ false) where
     abbrev q : ℕ
-    q = slot % c.proxies
+    q = proxy_of c l slot
 
     abbrev proxy : RoleId
     proxy = role kind.Proxy q
 
     proxied : nat_lt q c.proxies ≡ true
-    proxied = less_test q c.proxies (mod_below slot c.proxies (less 0 c.proxies some))
+    proxied = less_test q c.proxies (proxy_below c l slot (less l c.leaders led))
 
     abbrev waiting : ProxyVolatile
     waiting = record { known = max 0 cw; pending = pending_of i (single_grid a) slot cw value ∷ [] }

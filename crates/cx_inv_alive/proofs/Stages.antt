@@ -13,7 +13,6 @@ use Rattle.cx_letter.specs.declared.kept.Record.TheVariants as kept
 pub record HasCounts (c : Cluster) : Type 0 where
   pub leaders : nat_lt 0 c.leaders ≡ true
   pub acceptors : nat_lt 0 c.acceptors ≡ true
-  pub proxies : nat_lt 0 c.proxies ≡ true
   pub unbatchers : nat_lt 0 c.unbatchers ≡ true
   pub replicas : nat_le (enough c) c.replicas ≡ true
   pub pool : nat_le (2 * c.f + 1) c.pool ≡ true

@@ -1,7 +1,7 @@
 //! What a leader that leads does: it proposes what its first phase reported, or what it proposed in the round before,
 //! gives each batch a slot, and notes which slots are chosen (VLDB 2021).
 
-ghost use Rattle.std.specs.Prelude.{◌≡◌, ◌++◌};
+ghost use Rattle.std.specs.Prelude.{◌≡◌, ◌<◌, ◌++◌};
 ghost use Rattle.cx_role.specs.Prelude.{[], Some, map, IsTrue, OnOk, OnErr, Kind as KindOf, below, role, IsReply};
 ghost use Rattle.cx_field.specs.Fields as field;
 ghost use Rattle.cx_model.specs.Leader.{leads_to, lead_with, batch_row, chosen_in_row, leader_rules};
@@ -28,6 +28,7 @@ pub fn begin_to_lead(
     proposals: &Proposals,
     out: &mut Outbox,
 ) -> Result<(), NoMemory>
+    requires leader { leader < cluster.now.leaders }
     requires round { IsTrue (field.round.fits own.now.round) }
     requires empty { out.old.list ≡ [] }
     ensures list { OnOk result (out.new.list

@@ -177,6 +177,7 @@ impl Proposals {
         slot: u64,
         out: &mut Outbox,
     ) -> Result<(), NoMemory>
+        requires leader { leader < cluster.now.leaders }
         requires spare { 0 < out.old.spare }
         requires round { IsTrue (field.round.fits own.now.round) }
         ensures list { let p = self.now in OnOk result (out.new.list ≡ out.old.list
@@ -206,6 +207,7 @@ impl Proposals {
         own: &Entry,
         out: &mut Outbox,
     ) -> Result<(), NoMemory>
+        requires leader { leader < cluster.now.leaders }
         requires spare { 32 ≤ out.old.spare }
         requires round { IsTrue (field.round.fits own.now.round) }
         ensures list { let p = self.now in OnOk result (out.new.list ≡ out.old.list
@@ -230,6 +232,7 @@ impl Proposals {
         own: &Entry,
         out: &mut Outbox,
     ) -> Result<(), NoMemory>
+        requires leader { leader < cluster.now.leaders }
         requires spare { 32 ≤ out.old.spare }
         requires round { IsTrue (field.round.fits own.now.round) }
         ensures list { let p = self.now in
@@ -251,6 +254,7 @@ impl Proposals {
         own: &Entry,
         out: &mut Outbox,
     ) -> Result<(), NoMemory>
+        requires leader { leader < cluster.now.leaders }
         requires spare { 32 ≤ out.old.spare }
         requires round { IsTrue (field.round.fits own.now.round) }
         ensures list { let p = self.now in OnOk result (out.new.list ≡ out.old.list

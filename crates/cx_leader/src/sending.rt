@@ -1,10 +1,10 @@
 //! What a leader sends to several roles, by rising index. Room in the outbox (`spare`) was taken beforehand.
 #![tactic(auto, using(cx_role::proofs::Sends::sends))]
 
-ghost use Rattle.std.specs.Prelude.{◌≡◌, ◌≤◌, ◌+◌, ◌++◌, ◌^◌};
+ghost use Rattle.std.specs.Prelude.{◌≡◌, ◌<◌, ◌≤◌, ◌+◌, ◌++◌, ◌^◌};
 ghost use Rattle.cx_role.specs.Prelude.{map, length, IsTrue, Kind as KindOf, below, role, members_of, members_in};
 ghost use Rattle.cx_field.specs.Fields as field;
-ghost use Rattle.cx_model.specs.Leader.{match_a_to, phase1a_to, leads_to, propose_to, inform_to, garbage_a_to};
+ghost use Rattle.cx_model.specs.Leader.{match_a_to, phase1a_to, leads_to, own_share, proxy_of, propose_to, inform_to, garbage_a_to};
 ghost use Rattle.cx_leader.specs.Proposing.{IsWindowSlot};
 
 use cx_base::{Cluster, Grid, Kind, Round, Value};
@@ -89,7 +89,30 @@ pub fn tell_batchers(leader: u16, round: Round, count: u16, out: &mut Outbox)
     }
 }
 
-/// The value of a slot, for the slot's proxy: the proxies take turns.
+fn own_share(cluster: &Cluster) -> u16
+    ensures { result ≡ own_share cluster.now }
+{
+    if cluster.own_proxies {
+        cluster.proxies / cluster.leaders
+    } else {
+        0
+    }
+}
+
+// The proxy of a leader's slot: all take turns, or each leader's own do.
+#[tactic(auto, using(cx_model::proofs::Proxies::shares_fit, cx_model::proofs::Proxies::proxy_below))]
+fn proxy_of(cluster: &Cluster, leader: u16, slot: u64) -> u16
+    requires { leader < cluster.now.leaders }
+    ensures { result ≡ proxy_of cluster.now leader slot }
+{
+    let share = own_share(cluster);
+    if share == 0 {
+        return (slot % u64::from(cluster.proxies)) as u16;
+    }
+    leader * share + (slot % u64::from(share)) as u16
+}
+
+/// The value of a slot, for the slot's proxy.
 #[tactic(auto, unfolding(cx_field::specs::Fields::slot, cx_field::specs::Fields::mark, cx_wire::specs::Format::u64))]
 pub fn proposal(
     cluster: &Cluster,
@@ -99,6 +122,7 @@ pub fn proposal(
     slot: u64,
     value: Value,
 ) -> Datagram
+    requires leader { leader < cluster.now.leaders }
     requires round { IsTrue (field.round.fits own.now.round) }
     requires slot { IsWindowSlot cw slot }
     requires value { IsTrue (field.value.fits value) }
@@ -106,6 +130,6 @@ pub fn proposal(
         ≡ propose_to cluster.now (role Kind.Leader leader) own.now cw
         (record { slot = slot; value = value }) }
 {
-    let proxy = slot % u64::from(cluster.proxies);
-    propose(leader, proxy as u16, own.round, own.grid, slot, cw, value)
+    let proxy = proxy_of(cluster, leader, slot);
+    propose(leader, proxy, own.round, own.grid, slot, cw, value)
 }

@@ -1,6 +1,6 @@
 -- The leader's rows: it begins rounds and retires the earlier ones (JSys 2021), and gives each batch a slot while it leads (VLDB 2021).
-use Rattle.std.specs.Prelude.{ℕ, ◌+◌, ◌-◌, ◌%◌, ◌==◌, Bool, true, false, not, ◌&&◌, ◌||◌, nat_lt, nat_le, max, map, filter, if◌then◌else◌}
-use Rattle.std.specs.Prelude.{List, [], ◌∷◌, ◌++◌, length, Option, None, Some, slice_index_or, slice_set}
+use Rattle.std.specs.Prelude.{ℕ, ◌+◌, ◌-◌, ◌*◌, ◌/◌, ◌%◌, ◌==◌, Bool, true, false, not, ◌&&◌, ◌||◌, nat_lt, nat_le, max, map, filter}
+use Rattle.std.specs.Prelude.{if◌then◌else◌, List, [], ◌∷◌, ◌++◌, length, Option, None, Some, slice_index_or, slice_set}
 use Rattle.cx_letter.specs.Prelude.{list_all, Cluster, Command, Placed, Lead, Change, Collect, Replace, RoleId, Acceptor, Batcher, Leader}
 use Rattle.cx_letter.specs.Prelude.{Matchmaker, Proxy, Round, is_above, Shape, is_in, below, numbers, same_role, role, is_before}
 use Rattle.cx_letter.specs.Prelude.{same_round, no_round, lead_after, change_after, Letter, letter, Entry, NackReason, Vote}
@@ -92,8 +92,17 @@ phase1a_to me i a = letter me (role Acceptor a) (msg.Phase1A i)
 abbrev pub leads_to : RoleId → Round → ℕ → Letter
 leads_to me i b = letter me (role Batcher b) (msg.Leads i)
 
+-- how many proxy leaders each leader has of its own (this project's own): none where all are shared
+abbrev pub own_share : Cluster → ℕ
+own_share c = if c.own_proxies then c.proxies / c.leaders else 0
+
+-- The proxy leader of a leader's slot: they take turns, all of them (VLDB 2021) or the leader's own.
+abbrev pub proxy_of : Cluster → ℕ → ℕ → ℕ
+proxy_of c leader slot = if own_share c == 0 then slot % c.proxies else leader * own_share c + slot % own_share c
+
 abbrev pub propose_to : Cluster → RoleId → Entry → ℕ → Placed → Letter
-propose_to c me own cw p = letter me (role Proxy (p.slot % c.proxies)) (msg.Propose own.round own.grid p.slot cw p.value)
+propose_to c me own cw p =
+    letter me (role Proxy (proxy_of c me.index p.slot)) (msg.Propose own.round own.grid p.slot cw p.value)
 
 abbrev pub inform_to : RoleId → Round → ℕ → ℕ → Letter
 inform_to me i cw a = letter me (role Acceptor a) (msg.Inform i cw)

@@ -24,6 +24,7 @@ ghost use Rattle.cx_model.specs.ExamplesKeptAppend.{KeptAppend};
 ghost use Rattle.cx_model.specs.ExamplesLateRequestsAreRefused.{LateRequestsAreRefused};
 ghost use Rattle.cx_model.specs.ExamplesLaterReadsWait.{LaterReadsWait};
 ghost use Rattle.cx_model.specs.ExamplesLaterRound.{LaterRound};
+ghost use Rattle.cx_model.specs.ExamplesLeadersHaveOwnProxies.{LeadersHaveOwnProxies};
 ghost use Rattle.cx_model.specs.ExamplesLimits.{Limits};
 ghost use Rattle.cx_model.specs.ExamplesLowerNumberActs.{LowerNumberActs};
 ghost use Rattle.cx_model.specs.ExamplesLowerRoundIsRefused.{LowerRoundIsRefused};
@@ -301,6 +302,11 @@ pub fn limits()
 /// for its retirement watermark. It refuses a round with another grid. A repeat tells the round's own entry too.
 pub fn one_entry_a_grid()
     ensures { OneEntryAGrid }
+{}
+
+/// Two leaders share four proxy leaders out: slots 0 to 3 of the first go to 0, 1, 0, 1, those of the second to 2, 3, 2, 3.
+pub fn leaders_have_own_proxies()
+    ensures { LeadersHaveOwnProxies }
 {}
 
 /// The only replica forgets its value, has the map and the answers in its place, and goes on with the next command. If it
