@@ -2,7 +2,7 @@
 //!
 //! The traits are in cx_keep, which it passes on. Its theorem is the traits' contracts at
 //! `MemKeeper`: after an append answered with Ok the list has the record, after a failed one it has
-//! it or not, and `recover` gives the list; after a renewal answered with Ok the list is the new one,
+//! it or not; `recover` gives the list; after a renewal answered with Ok the list is the new one,
 //! after a failed one the old or the new. Out of memory, nothing changes.
 #![tactic(auto)]
 

@@ -3,7 +3,7 @@
 //! The code of their bytes is in cx_msg, which passes on what is here.
 //!
 //! Its theorem is: a `Datagram` goes from a role that sends its kind to one that gets it, with each
-//! field in its range, and whoever takes it apart knows so (`Datagram::msg`).
+//! field in its range; whoever takes it apart knows so (`Datagram::msg`).
 #![tactic(auto)]
 
 mod copies;

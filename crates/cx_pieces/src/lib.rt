@@ -1,7 +1,7 @@
 //! Strings of bytes, held in shared chunks.
 //!
-//! The histories of a run lie in it. Its theorem is: contracts see the list of what was pushed, of
-//! which `Pieces::get` lends the one of a number, and `Pieces::shared` gives it as bytes that share
+//! The histories of a run lie in it. Its theorem is: contracts see the list of what was pushed;
+//! `Pieces::get` lends the one of a number, and `Pieces::shared` gives it as bytes that share
 //! their chunk.
 #![tactic(auto)]
 

@@ -1,7 +1,7 @@
 //! The replica: it keeps and executes chosen values in slot order, and answers (VLDB 2021).
 //!
 //! It is driven through the trait `Role`. Its theorem is `Role`'s contract at `replica_rules`: each
-//! step is the model's row, over any keeper, and `open` names exactly the first record that isn't
+//! step is the model's row, over any keeper; `open` names exactly the first record that isn't
 //! its own.
 //!
 //! A row is a function of the role's state and one input; it gives a word (`Why`), at most one

@@ -2,7 +2,7 @@
 //!
 //! A replica's log, the first phase, leaders and proxy leaders hold their slots in it. Its theorem
 //! is: a ring is the list of its values in the order in which their slots came (a list in proofs
-//! alone, `GhostList`), of which `Ring::get` gives the one of a slot.
+//! alone, `GhostList`); `Ring::get` gives the one of a slot.
 #![tactic(auto)]
 
 mod ghost_list;

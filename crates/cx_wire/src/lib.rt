@@ -1,7 +1,7 @@
 //! Numbers on the wire, and what a format is: which values fit, how they are spelled and read.
 //!
 //! Formats of datagrams, records and journals are put together from it. Its theorem is: a format
-//! made of exact ones is exact, so what it reads is spelled so, and what it spells is read again,
+//! made of exact ones is exact; so what it reads is spelled so, and what it spells is read again,
 //! whatever follows.
 #![tactic(auto)]
 
