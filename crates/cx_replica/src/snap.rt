@@ -216,29 +216,6 @@ fn push_tail(alloc: Global, log: &Log, records: &mut Vec<Record>) -> Result<(), 
     Ok(())
 }
 
-// Puts a role's list anew. A role whose keeper failed lives no longer, and has to be opened again.
-fn renew<K: Renew>(keeper: &mut K, live: &mut bool, records: &[Record]) -> Result<(), StepFault>
-    requires { IsTrue (all_fit records.now) }
-    ensures renewed { IfOk result (λ _. K.renew_gives keeper.old records.now (Ok tt) keeper.new) }
-    ensures lives { OnOk result (live.new ≡ live.old) }
-    ensures refused { IsErrOf result StepFault.NoMemory
-        → K.renew_gives keeper.old records.now (Err fault.NoMemory) keeper.new }
-    ensures tells_same { K.tells keeper.new ≡ K.tells keeper.old }
-    ensures lives_on { IsErrOf result StepFault.NoMemory → live.new ≡ live.old }
-    ensures failed { IsErrOf result StepFault.Failed
-        → K.renew_gives keeper.old records.now (Err fault.Failed) keeper.new }
-    ensures dead { IsErrOf result StepFault.Failed → live.new ≡ false }
-{
-    match keeper.renew(records) {
-        Ok(()) => Ok(()),
-        Err(StepFault::NoMemory) => Err(StepFault::NoMemory),
-        Err(StepFault::Failed) => {
-            *live = false;
-            Err(StepFault::Failed)
-        }
-    }
-}
-
 impl Replica {
     // The list without the values below the first slot of the tail, which has all others.
     fn renewed(&self, tail: &Log) -> Result<Vec<Record>, NoMemory>
