@@ -19,7 +19,7 @@ pub use Rattle.cx_base.specs.Log.{ready_values, still_early, value_for}
 pub use Rattle.cx_base.specs.Name.{IsName, is_name_byte}
 pub use Rattle.cx_base.specs.Noted.{Table, are_rising, comes_before, floor_of, is_answer_done, is_answer_of, is_done, is_used, new_table}
 pub use Rattle.cx_base.specs.Noted.{noted_for, still_noted, with_answer, with_floor, with_note, with_told}
-pub use Rattle.cx_base.specs.Role.{code_of, kind_text, role, role_text, same_role}
+pub use Rattle.cx_base.specs.Role.{code_of, kind_text, puts_anew, role, role_text, same_role}
 pub use Rattle.cx_base.specs.Round.{is_before}
 pub use Rattle.cx_base.specs.Same.{same_op, same_value}
 pub use Rattle.cx_base.specs.Sets.{is_rising}

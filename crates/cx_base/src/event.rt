@@ -81,9 +81,10 @@ pub enum Event {
         set: Set,
         cut: Cut,
     },
-    /// A replica forgets the values that no other replica will ask it for.
+    /// A replica, an acceptor or a reader puts its list anew. A replica forgets by it the values that no other replica will ask
+    /// it for; the others forget nothing.
     Snap {
-        replica: u16,
+        role: RoleId,
         cut: Cut,
     },
     /// A role stops and forgets its volatile part.

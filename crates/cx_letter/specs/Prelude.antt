@@ -7,9 +7,9 @@ pub use Rattle.std.specs.Prelude.{zero, ℕ, [], ◌%◌, ◌&&◌, ◌*◌, ◌
 pub use Rattle.cx_base.specs.Prelude.{IsGrid, IsName, Rises, Shape, Table, acts, are_rising, below, code_of, comes_before, commands_of}
 pub use Rattle.cx_base.specs.Prelude.{count_of, floor_fits, floor_of, grid_fault, is_answer_done, is_answer_of, is_before, is_done, is_in}
 pub use Rattle.cx_base.specs.Prelude.{is_less, is_rising, is_valid_event, join_with_byte, list_all, list_any, make_grid, map_after}
-pub use Rattle.cx_base.specs.Prelude.{map_behind, noted_for, one_more, option_map_or, ready_values, reply_of, rises, role, role_text}
-pub use Rattle.cx_base.specs.Prelude.{same_op, same_role, same_value, slice_split, still_early, still_noted, strip_carriage_return, text_at}
-pub use Rattle.cx_base.specs.Prelude.{value_for, with_answer, with_floor, with_note, with_told}
+pub use Rattle.cx_base.specs.Prelude.{map_behind, noted_for, one_more, option_map_or, puts_anew, ready_values, reply_of, rises}
+pub use Rattle.cx_base.specs.Prelude.{role, role_text, same_op, same_role, same_value, slice_split, still_early, still_noted}
+pub use Rattle.cx_base.specs.Prelude.{strip_carriage_return, text_at, value_for, with_answer, with_floor, with_note, with_told}
 pub use Rattle.cx_base.specs.Fold.{command_list, fold}
 pub use Rattle.cx_base.specs.Lists.{numbers}
 pub use Rattle.cx_base.specs.Log.{before_following}

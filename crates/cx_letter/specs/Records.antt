@@ -4,9 +4,10 @@ use Rattle.cx_base.specs.Grid.{Shape as GridShape}
 use Rattle.cx_base.specs.declared.round.Round.{Round}
 use Rattle.cx_base.specs.declared.command.Value.{Value}
 use Rattle.cx_base.specs.declared.command.Note.{Note}
-use Rattle.cx_wire.specs.Format.{Format, u8, u16, u32, u64, ◌▷◌, TaggedBytes, shape, Case, case, tagged}
-use Rattle.cx_field.specs.Fields.{slot, mark, seq, round, round0, grid, value, values, pairs, notes, joined, set}
+use Rattle.cx_wire.specs.Format.{Format, u8, u16, u32, u64, then_by, ◌▷◌, TaggedBytes, shape, Case, case, tagged}
+use Rattle.cx_field.specs.Fields.{slot, mark, seq, round, round0, grid, value, values, pairs, notes, joined, set, votes}
 use Rattle.cx_field.specs.declared.parts.Entry.{Entry}
+use Rattle.cx_field.specs.declared.parts.Vote.{Vote}
 use Rattle.cx_letter.specs.declared.kept.Record.{Record}
 use Rattle.cx_letter.specs.declared.kept.Record.TheVariants as kept
 
@@ -38,6 +39,10 @@ round_set = round ▷ set
 abbrev pub boot : Format (List ℕ × (Round × List Entry))
 boot = set ▷ round0 ▷ joined
 
+-- a promise, one more than the greatest slot voted at, the chosen watermark, and the votes from there on
+abbrev pub voted : Format (Round × (ℕ × (ℕ × List Vote)))
+voted = round ▷ mark ▷ then_by mark votes
+
 -- a record's tag and its fields
 abbrev pub record_shape : Record → TaggedBytes
 record_shape (kept.Promise r) = shape 1 round r
@@ -56,6 +61,7 @@ record_shape (kept.Stop r) = shape 13 round r
 record_shape (kept.Next r s) = shape 14 round_set (r, s)
 record_shape (kept.Boot s w es) = shape 15 boot (s, (w, es))
 record_shape (kept.Turn n) = shape 16 seq n
+record_shape (kept.Voted r top cw vs) = shape 17 voted (r, (top, (cw, vs)))
 
 -- how each tag's fields are read
 unfoldable pub record_cases : List (Case Record)
@@ -75,7 +81,8 @@ record_cases =
     case 13 round (λ x. kept.Stop x) ∷
     case 14 round_set (λ x. kept.Next x.0 x.1) ∷
     case 15 boot (λ x. kept.Boot x.0 x.1.0 x.1.1) ∷
-    case 16 seq (λ x. kept.Turn x) ∷ []
+    case 16 seq (λ x. kept.Turn x) ∷
+    case 17 voted (λ x. kept.Voted x.0 x.1.0 x.1.1.0 x.1.1.1) ∷ []
 
 -- a record: its tag in one byte, and its fields
 unfoldable pub kept_record : Format Record

@@ -1,7 +1,7 @@
 //! Records that roles keep.
 
 use cx_base::{Duplicate, Grid, NoMemory, Round, Set, Value};
-use cx_field::{Entries, LogValues, Notes, Pairs};
+use cx_field::{Entries, LogValues, Notes, Pairs, Votes};
 use std::alloc::Global;
 
 /// What a role keeps. A stored record's fields are in their ranges, which whoever stores it owes: rounds are real ones,
@@ -88,6 +88,14 @@ pub enum Record {
     Turn {
         turn: u64,
     },
+    /// An acceptor's list begins anew, by this record alone: its promise, one more than the greatest slot that it voted at, at
+    /// most 2^40, its chosen watermark, and its last vote at each slot from there on.
+    Voted {
+        round: Round,
+        top: u64,
+        cw: u64,
+        votes: Votes,
+    },
 }
 
 impl Duplicate for Record {
@@ -166,6 +174,17 @@ impl Duplicate for Record {
                 entries: entries.copy(alloc)?,
             }),
             Record::Turn { turn } => Ok(Record::Turn { turn: *turn }),
+            Record::Voted {
+                round,
+                top,
+                cw,
+                votes,
+            } => Ok(Record::Voted {
+                round: *round,
+                top: *top,
+                cw: *cw,
+                votes: votes.copy(alloc)?,
+            }),
         }
     }
 }

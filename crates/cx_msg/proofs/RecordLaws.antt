@@ -1,11 +1,11 @@
 -- What decodes as a record is spelled so, and what is spelled decodes.
 use Rattle.cx_base.proofs.Common.{◌≡◌, ℕ, ◌<◌, Bool, true, false, not, cond, List, [], ◌∷◌, ◌++◌, length, Result, Ok, Err, refl, sym, ap}
 use Rattle.cx_base.proofs.Common.{◌∙◌, lit<, IfOk, IsTrue, append-nil}
-use Rattle.cx_wire.specs.Format.{Miss, u8, u16, u32, u64, ◌▷◌, by_tag}
+use Rattle.cx_wire.specs.Format.{Miss, u8, u16, u32, u64, then_by, ◌▷◌, by_tag}
 use Rattle.cx_wire.proofs.Laws.{IsBytes, IsExact, Takes-then, u8-exact, u16-exact, u32-exact, u64-exact, ▷-exact, case-sound, case-again}
-use Rattle.cx_wire.proofs.Laws.{AllSound, ReadsAgain, by_tag-takes, tag_fits}
-use Rattle.cx_field.specs.Fields.{slot, mark, seq, round, round0, grid, value, values, pairs, notes, joined, set}
-use Rattle.cx_letter.specs.Records.{vote, round_mark, round_grid, base, client_notes, round_set, boot, record_shape, record_cases}
+use Rattle.cx_wire.proofs.Laws.{AllSound, ReadsAgain, by_tag-takes, tag_fits, then_by-exact}
+use Rattle.cx_field.specs.Fields.{slot, mark, seq, round, round0, grid, value, values, pairs, notes, joined, set, votes}
+use Rattle.cx_letter.specs.Records.{vote, round_mark, round_grid, base, client_notes, round_set, boot, voted, record_shape, record_cases}
 use Rattle.cx_letter.specs.Records.{kept_record, fits}
 use Rattle.cx_msg.specs.RecordBytes.{spelling, is_tag, record_at_end, with_tag, record_of_bytes}
 use Rattle.cx_msg.specs.Decodes.{Decodes}
@@ -14,7 +14,7 @@ use Rattle.cx_letter.specs.declared.kept.Record.TheVariants as kept
 use Rattle.cx_msg.specs.declared.fault.WireFault.{WireFault}
 use Rattle.cx_msg.specs.declared.fault.WireFault.TheVariants as faults
 use Rattle.cx_field.proofs.FieldLaws.{slot-exact, mark-exact, seq-exact, round-exact, round0-exact, grid-exact, value-exact, values-exact}
-use Rattle.cx_field.proofs.FieldLaws.{pairs-exact, notes-exact, joined-exact, set-exact}
+use Rattle.cx_field.proofs.FieldLaws.{pairs-exact, notes-exact, joined-exact, set-exact, votes-exact}
 
 vote-exact : IsExact vote
 vote-exact =
@@ -37,6 +37,10 @@ round_set-exact = ▷-exact round set round-exact set-exact
 
 pub boot-exact : IsExact boot
 boot-exact = ▷-exact set (round0 ▷ joined) set-exact (▷-exact round0 joined round0-exact joined-exact)
+
+voted-exact : IsExact voted
+voted-exact = ▷-exact round (mark ▷ then_by mark votes) round-exact
+    (▷-exact mark (then_by mark votes) mark-exact (then_by-exact mark votes mark-exact (λ cw _. votes-exact cw)))
 
 pub records-sound : AllSound record_shape record_cases
 unfolding record_cases
@@ -70,7 +74,10 @@ records-sound = (
                             case-sound record_shape 14 round_set (λ x. kept.Next x.0 x.1) round_set-exact (λ _. refl),
                             (
                               case-sound record_shape 15 boot (λ x. kept.Boot x.0 x.1.0 x.1.1) boot-exact (λ _. refl),
-                              (case-sound record_shape 16 seq (λ x. kept.Turn x) seq-exact (λ _. refl), tt),
+                              (
+                                case-sound record_shape 16 seq (λ x. kept.Turn x) seq-exact (λ _. refl),
+                                (case-sound record_shape 17 voted (λ x. kept.Voted x.0 x.1.0 x.1.1.0 x.1.1.1) voted-exact (λ _. refl), tt),
+                              ),
                             ),
                           ),
                         ),
@@ -113,6 +120,8 @@ record-again (kept.Next r s) left rest fits = case-again {A = Record} 14 round_s
 record-again (kept.Boot s w es) left rest fits =
     case-again {A = Record} 15 boot (λ x. kept.Boot x.0 x.1.0 x.1.1) (s, (w, es)) rest boot-exact fits
 record-again (kept.Turn n) left rest fits = case-again {A = Record} 16 seq (λ x. kept.Turn x) n rest seq-exact fits
+record-again (kept.Voted r top cw vs) left rest fits =
+    case-again {A = Record} 17 voted (λ x. kept.Voted x.0 x.1.0 x.1.1.0 x.1.1.1) (r, (top, (cw, vs))) rest voted-exact fits
 
 -- a record's tag is one
 has_tag : (r : Record) → (is_tag (record_shape r).tag ≡ true) × ((record_shape r).tag < 256)
@@ -132,6 +141,7 @@ has_tag (kept.Stop r) = (refl, lit< tt)
 has_tag (kept.Next r s) = (refl, lit< tt)
 has_tag (kept.Boot s w es) = (refl, lit< tt)
 has_tag (kept.Turn n) = (refl, lit< tt)
+has_tag (kept.Voted r top cw vs) = (refl, lit< tt)
 
 past : (b : Bool) (e : WireFault) (r : Result Record WireFault) (x : Record) → cond (not b) (Err e) r ≡ Ok x → r ≡ Ok x
 past true e r x h = h

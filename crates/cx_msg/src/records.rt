@@ -2,7 +2,8 @@
 
 ghost use Rattle.std.specs.Prelude.{◌≡◌, ◌≤◌, ◌+◌, ◌++◌, IfOk, IfErr, IsTrue, OnOk, OnErr, length};
 ghost use Rattle.cx_wire.specs.Format as wire;
-ghost use Rattle.cx_wire.specs.Format.{Appends};
+ghost use Rattle.cx_wire.specs.Format.{Appends, then_by};
+ghost use Rattle.cx_field.specs.Fields as field;
 ghost use Rattle.cx_msg.specs.Places.{LiesIn};
 ghost use Rattle.cx_msg.specs.Decodes.{Decodes};
 ghost use Rattle.cx_msg.specs.RecordBytes.{is_tag, record_of_bytes, spelling};
@@ -14,9 +15,10 @@ use crate::fault::WireFault;
 use crate::put_set_bodies::put_boot;
 use cx_base::{NoMemory, Round, Value};
 use cx_field::{
-    ByteReader, Notes, ReadFault, grid_from, joined_from, mark_from, notes_from, pairs_from,
+    ByteReader, Notes, ReadFault, Votes, grid_from, joined_from, mark_from, notes_from, pairs_from,
     put_grid, put_mark, put_notes, put_pairs, put_round, put_seq, put_set, put_slot, put_value,
-    put_values, round_from, round0_from, seq_from, set_from, slot_from, value_from, values_from,
+    put_values, put_votes, round_from, round0_from, seq_from, set_from, slot_from, value_from,
+    values_from, votes_from,
 };
 use cx_letter::Record;
 use cx_wire::{put_u8, put_u16, put_u32, put_u64};
@@ -26,10 +28,10 @@ use std::alloc::Global;
 pub(crate) fn is_tag(tag: u8) -> bool
     ensures { result ≡ is_tag tag }
 {
-    tag >= 1 && tag <= 16
+    tag >= 1 && tag <= 17
 }
 
-#[tactic(auto, unfolding(cx_letter::specs::Records::record_cases, cx_field::specs::Fields::value))]
+#[tactic(auto, unfolding(cx_letter::specs::Records::record_cases, cx_field::specs::Fields::value, cx_field::specs::Fields::votes))]
 pub(crate) fn fields_from(
     tag: u8,
     alloc: Global,
@@ -129,6 +131,18 @@ pub(crate) fn fields_from(
         16 => Ok(Record::Turn {
             turn: seq_from(reader)?,
         }),
+        17 => {
+            let round = round_from(reader)?;
+            let top = mark_from(reader)?;
+            let cw = mark_from(reader)?;
+            let votes = votes_from(alloc, true, cw, reader)?;
+            Ok(Record::Voted {
+                round,
+                top,
+                cw,
+                votes,
+            })
+        }
         _ => Err(ReadFault::Bad {
             left: reader.left(),
         }),
@@ -171,7 +185,7 @@ fn read(alloc: Global, bytes: &[u8]) -> Result<Record, WireFault>
 }
 
 /// The record that the bytes spell, all of the bytes; or the first test that they fail, in this order: no byte (`Short`), the
-/// tag, 1 to 16 (`Kind`), the fields in their order (`Field` at the first byte of the first bad one), and bytes after the
+/// tag, 1 to 17 (`Kind`), the fields in their order (`Field` at the first byte of the first bad one), and bytes after the
 /// last field (`Trailing`). The format is this project's own; it has no version, and commands may tell their floors.
 pub fn record_from(alloc: Global, bytes: &[u8]) -> Result<Record, WireFault>
     // What is read is spelled so, and has a spelling.
@@ -233,9 +247,32 @@ fn put_client_notes(
     put_notes(out, notes)
 }
 
+fn put_marked_votes(out: &mut Vec<u8>, cw: u64, votes: &Votes) -> Result<(), NoMemory>
+    ensures { OnOk result
+        (Appends (then_by field.mark field.votes) (cw, votes.now) 30601 out.old.items out.new.items) }
+{
+    put_mark(out, cw)?;
+    put_votes(out, cw, votes)
+}
+
+fn put_voted(
+    out: &mut Vec<u8>,
+    round: &Round,
+    top: u64,
+    cw: u64,
+    votes: &Votes,
+) -> Result<(), NoMemory>
+    ensures { OnOk result (Appends records.voted (round.now, (top, (cw, votes.now))) 30619
+        out.old.items out.new.items) }
+{
+    put_round(out, round)?;
+    put_mark(out, top)?;
+    put_marked_votes(out, cw, votes)
+}
+
 #[tactic(auto, unfolding(cx_letter::specs::Records::kept_record))]
 fn put_record(out: &mut Vec<u8>, kept: &Record) -> Result<(), NoMemory>
-    ensures { OnOk result (Appends records.kept_record kept.now 30018 out.old.items out.new.items) }
+    ensures { OnOk result (Appends records.kept_record kept.now 30620 out.old.items out.new.items) }
 {
     match kept {
         Record::Promise { round } => {
@@ -325,14 +362,23 @@ fn put_record(out: &mut Vec<u8>, kept: &Record) -> Result<(), NoMemory>
             put_u8(out, 16)?;
             put_seq(out, *turn)
         }
+        Record::Voted {
+            round,
+            top,
+            cw,
+            votes,
+        } => {
+            put_u8(out, 17)?;
+            put_voted(out, round, *top, *cw, votes)
+        }
     }
 }
 
-/// Appends the bytes of a record, at most 30,018. Out of memory, it appends nothing.
+/// Appends the bytes of a record, at most 30,620. Out of memory, it appends nothing.
 #[tactic(auto, unfolding(cx_letter::specs::Records::kept_record))]
 pub fn record_into(alloc: Global, kept: &Record, out: &mut Vec<u8>) -> Result<(), NoMemory>
     ensures bytes { OnOk result (out.new.items ≡ out.old.items ++ spelling kept.now) }
-    ensures room { OnOk result (length (spelling kept.now) ≤ 30018) }
+    ensures room { OnOk result (length (spelling kept.now) ≤ 30620) }
     ensures err { OnErr result (out.new.items ≡ out.old.items) }
 {
     let mut whole = Vec::new(alloc);
