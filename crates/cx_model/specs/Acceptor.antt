@@ -1,8 +1,8 @@
 -- The acceptor's rows: it promises rounds and votes for values (VLDB 2021, with the chosen watermark of this project).
 use Rattle.std.specs.Prelude.{ℕ, ◌+◌, ◌==◌, Bool, false, not, ◌&&◌, ◌||◌, nat_lt, nat_le, max, filter, if◌then◌else◌, List, [], ◌∷◌, Option}
 use Rattle.std.specs.Prelude.{None, Some, true}
-use Rattle.cx_letter.specs.Prelude.{Cluster, Value, RoleId, Acceptor, Leader, Round, Idle, Past, Same, Stranger, same_role, role, is_before}
-use Rattle.cx_letter.specs.Prelude.{same_round, no_round, Letter, letter, in_window, Asking, Vote}
+use Rattle.cx_letter.specs.Prelude.{list_all, Cluster, Value, RoleId, Acceptor, Leader, Round, Idle, Past, Same, Stranger, same_role, role}
+use Rattle.cx_letter.specs.Prelude.{is_before, same_round, no_round, Letter, letter, in_window, Asking, Vote}
 use Rattle.cx_base.specs.declared.why.Why.TheVariants.{Asked, Informed, Nack, Promised, Voted}
 use Rattle.cx_letter.specs.declared.input.Input.{Input}
 use Rattle.cx_letter.specs.declared.input.Input.TheVariants.{Take, Tick, Order}
@@ -10,7 +10,7 @@ use Rattle.cx_letter.specs.declared.message.Msg.{Msg}
 use Rattle.cx_letter.specs.declared.message.Msg.TheVariants as msg
 use Rattle.cx_letter.specs.declared.kept.Record.{Record}
 use Rattle.cx_letter.specs.declared.kept.Record.TheVariants as kept
-use Rattle.cx_model.specs.Names.{names, names_round, names_value}
+use Rattle.cx_model.specs.Names.{names, names_round, names_value, names_vote}
 use Rattle.cx_model.specs.Outcome.{Outcome, only_word, replied}
 use Rattle.cx_model.specs.Rules.{Rules}
 
@@ -54,15 +54,27 @@ acceptor_after d (kept.Vote i s cw v) =
       top = max d.top (s + 1);
     }
 acceptor_after d (kept.Water i cw) = record d { promise = i; cw = max d.cw cw; votes = votes_from_slot (max d.cw cw) d.votes }
+acceptor_after d (kept.Voted i top cw vs) = record { promise = i; cw = cw; votes = vs; top = top }
 acceptor_after d other = d
 
--- whether the acceptor could have appended this record
+-- whether the acceptor could have appended this record; only a list begins with what it was put anew as, since each record of an
+-- acceptor promises a real round
 abbrev pub acceptor_fits : Cluster → RoleId → AcceptorDurable → Record → Bool
 acceptor_fits c me d (kept.Promise i) = names_round c i && is_before d.promise i
 acceptor_fits c me d (kept.Vote i s cw v) = names_round c i && names_value c v && not (is_before i d.promise) && nat_le d.cw s
     && in_window cw s && not (is_of_round i (vote_at s d.votes))
 acceptor_fits c me d (kept.Water i cw) = names_round c i && not (is_before i d.promise) && (is_before d.promise i || nat_lt d.cw cw)
+acceptor_fits c me d (kept.Voted i top cw vs) =
+    not (is_before no_round d.promise) && names_round c i && list_all (λ (v : Vote). names_vote c v) vs
 acceptor_fits c me d other = false
+
+-- the list put anew: one record with all that the acceptor knows (this project's own)
+abbrev pub acceptor_renewed : AcceptorDurable → ℕ → List Record
+acceptor_renewed d first = kept.Voted d.promise d.top d.cw d.votes ∷ []
+
+-- one without a record has nothing to put anew
+abbrev pub acceptor_snap : Cluster → RoleId → AcceptorDurable → Unit {0} → Option ℕ
+acceptor_snap c me d v = if is_before no_round d.promise then Some 0 else None
 
 -- a leader learns that a greater round was promised
 abbrev pub nack_to : RoleId → Round → Round → Letter
@@ -126,6 +138,6 @@ acceptor_rules = record {
   whole = λ d. true;
   fresh = λ c. tt;
   row = acceptor_row;
-  snap = λ c me d v. None;
-  renewed = λ d first. [];
+  snap = acceptor_snap;
+  renewed = acceptor_renewed;
 }

@@ -18,13 +18,13 @@ use Rattle.cx_model.specs.World.{list_of}
 abbrev pub snap_lines : List Line
 snap_lines =
     put_story ++
-    event.Snap 0 Whole ⇒ why.Snapped
+    event.Snap (replica 0) Whole ⇒ why.Snapped
     snapping 1 by replica 0
-    ∷ event.Snap 0 Whole ⇒ why.Idle
+    ∷ event.Snap (replica 0) Whole ⇒ why.Idle
     ∷ event.Crash (replica 0) ⇒ why.Crashed
-    ∷ event.Snap 0 Whole ⇒ why.Down
+    ∷ event.Snap (replica 0) Whole ⇒ why.Down
     ∷ event.Restart (replica 0) ⇒ why.Opened
-    ∷ event.Snap 0 Whole ⇒ why.Idle
+    ∷ event.Snap (replica 0) Whole ⇒ why.Idle
     ∷ []
 
 -- client 0's second command
@@ -69,12 +69,12 @@ renewed =
 abbrev pub cut : List Line
 cut =
     put_story ++
-    event.Snap 0 Torn ⇒ why.Torn
+    event.Snap (replica 0) Torn ⇒ why.Torn
     ∷ event.Restart (replica 0) ⇒ why.Opened
-    ∷ event.Snap 0 Kept ⇒ why.Kept
+    ∷ event.Snap (replica 0) Kept ⇒ why.Kept
     snapping 1 by replica 0
     ∷ event.Restart (replica 0) ⇒ why.Opened
-    ∷ event.Snap 0 Torn ⇒ why.Idle
+    ∷ event.Snap (replica 0) Torn ⇒ why.Idle
     ∷ []
 
 pub record SnapshotOfOne : Type 0 where

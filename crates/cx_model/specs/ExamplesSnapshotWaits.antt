@@ -24,17 +24,17 @@ story =
     ∷ event.Tick (replica 1) ⇒ why.Resent
     sending letter (replica 1) (leader 0) (msg.Held 0)  -- 12
     sending letter (replica 1) (replica 0) (msg.Fetch 0)  -- 13
-    ∷ event.Snap 0 Whole ⇒ why.Idle
+    ∷ event.Snap (replica 0) Whole ⇒ why.Idle
     ∷ deliver 9 ⇒ why.Applied
     keeping kept.Log (batch_of put_a ∷ []) by replica 1
     ∷ event.Tick (replica 1) ⇒ why.Resent
     sending letter (replica 1) (leader 0) (msg.Held 1)  -- 14
     sending letter (replica 1) (replica 0) (msg.Fetch 1)  -- 15
     ∷ deliver 15 ⇒ why.Idle
-    ∷ event.Snap 0 Whole ⇒ why.Snapped
+    ∷ event.Snap (replica 0) Whole ⇒ why.Snapped
     snapping 1 by replica 0
     ∷ deliver 13 ⇒ why.Past
-    ∷ event.Snap 1 Whole ⇒ why.Idle
+    ∷ event.Snap (replica 1) Whole ⇒ why.Idle
     ∷ []
 
 -- what each replica holds at the end

@@ -8,8 +8,8 @@ pub use Rattle.cx_letter.specs.Prelude.{Acceptor, Answered, App, Asking, Cluster
 pub use Rattle.cx_letter.specs.Prelude.{IsGrid, Kept, Kind, Lead, Letter, NackReason, Noop, Op, Placed, Put, Replace, Reply, Rises, RoleId}
 pub use Rattle.cx_letter.specs.Prelude.{Round, Shape, Token, Torn, Value, Vote, Whole, Why, below, change_after, commands_of, floor_fits}
 pub use Rattle.cx_letter.specs.Prelude.{floor_of, fold, in_window, is_above, is_before, is_done, is_in, is_valid_event, lead_after, letter}
-pub use Rattle.cx_letter.specs.Prelude.{list_all, list_any, no_round, numbers, position_or_len, ready_values, role, same_op, same_role}
-pub use Rattle.cx_letter.specs.Prelude.{same_round, same_value, strip_carriage_return, text_at}
+pub use Rattle.cx_letter.specs.Prelude.{list_all, list_any, no_round, numbers, position_or_len, puts_anew, ready_values, role}
+pub use Rattle.cx_letter.specs.Prelude.{same_op, same_role, same_round, same_value, strip_carriage_return, text_at}
 pub use Rattle.cx_base.specs.declared.status.Status.{Status}
 pub use Rattle.cx_grid.specs.Quorum.{column_of, column_whole, is_whole, member_at, row_of, row_whole, with_mark}
 pub use Rattle.cx_field.specs.Ranges.{vote_in_range}

@@ -1,8 +1,8 @@
 -- The reader's rows: reads wait, and at most one batch of them runs. For a batch the reader keeps its next turn, and asks enough
 -- matchmakers for the live grids, then a row of each for its greatest voted slot; then it asks one replica for each read, which answers
 -- once it holds this many slots (VLDB 2021: quorum reads; over several grids, and in batches, this project's own).
-use Rattle.std.specs.Prelude.{ℕ, ◌+◌, ◌==◌, Bool, false, not, ◌&&◌, nat_le, nat_lt, max, map, if◌then◌else◌, List, [], ◌∷◌, ◌++◌, length}
-use Rattle.std.specs.Prelude.{Option, None, Some, true}
+use Rattle.std.specs.Prelude.{ℕ, ◌+◌, ◌==◌, Bool, false, not, ◌&&◌, ◌||◌, nat_le, nat_lt, max, map, if◌then◌else◌, List, [], ◌∷◌, ◌++◌}
+use Rattle.std.specs.Prelude.{length, Option, None, Some, true}
 use Rattle.cx_letter.specs.Prelude.{list_any, Cluster, RoleId, Acceptor, Matchmaker, Reader, Replica, Round, Why, Full, Idle, Old, Resent}
 use Rattle.cx_letter.specs.Prelude.{Same, Sent, Stranger, Unasked, is_in, same_role, role, same_round, is_above, Letter, letter, Asking}
 use Rattle.cx_letter.specs.Prelude.{Entry, Token}
@@ -233,10 +233,18 @@ abbrev pub reader_after : ReaderDurable → Record → ReaderDurable
 reader_after d (kept.Turn n) = record { turn = max d.turn n }
 reader_after d other = d
 
--- whether the reader could have appended this record
+-- whether the reader could have appended this record: a list may begin with any turn, since it may be one put anew
 abbrev pub reader_fits : Cluster → RoleId → ReaderDurable → Record → Bool
-reader_fits c me d (kept.Turn n) = (n == d.turn + 1) && nat_le n last_turn
+reader_fits c me d (kept.Turn n) = (n == d.turn + 1 || d.turn == 0) && nat_le n last_turn
 reader_fits c me d other = false
+
+-- the list put anew: the last turn (this project's own)
+abbrev pub reader_renewed : ReaderDurable → ℕ → List Record
+reader_renewed d first = kept.Turn d.turn ∷ []
+
+-- one without a turn has nothing to put anew
+abbrev pub reader_snap : Cluster → RoleId → ReaderDurable → ReaderVolatile → Option ℕ
+reader_snap c me d v = if nat_lt 0 d.turn then Some 0 else None
 
 abbrev pub reader_rules : Rules ReaderDurable ReaderVolatile
 reader_rules = record {
@@ -247,6 +255,6 @@ reader_rules = record {
   whole = λ d. true;
   fresh = λ c. record { waiting = []; running = None; set = first_set c };
   row = reader_row;
-  snap = λ c me d v. None;
-  renewed = λ d first. [];
+  snap = reader_snap;
+  renewed = reader_renewed;
 }

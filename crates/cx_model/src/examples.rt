@@ -44,6 +44,8 @@ ghost use Rattle.cx_model.specs.ExamplesRowIsNoColumn.{RowIsNoColumn};
 ghost use Rattle.cx_model.specs.ExamplesSession.{Session};
 ghost use Rattle.cx_model.specs.ExamplesSnapshotOfOne.{SnapshotOfOne};
 ghost use Rattle.cx_model.specs.ExamplesSnapshotWaits.{SnapshotWaits};
+ghost use Rattle.cx_model.specs.ExamplesAcceptorPutsItsListAnew.{AcceptorPutsItsListAnew};
+ghost use Rattle.cx_model.specs.ExamplesReaderPutsItsListAnew.{ReaderPutsItsListAnew};
 ghost use Rattle.cx_model.specs.ExamplesStaleRequests.{StaleRequests};
 ghost use Rattle.cx_model.specs.ExamplesStoppedLogsAreJoined.{StoppedLogsAreJoined};
 ghost use Rattle.cx_model.specs.ExamplesTornAppend.{TornAppend};
@@ -304,4 +306,16 @@ pub fn snapshot_of_one()
 /// that comes late is not answered.
 pub fn snapshot_waits()
     ensures { SnapshotWaits }
+{}
+
+/// An acceptor that voted in two rounds puts its list anew, and is opened from the one record that its list then has: it refuses
+/// the earlier round, and a reader is told the same mark.
+pub fn acceptor_puts_its_list_anew()
+    ensures { AcceptorPutsItsListAnew }
+{}
+
+/// A reader puts its list anew, has its last turn in the place of all, and goes on with the next. A renewal that is lost leaves
+/// its list as it was.
+pub fn reader_puts_its_list_anew()
+    ensures { ReaderPutsItsListAnew }
 {}
