@@ -35,6 +35,21 @@ class Acceptor(Rules):
                 d.top = max(d.top, s + 1)
             case kept.Water(i, cw):
                 self.raise_to(i, cw)
+            case kept.Voted(i, top, cw, votes):
+                self.durable = Durable(i, cw, {vote.slot: vote for vote in votes}, top)
+
+    def votes(self) -> tuple[Vote, ...]:
+        """Its votes by rising slot."""
+        return tuple(self.durable.votes[s] for s in sorted(self.durable.votes))
+
+    def snap(self) -> int | None:
+        """One that promised nothing has no record."""
+        return 0 if self.durable.promise > NO_ROUND else None
+
+    def renewed(self, first: int) -> list[kept.Record]:
+        """One record of all that it knows."""
+        d = self.durable
+        return [kept.Voted(d.promise, d.top, d.cw, self.votes())]
 
     def raise_to(self, i: Round, cw: int) -> None:
         """A round is promised, and the votes below a chosen watermark are forgotten."""
@@ -51,7 +66,7 @@ class Acceptor(Rules):
         d = self.durable
         if i < d.promise:
             return self.nack(i)
-        promised = [self.send(leader, msg.Phase1B(i, d.cw, tuple(d.votes[s] for s in sorted(d.votes))))]
+        promised = [self.send(leader, msg.Phase1B(i, d.cw, self.votes()))]
         return Outcome("same", promised) if i == d.promise else Outcome("promised", promised, kept.Promise(i))
 
     def phase2a(self, proxy: Role, i: Round, s: int, cw: int, value: Value) -> Outcome:

@@ -21,7 +21,7 @@ Order = Lead | Change | Collect | Replace
 
 Deliver = NamedTuple("Deliver", [("number", int), ("cut", str)])            # the datagram of this number reaches its role
 Ordered = NamedTuple("Ordered", [("role", Role), ("order", Order), ("cut", str)])
-Snap = NamedTuple("Snap", [("replica", int), ("cut", str)])                 # it forgets the values that no other replica will ask it for
+Snap = NamedTuple("Snap", [("role", Role), ("cut", str)])                   # a role puts its list anew
 Tick = NamedTuple("Tick", [("role", Role)])                                 # a role sends again what it waits for
 Crash = NamedTuple("Crash", [("role", Role)])                               # a role stops
 Restart = NamedTuple("Restart", [("role", Role)])                           # a role is opened from its records

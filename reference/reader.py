@@ -56,6 +56,14 @@ class Reader(Rules):
     def after(self, record: kept.Turn) -> None:
         self.durable = max(self.durable, record.turn)
 
+    def snap(self) -> int | None:
+        """One without a turn has no record."""
+        return 0 if self.durable else None
+
+    def renewed(self, first: int) -> list[kept.Record]:
+        """The last turn."""
+        return [kept.Turn(self.durable)]
+
     def fresh(self) -> Volatile:
         return Volatile(set=self.cluster.first_set)
 

@@ -2,7 +2,7 @@
 
 from typing import NamedTuple
 
-from terms import Answered, Entry, Grid, Round as AnyRound, Set, Value
+from terms import Answered, Entry, Grid, Round as AnyRound, Set, Value, Vote as CastVote
 
 ROUND, BALLOT, GRID, VALUES = ("round", AnyRound), ("ballot", AnyRound), ("grid", Grid), ("values", tuple[Value, ...])
 
@@ -10,6 +10,8 @@ ROUND, BALLOT, GRID, VALUES = ("round", AnyRound), ("ballot", AnyRound), ("grid"
 Promise = NamedTuple("Promise", [ROUND])
 Vote = NamedTuple("Vote", [ROUND, ("slot", int), ("cw", int), ("value", Value)])
 Water = NamedTuple("Water", [ROUND, ("mark", int)])
+# or its list begins anew, with its promise, one more than the greatest slot voted at, the chosen watermark, and its votes from there on
+Voted = NamedTuple("Voted", [ROUND, ("top", int), ("cw", int), ("votes", tuple[CastVote, ...])])
 # of a matchmaker: it records a round, forgets those below one, stops under a ballot, accepts the next set, begins in a set
 Match = NamedTuple("Match", [ROUND, GRID])
 Garbage = NamedTuple("Garbage", [ROUND, GRID])
@@ -27,4 +29,4 @@ Pairs = NamedTuple("Pairs", [("pairs", tuple[tuple[str, str], ...])])
 Notes = NamedTuple("Notes", [("client", int), ("floor", int), ("answers", tuple[Answered, ...])])
 Tail = NamedTuple("Tail", [VALUES])
 
-Record = Promise | Vote | Water | Match | Garbage | Stop | Next | Boot | Round | Turn | Ballot | Log | Base | Pairs | Notes | Tail
+Record = Promise | Vote | Water | Voted | Match | Garbage | Stop | Next | Boot | Round | Turn | Ballot | Log | Base | Pairs | Notes | Tail

@@ -58,10 +58,10 @@ class Rules:
         return Outcome("idle")
 
     def snap(self) -> int | None:
-        """Below which slot the role may forget values, where it may."""
+        """From which slot on the renewed list has values, 0 of a role without values; none where the role doesn't put its list anew."""
 
     def renewed(self, first: int) -> list[Record]:
-        """The list without the values below a slot."""
+        """The list that is put anew."""
         return self.records
 
     # ---- what is sent, and what is stored
@@ -104,7 +104,7 @@ class Rules:
         return refused(down=not self.running) or self.tick()
 
     def snapped(self, cut: str) -> Outcome:
-        """The role forgets what it may."""
+        """The role puts its list anew."""
         return refused(down=not self.running) or refused(idle=self.snap() is None) or self.cut(cut, Outcome("snapped", (), self.snap()))
 
     def crash(self) -> Outcome:

@@ -54,6 +54,13 @@ class Words:
             raise BadLine("no kind of role")
         return Role(kind, index_below(self.cluster.count_of(kind), digits))
 
+    def renewing(self) -> Role:
+        """A role that puts its list anew."""
+        role = self.server()
+        if role.kind not in ("acceptor", "replica", "reader"):
+            raise BadLine("no list that is put anew")
+        return role
+
     def seq_and_floor(self) -> tuple[int, int]:
         """SEQ or SEQ/FLOOR."""
         seq, slash, floor = self.word().partition("/")
@@ -150,7 +157,7 @@ VERBS: dict[str, Callable[[Words], Event]] = {          # arguments are evaluate
     "change": lambda words: Ordered(Role("leader", words.index("leader")), Change(words.grid()), words.cut()),
     "collect": lambda words: words.ended(Ordered(Role("leader", words.index("leader")), Collect(), WHOLE)),
     "replace": lambda words: Ordered(Role("replacer", words.index("replacer")), Replace(words.set()), words.cut()),
-    "snap": lambda words: Snap(words.index("replica"), words.cut()),
+    "snap": lambda words: Snap(words.renewing(), words.cut()),
     "crash": lambda words: words.ended(Crash(words.server())),
     "restart": lambda words: words.ended(Restart(words.server())),
 }
@@ -210,8 +217,6 @@ def head_text(event: Event) -> str:
             return f"{verb} {at}"
         case Ordered(role, order):
             return f"{type(order).__name__.lower()} {role}"
-        case Snap(replica):
-            return f"{verb} replica:{replica}"
         case _:
             return f"{verb} {event.role}"
 

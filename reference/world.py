@@ -82,8 +82,7 @@ class World:
                 return self.turned(role, self.roles[role].ticked())
             case Ordered(role, order, cut):
                 return self.turned(role, self.roles[role].ordered(order, cut))
-            case Snap(replica, cut):
-                role = Role("replica", replica)
+            case Snap(role, cut):
                 return self.turned(role, self.roles[role].snapped(cut))
             case Crash(role):
                 return self.turned(role, self.roles[role].crash())

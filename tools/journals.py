@@ -132,6 +132,14 @@ def vote_of(body: Body) -> str:
     return f"{round_of(body)} {slot_of(body)} {watermark_of(body)}: {value_of(body)}"
 
 
+def voted_of(body: Body) -> str:
+    """How an acceptor's list that was written anew begins: its promise, one more than the greatest slot that it voted at, and its votes
+    from its watermark on."""
+    front = f"{round_of(body)} top {body.number(8, 'number of slots', 0, MOST_SLOTS)} {watermark_of(body)}"
+    votes = [f"{round_of(body)} {slot_of(body)} {value_of(body)}" for _ in range(body.number(1, "number of votes", 0, 32))]
+    return f"{front}: {' | '.join(votes)}"
+
+
 def log_of(body: Body) -> str:
     """The values of the next slots; which slots these are the record doesn't say."""
     count = body.number(1, "number of values", 1, 32)
@@ -238,6 +246,7 @@ TAGS = {
     14: Tag("Next", "match", lambda body: f"{ballot_of(body)} {set_of(body)}"),
     15: Tag("Boot", "match", joined_of),
     16: Tag("Turn", "reader", turn_of),
+    17: Tag("Voted", "acceptor", voted_of),
 }
 KINDS = tuple(dict.fromkeys(tag.kind for tag in TAGS.values()))     # of roles with a journal
 

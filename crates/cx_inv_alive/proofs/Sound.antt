@@ -1,19 +1,19 @@
 -- In every run names in the stores lie in the cluster.
 use Rattle.cx_inv_run.proofs.Common.{◌≡◌, ◌⊎◌, ℕ, Bool, true, false, List, [], ◌∷◌, ◌++◌, sym, subst, refl, inl, inr, and_parts, and_from}
-use Rattle.cx_inv_run.proofs.Common.{list_all, ◌==◌, filter, nat_lt, if◌then◌else◌, Cluster, Value, RoleId, role, same_role, Entry, Vote}
-use Rattle.cx_inv_run.proofs.Common.{KeptRecord, Written, Record, AcceptorDurable, acceptor_after, acceptor_rules, votes_from_slot}
-use Rattle.cx_inv_run.proofs.Common.{with_vote, bool_cases, same_role-true, MatchmakerDurable, matchmaker_after, matchmaker_rules}
+use Rattle.cx_inv_run.proofs.Common.{list_all, filter, nat_lt, Cluster, Value, RoleId, role, same_role, Entry, Vote}
+use Rattle.cx_inv_run.proofs.Common.{KeptRecord, Written, Record, acceptor_rules}
+use Rattle.cx_inv_run.proofs.Common.{bool_cases, same_role-true, MatchmakerDurable, matchmaker_after, matchmaker_rules}
 use Rattle.cx_inv_run.proofs.Common.{entries_since, entry, has_round, names_entry, names_grid, names_round, names_value, names_vote}
 use Rattle.cx_inv_run.proofs.Common.{either_way, ReplicaDurable, replica_rules, written_after, values_in, Member-cases, all-Member}
 use Rattle.cx_inv_run.proofs.Common.{Member-all, filter-older}
 use Rattle.cx_base.specs.declared.role.Kind.TheVariants as kind
 use Rattle.cx_letter.specs.declared.input.Written.TheVariants as written
 use Rattle.cx_letter.specs.declared.kept.Record.TheVariants as kept
-use Rattle.cx_model.specs.Acceptor.{acceptor_fits}
 use Rattle.cx_model.specs.Matchmaker.{matchmaker_fits}
 use Rattle.cx_model.specs.Replica.{replica_fits}
 use Rattle.cx_inv_run.specs.States.{durable_of, log_in}
 use Rattle.cx_inv_open.specs.Fits.{AllFit, FitsAs}
+use Rattle.cx_inv_open.proofs.Anew.{history_named}
 
 all_left : {X : Type 0} (P q : X → Bool) (xs : List X) → list_all P xs ≡ true → list_all P (filter q xs) ≡ true
 all_left P q xs all = Member-all P (filter q xs) (λ x m. all-Member P xs all x (filter-older q x xs m))
@@ -35,46 +35,9 @@ module _ (c : Cluster) (n : ℕ) (led : nat_lt 0 c.leaders ≡ true) where
 
   -- VOTES
 
-  with_vote_named : (P : Vote → Bool) (v : Vote) (us : List Vote) → P v ≡ true → list_all P us ≡ true → list_all P (with_vote v us) ≡ true
-  with_vote_named P v [] one all = and_from (P v) true one refl
-  with_vote_named P v (u ∷ us) one all =
-      let parts = and_parts (P u) (list_all P us) all in
-      either_way (λ l. list_all P l ≡ true) (u.slot == v.slot) (v ∷ us) (if nat_lt v.slot u.slot then v ∷ u ∷ us else u ∷ with_vote v us)
-      (and_from (P v) (list_all P us) one parts.1)
-      (either_way (λ l. list_all P l ≡ true) (nat_lt v.slot u.slot) (v ∷ u ∷ us) (u ∷ with_vote v us)
-      (and_from (P v) (list_all P (u ∷ us)) one all)
-      (and_from (P u) (list_all P (with_vote v us)) parts.0 (with_vote_named P v us one parts.1)))
-
-  votes_named : (d : AcceptorDurable) (r : Record) → list_all (λ (v : Vote). names_vote c v) d.votes ≡ true → acceptor_fits c A0 d r ≡ true
-      → list_all (λ (v : Vote). names_vote c v) (acceptor_after d r).votes ≡ true
-  votes_named d (kept.Vote i s cw v) all fits =
-      let p1 = and_parts _ _ fits in
-      let p2 = and_parts _ _ p1.0 in
-      let p3 = and_parts _ _ p2.0 in
-      let p4 = and_parts _ _ p3.0 in
-      with_vote_named (λ (x : Vote). names_vote c x) _ (votes_from_slot _ d.votes) p4.0
-      (all_left (λ (x : Vote). names_vote c x) _ d.votes all)
-  votes_named d (kept.Water i cw) all fits = all_left (λ (x : Vote). names_vote c x) _ d.votes all
-  votes_named d other all fits = all
-
-  votes_step : (d : AcceptorDurable) (ks : List KeptRecord) → durable_of acceptor_rules A0 ks ≡ d → (what : Written)
-      → FitsAs c A0 what ks kind.Acceptor → list_all (λ (v : Vote). names_vote c v) d.votes ≡ true
-      → list_all (λ (v : Vote). names_vote c v) (written_after acceptor_rules d what).votes ≡ true
-  votes_step d ks is (written.Record r) fits all = votes_named d r all (subst (λ x. acceptor_fits c A0 x r ≡ true) is fits.0)
-  votes_step d ks is (written.Snap first) fits all = absurd fits
-
   pub all_votes : (history : List KeptRecord) → AllFit c history
       → list_all (λ (v : Vote). names_vote c v) (durable_of acceptor_rules A0 history).votes ≡ true
-  unfolding durable_of
-  all_votes [] fit = refl
-  all_votes (k ∷ ks) fit = go (bool_cases (same_role A0 k.role)) (all_votes ks fit.1)
-    where
-      go : (same_role A0 k.role ≡ true) ⊎ (same_role A0 k.role ≡ false)
-          → list_all (λ (v : Vote). names_vote c v) (durable_of acceptor_rules A0 ks).votes ≡ true
-          → list_all (λ (v : Vote). names_vote c v) (durable_of acceptor_rules A0 (k ∷ ks)).votes ≡ true
-      go (inl t) all = rw t (votes_step (durable_of acceptor_rules A0 ks) ks refl k.what
-          (subst (λ (x : RoleId). FitsAs c x k.what ks x.kind) (sym (same_role-true A0 k.role t)) fit.0) all)
-      go (inr f) all = rw f all
+  all_votes history fit = (history_named c n history fit).votes
 
   -- ROUNDS
 

@@ -120,6 +120,16 @@ full_laws c = record {
       by_role (λ a. FullState (snap_by me first ∷ kept) sent a (states a)) me
       (subst (λ (s : State). FullState (snap_by me first ∷ kept) sent me s) (sym is) tt)
       (λ a f. snap_more kept sent me a first (states a) f (h a));
+  acceptor_anew = λ kept sent states p first known h is e.
+      let me = role kind.Acceptor p in
+      by_role (λ a. FullState (snap_by me first ∷ kept) sent a (states a)) me
+      (subst (λ (s : State). FullState (snap_by me first ∷ kept) sent me s) (sym is) tt)
+      (λ a f. snap_more kept sent me a first (states a) f (h a));
+  reader_anew = λ kept sent states p first v known h is e.
+      let me = role kind.Reader p in
+      by_role (λ a. FullState (snap_by me first ∷ kept) sent a (states a)) me
+      (subst (λ (s : State). FullState (snap_by me first ∷ kept) sent me s) (sym is) tt)
+      (λ a f. snap_more kept sent me a first (states a) f (h a));
   unbatcher = λ kept sent states u i known h is given. lands_full kept sent states h (role kind.Unbatcher u) plain _ tt;
   reader = λ kept sent states r v i known h is given. lands_full kept sent states h (role kind.Reader r) ReaderIn _ tt;
   replacer = λ kept sent states x v i known h is given. lands_full kept sent states h (role kind.Replacer x) ReplacerIn _ tt;

@@ -228,7 +228,7 @@ module _ (c : Cluster) (w : World) (is_c : w.cluster ≡ c) (full : HoldsIn Full
     event_did (event.Order l order cut) = at_did (Give (input.Order order) cut) (role kind.Leader l)
     event_did (event.Replace x s cut) = at_did (Give (input.Order (Replace s)) cut) (role kind.Replacer x)
     event_did (event.Crash r) = at_did Stop r
-    event_did (event.Snap replica cut) = at_did (Snap cut) (role kind.Replica replica)
+    event_did (event.Snap r cut) = at_did (Snap cut) r
     event_did (event.Restart r) = at_did Wake r
 
   goes_on : (e : Event) (i : Round) → Bypasses w e i → GoesOn w e i

@@ -33,7 +33,7 @@ module _ (w : World) (act : Act) (me : RoleId) where
   act_kinds kind.Acceptor is = by_turn acceptor_rules w.cluster me w.kept (plain_volatile (w.roles me)) (λ t. SentAs kind.Acceptor t.sends)
       (nothing_sent _ _ kind.Acceptor) act
       (λ v i cut e a. of_kind kind.Acceptor _ is (acceptor_kinds w.cluster me is (durable_part acceptor_rules me w.kept) i))
-      (λ v first e q. absurd cc)
+      (λ v first e q d m. absurd m)
   act_kinds kind.Matchmaker is = by_turn matchmaker_rules w.cluster me w.kept (plain_volatile (w.roles me))
       (λ t. SentAs kind.Matchmaker t.sends) (nothing_sent _ _ kind.Matchmaker) act
       (λ v i cut e a. of_kind kind.Matchmaker _ is (matchmaker_kinds w.cluster me is (durable_part matchmaker_rules me w.kept) i))
@@ -48,7 +48,7 @@ module _ (w : World) (act : Act) (me : RoleId) where
   act_kinds kind.Reader is = by_turn reader_rules w.cluster me w.kept (reader_volatile (w.roles me)) (λ t. SentAs kind.Reader t.sends)
       (nothing_sent _ _ kind.Reader) act
       (λ v i cut e a. of_kind kind.Reader _ is (reader_kinds w.cluster me is (durable_part reader_rules me w.kept) v i))
-      (λ v first e q. absurd cc)
+      (λ v first e q d m. absurd m)
   act_kinds kind.Replacer is = by_turn replacer_rules w.cluster me w.kept (replacer_volatile (w.roles me))
       (λ t. SentAs kind.Replacer t.sends) (nothing_sent _ _ kind.Replacer) act
       (λ v i cut e a. of_kind kind.Replacer _ is (replacer_kinds w.cluster me is (durable_part replacer_rules me w.kept) v i))

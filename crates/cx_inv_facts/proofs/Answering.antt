@@ -228,6 +228,10 @@ answer_laws c = record {
       (replica_kinds c (role kind.Replica p) refl (durable_of replica_rules (role kind.Replica p) history) v i);
   snap = λ history sent states p v first facts h is e d m.
       says_more history (snap_by (role kind.Replica p) first ∷ history) (λ k n. inr n) d.from d.msg (h d m);
+  acceptor_anew = λ history sent states p first facts h is e d m.
+      says_more history (snap_by (role kind.Acceptor p) first ∷ history) (λ k n. inr n) d.from d.msg (h d m);
+  reader_anew = λ history sent states p first v facts h is e d m.
+      says_more history (snap_by (role kind.Reader p) first ∷ history) (λ k n. inr n) d.from d.msg (h d m);
   unbatcher = λ history sent states u i facts h is given.
       calm history sent states h (role kind.Unbatcher u) plain _ tt (unbatcher_kinds c (role kind.Unbatcher u) refl i);
   reader = λ history sent states r v i facts h is given. calm history sent states h (role kind.Reader r) ReaderIn _ tt

@@ -8,6 +8,7 @@ use Rattle.cx_inv_run.proofs.Common.{replica_rules, request, IsSender, IsKept, O
 use Rattle.cx_inv_run.proofs.Common.{ProxyIn, ReplicaIn, ReaderIn, ReplacerIn, plain, fresh_state, set_state, entry_by, snap_by}
 use Rattle.cx_inv_run.proofs.Common.{with_record, durable_of, Given, durable_own, durable_other, set_running, kept_longer, Member-first}
 use Rattle.cx_inv_run.proofs.Common.{Member-one, before-itself, snap_same, batcher_kinds, proxy_kinds, acceptor_kinds, matchmaker_kinds}
+use Rattle.cx_inv_run.proofs.Common.{acceptor_snap_same, reader_snap_same}
 use Rattle.cx_inv_run.proofs.Common.{replica_kinds, unbatcher_kinds, reader_kinds, leader_kinds, replacer_kinds}
 use Rattle.cx_inv_match.specs.Prelude.{InState, IsChosenIn}
 use Rattle.cx_base.specs.declared.event.Event.TheVariants as event
@@ -230,6 +231,24 @@ module _ (i : Round) (cw end : ℕ) where
             retiring = λ y. column_more history longer sent sent (λ k m. inr m) (λ d m. m) (x.retiring y);
             running = λ a. state_more history longer sent sent (λ k m. inr m) (λ d m. m) a
                 ((snap_same history known.kinds.keepers p first).leaders a) (states a) (x.running a);
+          };
+      acceptor_anew = λ history sent states p first known h at e has.
+          let longer = snap_by (role kind.Acceptor p) first ∷ history in
+          let x = h known.has in
+          record {
+            low = x.low;
+            retiring = λ y. column_more history longer sent sent (λ k m. inr m) (λ d m. m) (x.retiring y);
+            running = λ a. state_more history longer sent sent (λ k m. inr m) (λ d m. m) a
+                ((acceptor_snap_same history known.kinds.keepers p first).leaders a) (states a) (x.running a);
+          };
+      reader_anew = λ history sent states p first v known h at e has.
+          let longer = snap_by (role kind.Reader p) first ∷ history in
+          let x = h known.has in
+          record {
+            low = x.low;
+            retiring = λ y. column_more history longer sent sent (λ k m. inr m) (λ d m. m) (x.retiring y);
+            running = λ a. state_more history longer sent sent (λ k m. inr m) (λ d m. m) a
+                ((reader_snap_same history known.kinds.keepers p first).leaders a) (states a) (x.running a);
           };
       unbatcher = λ history sent states u j known h at given. calm history sent states (h known.has) (role kind.Unbatcher u) plain
           _ (λ p. cc) (unbatcher_kinds c (role kind.Unbatcher u) refl j) tt;

@@ -41,7 +41,7 @@ request_proposes n (event.Tick r) j s v x = x.4
 request_proposes n (event.Order leader order cut) j s v x = x.4
 request_proposes n (event.Replace replacer set cut) j s v x = x.4
 request_proposes n (event.Crash r) j s v x = x.4
-request_proposes n (event.Snap replica cut) j s v x = x.4
+request_proposes n (event.Snap r cut) j s v x = x.4
 request_proposes n (event.Restart r) j s v x = x.4
 
 module _ (past : List KeptRecord) (sent_then : List Letter) where
@@ -106,6 +106,8 @@ module _ (past : List KeptRecord) (sent_then : List Letter) where
         calm history sent states h (role kind.Replica p) ReplicaIn _ (λ q. cc)
         (replica_kinds c (role kind.Replica p) refl (durable_of replica_rules (role kind.Replica p) history) v i);
     snap = λ history sent states p v first known h at e j s u l x. h j s u l x;
+    acceptor_anew = λ history sent states p first known h at e j s u l x. h j s u l x;
+    reader_anew = λ history sent states p first v known h at e j s u l x. h j s u l x;
     unbatcher = λ history sent states u i known h at given.
         calm history sent states h (role kind.Unbatcher u) plain _ (λ p. cc) (unbatcher_kinds c (role kind.Unbatcher u) refl i);
     reader = λ history sent states r v i known h at given. calm history sent states h (role kind.Reader r) ReaderIn _ (λ p. cc)

@@ -6,6 +6,7 @@ use Rattle.cx_inv_run.proofs.Common.{Member, Outcome, HasKept, IsConfig, ProxyVo
 use Rattle.cx_inv_run.proofs.Common.{Laws, State, Down, BatcherIn, LeaderIn, ProxyIn, ReplicaIn, ReaderIn, ReplacerIn, plain, fresh_state}
 use Rattle.cx_inv_run.proofs.Common.{set_state, snap_by, with_record, durable_of, Given, HoldsIn, durable_by_time, durable_other}
 use Rattle.cx_inv_run.proofs.Common.{set_running, kinds_hold, Member-first, any-Member, same_round-true, snap_same, always}
+use Rattle.cx_inv_run.proofs.Common.{acceptor_snap_same, reader_snap_same}
 use Rattle.cx_base.specs.declared.role.Kind.TheVariants as kind
 use Rattle.cx_letter.specs.declared.kept.Record.TheVariants as kept
 use Rattle.cx_model.specs.Facts.{has_recorded, is_round_in}
@@ -153,6 +154,12 @@ module _ (c : Cluster) where
     snap = λ history sent states p v first known h at e me.
         state_more sent sent (λ d m. m) me history (snap_by (role kind.Replica p) first ∷ history)
         ((snap_same history known.kinds.keepers p first).leaders me) (states me) (h me);
+    acceptor_anew = λ history sent states p first known h at e me.
+        state_more sent sent (λ d m. m) me history (snap_by (role kind.Acceptor p) first ∷ history)
+        ((acceptor_snap_same history known.kinds.keepers p first).leaders me) (states me) (h me);
+    reader_anew = λ history sent states p first v known h at e me.
+        state_more sent sent (λ d m. m) me history (snap_by (role kind.Reader p) first ∷ history)
+        ((reader_snap_same history known.kinds.keepers p first).leaders me) (states me) (h me);
     unbatcher = λ history sent states u j known h at given. landed history sent states h (role kind.Unbatcher u) plain _ tt;
     reader = λ history sent states r v j known h at given. landed history sent states h (role kind.Reader r) ReaderIn _ tt;
     replacer = λ history sent states x v j known h at given. landed history sent states h (role kind.Replacer x) ReplacerIn _ tt;

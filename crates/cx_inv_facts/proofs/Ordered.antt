@@ -60,6 +60,8 @@ ordered_laws c = record {
       calm history sent states h (role kind.Replica p) ReplicaIn _ tt
       (replica_kinds c (role kind.Replica p) refl (durable_of replica_rules (role kind.Replica p) history) v i);
   snap = λ history sent states p v first facts h is e. (λ k m f. tt, h);
+  acceptor_anew = λ history sent states p first facts h is e. (λ k m f. tt, h);
+  reader_anew = λ history sent states p first v facts h is e. (λ k m f. tt, h);
   unbatcher = λ history sent states u i facts h is given.
       calm history sent states h (role kind.Unbatcher u) plain _ tt (unbatcher_kinds c (role kind.Unbatcher u) refl i);
   reader = λ history sent states r v i facts h is given. calm history sent states h (role kind.Reader r) ReaderIn _ tt

@@ -82,6 +82,10 @@ real_laws c = record {
       (replica_kinds c (role kind.Replica p) refl (durable_of replica_rules (role kind.Replica p) history) v i);
   snap =
       λ history sent states p v first facts h is e me i g x. h me i g (no_snap (role kind.Replica p) me first (kept.Round i g) history x);
+  acceptor_anew =
+      λ history sent states p first facts h is e me i g x. h me i g (no_snap (role kind.Acceptor p) me first (kept.Round i g) history x);
+  reader_anew =
+      λ history sent states p first v facts h is e me i g x. h me i g (no_snap (role kind.Reader p) me first (kept.Round i g) history x);
   unbatcher = λ history sent states u i facts h is given.
       calm history sent states h (role kind.Unbatcher u) plain _ (λ p. cc) (unbatcher_kinds c (role kind.Unbatcher u) refl i);
   reader = λ history sent states r v i facts h is given. calm history sent states h (role kind.Reader r) ReaderIn _ (λ p. cc)

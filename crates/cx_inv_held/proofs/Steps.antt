@@ -8,6 +8,7 @@ use Rattle.cx_inv_run.proofs.Common.{batcher_kinds, matchmaker_kinds, unbatcher_
 use Rattle.cx_model.specs.Promises.{ForgottenIsKept}
 use Rattle.cx_inv_run.proofs.TieLaws.{tied_in}
 use Rattle.cx_inv_held.proofs.Keep.{low_snap, AllSayLow, none_low, one_low, both_low, low_with, low_lands}
+use Rattle.cx_inv_held.proofs.Renewals.{renewals_keep_all}
 use Rattle.cx_inv_held.proofs.Stores.{lists_hold, stores_hold}
 use Rattle.cx_base.specs.declared.event.Event.TheVariants as event
 use Rattle.cx_base.specs.declared.role.Kind.TheVariants as kind
@@ -82,7 +83,9 @@ low_laws c = record {
       (matchmaker_kinds c (role kind.Matchmaker m) refl (durable_of matchmaker_rules (role kind.Matchmaker m) kept) i));
   replica = λ kept sent states p v i known h is given.
       low_lands c kept sent states h (role kind.Replica p) ReplicaIn _ (replica_low c kept sent states known p v i);
-  snap = λ kept sent states p v first known h is e. low_snap c kept sent states h p first;
+  snap = λ kept sent states p v first known h is e. low_snap c kept sent states h (role kind.Replica p) first;
+  acceptor_anew = λ kept sent states a first known h is e. low_snap c kept sent states h (role kind.Acceptor a) first;
+  reader_anew = λ kept sent states r first v known h is e. low_snap c kept sent states h (role kind.Reader r) first;
   unbatcher = λ kept sent states u i known h is given. low_lands c kept sent states h (role kind.Unbatcher u) plain
       _ (calm_low c kept plain (role kind.Unbatcher u) _ tt tt (unbatcher_kinds c (role kind.Unbatcher u) refl i));
   reader = λ kept sent states r v i known h is given.
@@ -116,4 +119,8 @@ forgotten_is_kept c es p within =
     omega (arith, stores.forgotten p within, same, log)
 
 pub safe_snapshots : SafeSnapshots
-safe_snapshots = record { nothing_is_lost = λ c es p within. tied_in c es p; forgotten_is_kept = forgotten_is_kept }
+safe_snapshots = record {
+  nothing_is_lost = λ c es p within. tied_in c es p;
+  forgotten_is_kept = forgotten_is_kept;
+  renewals_keep_all = renewals_keep_all;
+}

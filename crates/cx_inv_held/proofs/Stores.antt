@@ -316,6 +316,24 @@ module _ (c : Cluster) (history : List KeptRecord) (sent : List Letter) (states 
           k < c.replicas → first_of longer (role kind.Replica k) ≤ slots_held longer (before c (role kind.Replica k))) p q own (others q);
     }
 
+-- a role that is no replica puts its list anew
+anew_stores : (c : Cluster) (history : List KeptRecord) (sent : List Letter) (states : RoleId → State) → Stores c history sent states
+    → (me : RoleId) (first : ℕ) → ((p : ℕ) → same_role (role kind.Replica p) me ≡ false)
+    → Stores c (snap_by me first ∷ history) sent states
+anew_stores c history sent states h who first e =
+    let longer = snap_by who first ∷ history in
+    let more = lengthens history (snap_by who first) in
+    record {
+      lists = λ q. ap (λ l. held_in l) (list_others (role kind.Replica q) who (written.Snap first) history (e q)) ∙ h.lists q
+          ∙ sym (ap (λ l. length l) (log_snap who q first history));
+      fetched = λ q l. still_fetched c history sent states h longer more q (states (role kind.Replica q)) (h.fetched q l);
+      forgotten = λ q within.
+          let same = ap (λ (x : ReplicaDurable). x.first) (durable_else replica_rules who (role kind.Replica q) first history (e q)) in
+          let old = h.forgotten q within in
+          let l = more (before c (role kind.Replica q)) in
+          omega (arith, same, old, l);
+    }
+
 -- nothing has happened, and a role that was just opened
 
 fresh_fetched : (c : Cluster) (history : List KeptRecord) (p : ℕ) (k : Kind) → IsFetched c history p (fresh_state c k)
@@ -367,6 +385,9 @@ stores_laws c = record {
       (durable_of matchmaker_rules (role kind.Matchmaker m) history) i) (λ p. refl) (λ p. tt);
   replica = λ history sent states p v i known h is given. replica_landed c history sent states h known.1 p v i is given;
   snap = λ history sent states p v first known h is e. snapped c history sent states h known.0 p v first is e;
+  acceptor_anew = λ history sent states a first known h is e.
+      anew_stores c history sent states h (role kind.Acceptor a) first (λ p. refl);
+  reader_anew = λ history sent states r first v known h is e. anew_stores c history sent states h (role kind.Reader r) first (λ p. refl);
   unbatcher = λ history sent states u i known h is given. elsewhere c history sent states h (role kind.Unbatcher u) plain
       _ (unbatcher_kinds c (role kind.Unbatcher u) refl i) (λ p. refl) (λ p. tt);
   reader = λ history sent states r v i known h is given. elsewhere c history sent states h (role kind.Reader r) ReaderIn

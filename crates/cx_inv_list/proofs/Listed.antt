@@ -90,6 +90,7 @@ module _ (q : RequestPredicates) (k : Kind) (calm : IsCalm k) where
 
   calm_keeps : (o : Option Record) → IsKept k o → ListKeepsRecord q o
   calm_keeps (Some (kept.Vote i s cw v)) e = absurd (subst IsCalm e calm)
+  calm_keeps (Some (kept.Voted i top cw vs)) e = cc
   calm_keeps other s = tt
 
 pub calm_listed : (q : RequestPredicates) (history : List KeptRecord) {V : Type 0} (make : V → State) (me : RoleId) (o : Outcome V)
@@ -118,8 +119,9 @@ after_asked q d (written.Record (kept.Vote i s cw v)) k h =
     λ u m. ⊎_elim (λ e. subst (λ (x : Vote). AreAsked q (commands_of x.value)) (sym e) k) (from_asked q (max d.cw cw) d.votes h u)
     (with_vote-cases u (record { round = i; slot = s; value = v }) (votes_from_slot (max d.cw cw) d.votes) m)
 after_asked q d (written.Record (kept.Water i cw)) k h = from_asked q (max d.cw cw) d.votes h
+after_asked q d (written.Record (kept.Voted i top cw vs)) k h = k
 after_asked q d (written.Record other) k h = h
-after_asked q d (written.Snap first) k h = λ u m. absurd m
+after_asked q d (written.Snap first) k h = h
 
 -- what an acceptor remembers was asked for, since what it kept was
 pub votes_asked : (q : RequestPredicates) (history : List KeptRecord) (a : RoleId)

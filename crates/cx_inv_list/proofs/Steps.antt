@@ -36,7 +36,7 @@ request_says q history n (event.Deliver k cut) h = λ d m. absurd m
 request_says q history n (event.Tick r) h = λ d m. absurd m
 request_says q history n (event.Order l order cut) h = λ d m. absurd m
 request_says q history n (event.Replace x s cut) h = λ d m. absurd m
-request_says q history n (event.Snap p cut) h = λ d m. absurd m
+request_says q history n (event.Snap r cut) h = λ d m. absurd m
 request_says q history n (event.Crash r) h = λ d m. absurd m
 request_says q history n (event.Restart r) h = λ d m. absurd m
 
@@ -104,6 +104,9 @@ list_laws q c = record {
       (replica_listed q c history p (known.tied p) v (running_in q history sent states facts (role kind.Replica p) (ReplicaIn v) e) i
       (heard q history sent facts.says (role kind.Replica p) i given));
   snap = λ history sent states p v first known facts is e. list_snapped q history sent states facts (role kind.Replica p) first;
+  acceptor_anew = λ history sent states p first known facts is e.
+      list_snapped q history sent states facts (role kind.Acceptor p) first;
+  reader_anew = λ history sent states p first v known facts is e. list_snapped q history sent states facts (role kind.Reader p) first;
   unbatcher = λ history sent states u i known facts e given.
       listed_lands q history sent states facts (role kind.Unbatcher u) plain _
       (unbatcher_listed q c history (role kind.Unbatcher u) i (heard q history sent facts.says (role kind.Unbatcher u) i given));
@@ -154,7 +157,7 @@ allowed_by events n (event.Deliver k cut) m = tt
 allowed_by events n (event.Tick r) m = tt
 allowed_by events n (event.Order l order cut) m = tt
 allowed_by events n (event.Replace x s cut) m = tt
-allowed_by events n (event.Snap p cut) m = tt
+allowed_by events n (event.Snap r cut) m = tt
 allowed_by events n (event.Crash r) m = tt
 allowed_by events n (event.Restart r) m = tt
 

@@ -56,6 +56,7 @@ ListSays q history from to other = Unit {0}
 -- a vote's commands were asked for
 abbrev pub ListKeeps : RequestPredicates → Written → Type 0
 ListKeeps q (written.Record (kept.Vote i s cw v)) = AreAsked q (commands_of v)
+ListKeeps q (written.Record (kept.Voted i top cw vs)) = AreVotesAsked q vs
 ListKeeps q other = Unit {0}
 
 -- the keys of these reads, and of a batch's, were asked for

@@ -5,7 +5,7 @@ use Rattle.cx_inv_run.proofs.Common.{HasVoted, IsProposed, IsRetiring, LeaderWas
 use Rattle.cx_inv_run.proofs.Common.{matchmaker_rules, matchmaker_after, HasKept, IsConfig, ReplacerDurable, replacer_rules, values_in}
 use Rattle.cx_inv_run.proofs.Common.{Kinds, State, Down, Plain, BatcherIn, LeaderIn, ProxyIn, ReplicaIn, ReaderIn, ReplacerIn, set_state}
 use Rattle.cx_inv_run.proofs.Common.{entry_by, snap_by, durable_of, log_in, by_role, durable_own, durable_other, set_running, kept_other}
-use Rattle.cx_inv_run.proofs.Common.{snap_same, HasRound}
+use Rattle.cx_inv_run.proofs.Common.{acceptor_snap_same, reader_snap_same, snap_same, HasRound}
 use Rattle.cx_base.specs.declared.role.Kind.TheVariants as kind
 use Rattle.cx_letter.specs.declared.input.Written.TheVariants as written
 use Rattle.cx_letter.specs.declared.kept.Record.TheVariants as kept
@@ -308,3 +308,17 @@ pub keep_snap : (c : Cluster) (history : List KeptRecord) (sent : List Letter) (
     → Facts c history sent states → (p first : ℕ) → Facts c (snap_by (role kind.Replica p) first ∷ history) sent states
 keep_snap c history sent states kinds facts p first =
     same_facts c history (snap_by (role kind.Replica p) first ∷ history) sent (snap_same history kinds.keepers p first) states facts
+
+-- an acceptor or a reader puts its list anew
+pub keep_acceptor_anew : (c : Cluster) (history : List KeptRecord) (sent : List Letter) (states : RoleId → State)
+    → Kinds history sent states → Facts c history sent states → (a first : ℕ)
+    → Facts c (snap_by (role kind.Acceptor a) first ∷ history) sent states
+keep_acceptor_anew c history sent states kinds facts a first =
+    same_facts c history (snap_by (role kind.Acceptor a) first ∷ history) sent (acceptor_snap_same history kinds.keepers a first) states
+    facts
+
+pub keep_reader_anew : (c : Cluster) (history : List KeptRecord) (sent : List Letter) (states : RoleId → State)
+    → Kinds history sent states → Facts c history sent states → (r first : ℕ)
+    → Facts c (snap_by (role kind.Reader r) first ∷ history) sent states
+keep_reader_anew c history sent states kinds facts r first =
+    same_facts c history (snap_by (role kind.Reader r) first ∷ history) sent (reader_snap_same history kinds.keepers r first) states facts

@@ -1,4 +1,5 @@
 pub mod Acceptors
+pub mod Anew
 pub mod Keep
 pub mod LeaderRows
 pub mod Leaders

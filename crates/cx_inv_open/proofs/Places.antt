@@ -84,7 +84,7 @@ module _ (w : World) (there : IsThere w.cluster w.roles) where
   changed (event.Tick r) = acts (Give input.Tick Whole) r r.kind
   changed (event.Order l order cut) = acts (Give (input.Order order) cut) (role kind.Leader l) kind.Leader
   changed (event.Replace x s cut) = acts (Give (input.Order (order.Replace s)) cut) (role kind.Replacer x) kind.Replacer
-  changed (event.Snap p cut) = acts (Snap cut) (role kind.Replica p) kind.Replica
+  changed (event.Snap r cut) = acts (Snap cut) r r.kind
   changed (event.Crash r) = acts Stop r r.kind
   changed (event.Restart r) = acts Wake r r.kind
 

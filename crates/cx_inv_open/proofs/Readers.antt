@@ -1,7 +1,7 @@
 -- A reader keeps its turns in order, none above the last one.
-use Rattle.cx_inv_run.proofs.Common.{◌≡◌, ℕ, ◌+◌, ◌==◌, ◌≤◌, ◌&&◌, true, false, not, nat_le, nat_lt, max, List, [], ◌∷◌, ◌++◌, length}
-use Rattle.cx_inv_run.proofs.Common.{Option, None, Some, refl, sym, subst, arith, and_parts, and_from, not-true, nat_tests, Cluster, RoleId}
-use Rattle.cx_inv_run.proofs.Common.{Round, Why, Sent, role, same_role, is_in, same_round, is_above, Asking, Entry, Letter, Input}
+use Rattle.cx_inv_run.proofs.Common.{◌≡◌, ℕ, ◌+◌, ◌==◌, ◌≤◌, ◌&&◌, ◌||◌, true, false, not, nat_le, nat_lt, max, List, [], ◌∷◌, ◌++◌}
+use Rattle.cx_inv_run.proofs.Common.{length, Option, None, Some, refl, sym, subst, arith, and_parts, and_from, not-true, nat_tests, Cluster}
+use Rattle.cx_inv_run.proofs.Common.{RoleId, Round, Why, Sent, role, same_role, is_in, same_round, is_above, Asking, Entry, Letter, Input}
 use Rattle.cx_inv_run.proofs.Common.{KeptRecord, Written, Msg, same_role-true, is_counted, is_member_of, greatest_watermark, live_entries}
 use Rattle.cx_inv_run.proofs.Common.{rows_whole, names, Outcome, by_test, either_way, Asked, ReaderDurable, ReaderVolatile, acked_by}
 use Rattle.cx_inv_run.proofs.Common.{ask_replicas, asked_anew, asked_for, begin, begin_if, greatest_mark, has_acked, is_among, is_first}
@@ -15,6 +15,7 @@ use Rattle.cx_letter.specs.declared.kept.Record.TheVariants as kept
 use Rattle.cx_letter.specs.declared.message.Msg.TheVariants as msg
 use Rattle.cx_model.specs.Reader.{Batch, finish}
 use Rattle.cx_inv_run.specs.States.{durable_of}
+use Rattle.cx_inv_run.proofs.Snaps.{reader_exact}
 use Rattle.cx_inv_open.specs.Fits.{FitsAs, AllFit, Fitting}
 use Rattle.cx_inv_open.proofs.Keep.{calm_in, new_fits, lands}
 
@@ -27,9 +28,10 @@ written_below : (c : Cluster) (me : RoleId) (w : Written) (ks : List KeptRecord)
     → (durable_of reader_rules me ks).turn ≤ last_turn → (written_after reader_rules (durable_of reader_rules me ks) w).turn ≤ last_turn
 written_below c me (written.Record (kept.Turn n)) ks h low =
     let d = durable_of reader_rules me ks in
-    greatest_below d.turn n last_turn low (and_parts (n == d.turn + 1) (nat_le n last_turn) h.0).1
+    greatest_below d.turn n last_turn low (and_parts (n == d.turn + 1 || d.turn == 0) (nat_le n last_turn) h.0).1
 written_below c me (written.Record other) ks h low = low
-written_below c me (written.Snap first) ks h low = absurd h
+written_below c me (written.Snap first) ks h low =
+    subst (λ (d : ReaderDurable). d.turn ≤ last_turn) (sym (reader_exact (durable_of reader_rules me ks) first)) low
 
 pub turn_below : (c : Cluster) (me : RoleId) → me.kind ≡ kind.Reader → (ks : List KeptRecord) → AllFit c ks
     → (durable_of reader_rules me ks).turn ≤ last_turn
@@ -43,8 +45,9 @@ turn_below c me is (k ∷ ks) h =
     (λ f. low)
 
 -- the turn after one that isn't the last
-next_turn : (n last : ℕ) → n ≤ last → (n == last) ≡ false → ((n + 1 == n + 1) && nat_le (n + 1) last) ≡ true
-next_turn n last low before = and_from (n + 1 == n + 1) (nat_le (n + 1) last) (grind (arith, nat_tests)) (grind (arith, nat_tests))
+next_turn : (n last : ℕ) → n ≤ last → (n == last) ≡ false → ((n + 1 == n + 1 || n == 0) && nat_le (n + 1) last) ≡ true
+next_turn n last low before =
+    and_from (n + 1 == n + 1 || n == 0) (nat_le (n + 1) last) (grind (arith, nat_tests)) (grind (arith, nat_tests))
 
 module _ (c : Cluster) (me : RoleId) (d : ReaderDurable) (low : d.turn ≤ last_turn) where
   abbrev Fine : Outcome ReaderVolatile → Type 0

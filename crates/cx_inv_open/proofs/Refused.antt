@@ -73,7 +73,7 @@ module _ {D V : Type 0} (rules : Rules D V) (c : Cluster) (me : RoleId) where
       → (ks : List KeptRecord) → AllFit c ks → refused rules c me (list_of rules me (reverse ks)) ≡ None
   accepted_as blank k is of ks h = own_accepted blank ks (own_of (λ l. Unit {0}) (λ x l t. tt) k is (λ w l t. of w l) ks tt h)
 
--- the changes of each kind of role: none, records alone, or a replica's
+-- the changes of each kind of role: none, records alone, or lists put anew too
 
 batcher_step : {A : Type 0} (c : Cluster) (me : RoleId) (w : Written) (ks : List KeptRecord) → FitsAs c me w ks kind.Batcher → A
 batcher_step c me (written.Record r) ks h = absurd h
@@ -95,7 +95,7 @@ leader_step c me (written.Snap first) ks h = absurd h
 acceptor_step : (c : Cluster) (me : RoleId) (w : Written) (ks : List KeptRecord) → FitsAs c me w ks kind.Acceptor
     → StepFits acceptor_rules c me ks w
 acceptor_step c me (written.Record r) ks h = h
-acceptor_step c me (written.Snap first) ks h = absurd h
+acceptor_step c me (written.Snap first) ks h = h
 
 matchmaker_step : (c : Cluster) (me : RoleId) (w : Written) (ks : List KeptRecord) → FitsAs c me w ks kind.Matchmaker
     → StepFits matchmaker_rules c me ks w
@@ -105,7 +105,7 @@ matchmaker_step c me (written.Snap first) ks h = absurd h
 reader_step : (c : Cluster) (me : RoleId) (w : Written) (ks : List KeptRecord) → FitsAs c me w ks kind.Reader
     → StepFits reader_rules c me ks w
 reader_step c me (written.Record r) ks h = h
-reader_step c me (written.Snap first) ks h = absurd h
+reader_step c me (written.Snap first) ks h = h
 
 replacer_step : (c : Cluster) (me : RoleId) (w : Written) (ks : List KeptRecord) → FitsAs c me w ks kind.Replacer
     → StepFits replacer_rules c me ks w

@@ -12,6 +12,7 @@ use Rattle.cx_inv_held.proofs.Steps.{low_facts}
 use Rattle.cx_inv_open.specs.Fits.{InRange, Fitting}
 use Rattle.cx_inv_open.specs.Reopened.{RolesReopen}
 use Rattle.cx_inv_open.proofs.Acceptors.{acceptor_lands}
+use Rattle.cx_inv_open.proofs.Anew.{acceptor_opens, reader_opens}
 use Rattle.cx_inv_open.proofs.Keep.{AllInWindow, none_in, one_in, both_in, calm_in, none_new, with_state, lands}
 use Rattle.cx_inv_open.proofs.Leaders.{leader_lands}
 use Rattle.cx_inv_open.proofs.Matchmakers.{matchmaker_lands}
@@ -68,6 +69,10 @@ fitting_laws c = record {
   matchmaker = λ kept sent states m i known h is given. matchmaker_lands c kept sent states h m i;
   replica = λ kept sent states p v i known h is given. replica_lands c kept sent states known.0 known.2 h p v i is given;
   snap = λ kept sent states p v first known h is e. snapped c kept sent states known.0 known.2 h p v first e;
+  acceptor_anew = λ kept sent states a first known h is e.
+      record { fit = (acceptor_opens c kept h.fit a first e, h.fit); says = h.says; running = h.running };
+  reader_anew = λ kept sent states r first v known h is e.
+      record { fit = (reader_opens c kept h.fit r first, h.fit); says = h.says; running = h.running };
   unbatcher = λ kept sent states u i known h is given.
       let me = role kind.Unbatcher u in
       let kinds = unbatcher_kinds c me refl i in

@@ -13,8 +13,8 @@ use Rattle.cx_inv_run.specs.States.{durable_of, log_in}
 abbrev pub has_fitting_floors : List Value → Bool
 has_fitting_floors values = list_all (λ (v : Value). list_all (λ (k : Command). floor_fits k.seq k.floor) (commands_of v)) values
 
--- A role of this kind, with these changes before, could have appended this record, and its list may end with it; or the replica opens from
--- the renewed list, if the floors that it was told fit.
+-- A role of this kind, with these changes before, could have appended this record, and its list may end with it; or it opens from the
+-- renewed list, a replica if the floors that it was told fit.
 abbrev pub FitsAs : Cluster → RoleId → Written → List KeptRecord → Kind → Type 0
 FitsAs c me (written.Record r) history kind.Leader = IsFit leader_rules c me (durable_of leader_rules me history) (Some r)
 FitsAs c me (written.Record r) history kind.Acceptor = IsFit acceptor_rules c me (durable_of acceptor_rules me history) (Some r)
@@ -24,6 +24,10 @@ FitsAs c me (written.Record r) history kind.Reader = IsFit reader_rules c me (du
 FitsAs c me (written.Record r) history kind.Replacer = IsFit replacer_rules c me (durable_of replacer_rules me history) (Some r)
 FitsAs c me (written.Snap first) history kind.Replica = has_fitting_floors (log_in history me.index) ≡ true
     → refused replica_rules c me (replica_rules.renewed (durable_of replica_rules me history) first) ≡ None
+FitsAs c me (written.Snap first) history kind.Acceptor =
+    refused acceptor_rules c me (acceptor_rules.renewed (durable_of acceptor_rules me history) first) ≡ None
+FitsAs c me (written.Snap first) history kind.Reader =
+    refused reader_rules c me (reader_rules.renewed (durable_of reader_rules me history) first) ≡ None
 FitsAs c me what history other = ⊥
 
 -- the same of a new record, if there is one, and of each change with the earlier ones

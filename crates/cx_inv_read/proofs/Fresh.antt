@@ -130,6 +130,10 @@ module _ (c : Cluster) (asked : List KeptRecord) (sent0 : List Letter) (states0 
         (no_acks c asked sent0 t history sent states known.0.1 (h known.1 known.2) (role kind.Replica p) _ (λ e. cc) kinds) tt;
     snap = λ history sent states p v first known h up e has has_sent. more_changes c asked sent0 t history
         (snap_by (role kind.Replica p) first ∷ history) (λ k x. inr x) sent states has (h known.1 known.2);
+    acceptor_anew = λ history sent states p first known h up e has has_sent. more_changes c asked sent0 t history
+        (snap_by (role kind.Acceptor p) first ∷ history) (λ k x. inr x) sent states has (h known.1 known.2);
+    reader_anew = λ history sent states p first v known h up e has has_sent. more_changes c asked sent0 t history
+        (snap_by (role kind.Reader p) first ∷ history) (λ k x. inr x) sent states has (h known.1 known.2);
     unbatcher = λ history sent states u i known h up given.
         let kinds = unbatcher_kinds c (role kind.Unbatcher u) refl i in
         lands c asked sent0 t history sent states known.0.1 (h known.1 known.2) (role kind.Unbatcher u) plain _

@@ -115,6 +115,8 @@ answer_laws c = record {
       (replica_says c sent (role kind.Replica p) (durable_of replica_rules (role kind.Replica p) history) v
       (subst (λ s. InState c history sent (role kind.Replica p) s) up (known.1.running (role kind.Replica p))) i given);
   snap = λ history sent states p v first known h up e. h;
+  acceptor_anew = λ history sent states p first known h up e. h;
+  reader_anew = λ history sent states p first v known h up e. h;
   unbatcher = λ history sent states u i known h up given.
       other_lands history sent states h (role kind.Unbatcher u) _ _ (λ e. cc) (unbatcher_kinds c (role kind.Unbatcher u) refl i);
   reader = λ history sent states r v i known h up given. other_lands history sent states h (role kind.Reader r) _ _ (λ e. cc)

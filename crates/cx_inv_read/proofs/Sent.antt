@@ -92,6 +92,8 @@ module _ (c : Cluster) (before : List KeptRecord) (earlier : List Letter) where
         lands history sent states known.1 (role kind.Replica p) _ _ (others (role kind.Replica p) _ (λ e. cc)
         (replica_kinds c (role kind.Replica p) refl (durable_of replica_rules (role kind.Replica p) history) v i));
     snap = λ history sent states p v first known h up e. h;
+    acceptor_anew = λ history sent states p first known h up e. h;
+    reader_anew = λ history sent states p first v known h up e. h;
     unbatcher = λ history sent states u i known h up given. lands history sent states known.1 (role kind.Unbatcher u)
         _ _ (others (role kind.Unbatcher u) _ (λ e. cc) (unbatcher_kinds c (role kind.Unbatcher u) refl i));
     reader = λ history sent states r v i known h up given.

@@ -39,7 +39,7 @@ module _ (t : Token) (Marks : ℕ → Type 0) where
   asks n (event.Deliver k cut) marked = λ d m. absurd m
   asks n (event.Tick r) marked = λ d m. absurd m
   asks n (event.Order l order cut) marked = λ d m. absurd m
-  asks n (event.Snap p cut) marked = λ d m. absurd m
+  asks n (event.Snap r cut) marked = λ d m. absurd m
   asks n (event.Replace x set cut) marked = λ d m. absurd m
   asks n (event.Crash r) marked = λ d m. absurd m
   asks n (event.Restart r) marked = λ d m. absurd m
@@ -69,6 +69,8 @@ module _ (t : Token) (Marks : ℕ → Type 0) where
         lands history sent states h (role kind.Replica p) _ _ (λ e. cc)
         (replica_kinds c (role kind.Replica p) refl (durable_of replica_rules (role kind.Replica p) history) v i);
     snap = λ history sent states p v first known h up e. h;
+    acceptor_anew = λ history sent states p first known h up e. h;
+    reader_anew = λ history sent states p first v known h up e. h;
     unbatcher = λ history sent states u i known h up given.
         lands history sent states h (role kind.Unbatcher u) _ _ (λ e. cc) (unbatcher_kinds c (role kind.Unbatcher u) refl i);
     reader = λ history sent states r v i known h up given. lands history sent states h (role kind.Reader r) _ _ (λ e. cc)

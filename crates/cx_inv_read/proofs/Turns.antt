@@ -15,7 +15,7 @@ use Rattle.cx_inv_run.proofs.Common.{Given, durable_of, entry_by, snap_by, fresh
 use Rattle.cx_inv_run.proofs.Common.{durable_own, kept_cases, kept_longer, kept_other, no_snap, same_role-true, set_running, Member-both}
 use Rattle.cx_inv_run.proofs.Common.{batcher_kinds, proxy_kinds, replica_kinds, unbatcher_kinds, leader_kinds, replacer_kinds}
 use Rattle.cx_inv_run.proofs.Common.{batcher_sends, leader_sends, proxy_sends, replica_sends, unbatcher_sends, sends_only, run_keeps}
-use Rattle.cx_inv_run.proofs.Common.{all_allowed}
+use Rattle.cx_inv_run.proofs.Common.{all_allowed, reader_same}
 use Rattle.cx_base.specs.declared.role.Kind.TheVariants as kind
 use Rattle.cx_letter.specs.declared.input.Input.TheVariants as input
 use Rattle.cx_letter.specs.declared.input.Written.TheVariants as written
@@ -37,7 +37,7 @@ after_more d other n l = l
 abbrev reader : ℕ → RoleId
 reader r = role kind.Reader r
 
--- one more change is of its role's kind: a reader forgets nothing
+-- one more change is of its role's kind; a reader that puts its list anew forgets no turn
 
 abbrev IsBounded : ℕ → List KeptRecord → ℕ → Type 0
 IsBounded r history n = n ≤ (durable_of reader_rules (reader r) history).turn
@@ -54,7 +54,8 @@ own_turn r a (written.Record s) history n rest writer m mine =
       | inr x ↦ after_more (durable_of reader_rules (reader r) history) s n (rest x)
     ]))
 own_turn r a (written.Snap first) history n rest writer m mine =
-    let e : kind.Reader ≡ kind.Replica = subst (λ (x : RoleId). x.kind ≡ kind.Replica) (sym mine) writer in cc
+    subst (λ (d : ReaderDurable). n ≤ d.turn) (sym (reader_same a first history (reader r)))
+    (rest (no_snap a (reader r) first (kept.Turn n) history m))
 
 other_turn : (r : ℕ) (a : RoleId) (w : Written) (history : List KeptRecord) (n : ℕ)
     → (HasKept history (reader r) (kept.Turn n) → IsBounded r history n)
@@ -324,6 +325,14 @@ turns_laws c = record {
   snap = λ history sent states p v first known h up e. record {
     says = λ d m. says_longer history (snap_by (role kind.Replica p) first ∷ history) (λ k x. inr x) d.msg (h.says d m);
     running = λ a. kept_longer_too history (snap_by (role kind.Replica p) first ∷ history) (λ k x. inr x) a (states a) (h.running a);
+  };
+  acceptor_anew = λ history sent states p first known h up e. record {
+    says = λ d m. says_longer history (snap_by (role kind.Acceptor p) first ∷ history) (λ k x. inr x) d.msg (h.says d m);
+    running = λ a. kept_longer_too history (snap_by (role kind.Acceptor p) first ∷ history) (λ k x. inr x) a (states a) (h.running a);
+  };
+  reader_anew = λ history sent states p first v known h up e. record {
+    says = λ d m. says_longer history (snap_by (role kind.Reader p) first ∷ history) (λ k x. inr x) d.msg (h.says d m);
+    running = λ a. kept_longer_too history (snap_by (role kind.Reader p) first ∷ history) (λ k x. inr x) a (states a) (h.running a);
   };
   unbatcher = λ history sent states u i known h up given.
       plainly history sent states h (role kind.Unbatcher u) plain _ (sends_only (λ d. TurnSays history d.msg) (role kind.Unbatcher u)

@@ -40,7 +40,7 @@ module _ (t : Token) where
   asked_fresh n (event.Deliver k cut) other = λ d m. absurd m
   asked_fresh n (event.Tick r) other = λ d m. absurd m
   asked_fresh n (event.Order l order cut) other = λ d m. absurd m
-  asked_fresh n (event.Snap p cut) other = λ d m. absurd m
+  asked_fresh n (event.Snap r cut) other = λ d m. absurd m
   asked_fresh n (event.Replace x set cut) other = λ d m. absurd m
   asked_fresh n (event.Crash r) other = λ d m. absurd m
   asked_fresh n (event.Restart r) other = λ d m. absurd m
@@ -86,6 +86,8 @@ module _ (t : Token) where
         (λ to. replica_sends (λ m. IsElse t (role kind.Replica p) to m) (λ s value. tt) (λ s answers. tt) (λ n. tt) (λ s. tt)
         (λ seq n found. tt)));
     snap = λ history sent states p v first known h up e. h;
+    acceptor_anew = λ history sent states p first known h up e. h;
+    reader_anew = λ history sent states p first v known h up e. h;
     unbatcher = λ history sent states u i known h up given.
         lands history sent states h (role kind.Unbatcher u) _ _
         (sends_only Fresh (role kind.Unbatcher u) _ (unbatcher_kinds c (role kind.Unbatcher u) refl i)

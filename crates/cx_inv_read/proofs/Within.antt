@@ -264,6 +264,12 @@ within_laws c = record {
   snap = λ history sent states p v first known h up e d m.
       let me = role kind.Replica p in
       still_tells history (snap_by me first ∷ history) (λ q. omega (arith, ap length (log_snap me q first history))) d.msg (h d m);
+  acceptor_anew = λ history sent states p first known h up e d m.
+      let me = role kind.Acceptor p in
+      still_tells history (snap_by me first ∷ history) (λ q. omega (arith, ap length (log_snap me q first history))) d.msg (h d m);
+  reader_anew = λ history sent states p first v known h up e d m.
+      let me = role kind.Reader p in
+      still_tells history (snap_by me first ∷ history) (λ q. omega (arith, ap length (log_snap me q first history))) d.msg (h d m);
   unbatcher = λ history sent states u i known h up given.
       lands history sent states h (role kind.Unbatcher u) _ _ (unbatcher_good c history (role kind.Unbatcher u) sent h i given);
   reader = λ history sent states r v i known h up given.

@@ -62,6 +62,10 @@ retire_laws c past fresh = record {
       (replica_kinds c (role kind.Replica p) refl (durable_of replica_rules (role kind.Replica p) history) v i) tt;
   snap = λ history sent states p v first known h is e.
       grown c past fresh history sent states h (snap_by (role kind.Replica p) first ∷ history) (λ k m. inr m);
+  acceptor_anew = λ history sent states p first known h is e.
+      grown c past fresh history sent states h (snap_by (role kind.Acceptor p) first ∷ history) (λ k m. inr m);
+  reader_anew = λ history sent states p first v known h is e.
+      grown c past fresh history sent states h (snap_by (role kind.Reader p) first ∷ history) (λ k m. inr m);
   unbatcher = λ history sent states u i known h is given.
       quiet_lands c past fresh history sent states h (role kind.Unbatcher u) plain kind.Unbatcher (λ e. cc) (λ e. cc) (λ e. cc) refl
       (unbatcher_row c (role kind.Unbatcher u) tt tt i) (unbatcher_kinds c (role kind.Unbatcher u) refl i) tt;

@@ -105,7 +105,7 @@ pub use Rattle.cx_inv_run.proofs.Rounds.{same_round-true}
 pub use Rattle.cx_inv_run.proofs.Senders.{acceptor_kinds, batcher_kinds, matchmaker_kinds, proxy_kinds, reader_kinds, replica_kinds}
 pub use Rattle.cx_inv_run.proofs.Senders.{unbatcher_kinds}
 pub use Rattle.cx_inv_run.proofs.Sends.{batcher_sends, leader_sends, named, proxy_sends, replica_sends, sends_only, unbatcher_sends}
-pub use Rattle.cx_inv_run.proofs.Snaps.{snap_same}
+pub use Rattle.cx_inv_run.proofs.Snaps.{acceptor_snap_same, reader_same, reader_snap_same, snap_same}
 pub use Rattle.cx_inv_run.proofs.Steps.{all_allowed, along, always, only_leader, run_append, run_cluster, run_from_keeps, run_keeps}
 pub use Rattle.cx_inv_run.proofs.TieLaws.{ties_hold}
 pub use Rattle.cx_inv_run.proofs.Tying.{held_is}

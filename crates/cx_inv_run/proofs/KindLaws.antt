@@ -1,7 +1,8 @@
 -- In every run each datagram and each change of a store is of its role's kind.
 use Rattle.std.proofs.Common.{sym, subst, inl, inr}
-use Rattle.cx_model.specs.Prelude.{◌≡◌, ℕ, List, [], ◌∷◌, ◌++◌, Option, None, Some, refl, Cluster, Event, RoleId, role, Letter, KeptRecord}
-use Rattle.cx_model.specs.Prelude.{Record, acceptor_rules, leader_rules, matchmaker_rules, Member, Outcome, reader_rules, replacer_rules}
+use Rattle.cx_model.specs.Prelude.{◌≡◌, ℕ, true, List, [], ◌∷◌, ◌++◌, Option, None, Some, refl, Cluster, Event, RoleId, role, Letter}
+use Rattle.cx_model.specs.Prelude.{puts_anew, KeptRecord, Record, acceptor_rules, leader_rules, matchmaker_rules, Member, Outcome}
+use Rattle.cx_model.specs.Prelude.{reader_rules, replacer_rules}
 use Rattle.cx_model.specs.Prelude.{replica_rules, request, run, State, BatcherIn, LeaderIn, ProxyIn, ReplicaIn, ReaderIn, ReplacerIn, plain}
 use Rattle.cx_base.specs.declared.event.Event.TheVariants as event
 use Rattle.cx_base.specs.declared.role.Kind.TheVariants as kind
@@ -28,7 +29,7 @@ requested n (event.Deliver number cut) d m = absurd m
 requested n (event.Tick r) d m = absurd m
 requested n (event.Order leader order cut) d m = absurd m
 requested n (event.Replace replacer set cut) d m = absurd m
-requested n (event.Snap p cut) d m = absurd m
+requested n (event.Snap r cut) d m = absurd m
 requested n (event.Crash r) d m = absurd m
 requested n (event.Restart r) d m = absurd m
 
@@ -43,11 +44,11 @@ module _ (kept : List KeptRecord) (sent : List Letter) (states : RoleId → Stat
   kept_more me (Some r) own k (inl e) = subst (λ (x : KeptRecord). IsWriter x.role.kind x.what) (sym e) own
   kept_more me (Some r) own k (inr m) = h.keepers k m
 
-  -- a replica forgets values
-  snapped : (me : RoleId) (first : ℕ) → me.kind ≡ kind.Replica → Kinds (snap_by me first ∷ kept) sent states
+  -- a role puts its list anew
+  snapped : (me : RoleId) (first : ℕ) → puts_anew me.kind ≡ true → Kinds (snap_by me first ∷ kept) sent states
   snapped me first is = record { senders = h.senders; keepers = kept_one me first is }
     where
-      kept_one : (me : RoleId) (first : ℕ) → me.kind ≡ kind.Replica → (k : KeptRecord) → Member k (snap_by me first ∷ kept)
+      kept_one : (me : RoleId) (first : ℕ) → puts_anew me.kind ≡ true → (k : KeptRecord) → Member k (snap_by me first ∷ kept)
           → IsWriter k.role.kind k.what
       kept_one me first is k (inl e) = subst (λ (x : KeptRecord). IsWriter x.role.kind x.what) (sym e) is
       kept_one me first is k (inr m) = h.keepers k m
@@ -84,6 +85,8 @@ kinds_laws c = record {
   replica = λ kept sent states p v i knows h is given. landed kept sent states h (role kind.Replica p) ReplicaIn
       _ (replica_kinds c (role kind.Replica p) refl (durable_of replica_rules (role kind.Replica p) kept) v i);
   snap = λ kept sent states p v first knows h is e. snapped kept sent states h (role kind.Replica p) first refl;
+  acceptor_anew = λ kept sent states a first knows h is e. snapped kept sent states h (role kind.Acceptor a) first refl;
+  reader_anew = λ kept sent states r first v knows h is e. snapped kept sent states h (role kind.Reader r) first refl;
   unbatcher = λ kept sent states u i knows h is given.
       landed kept sent states h (role kind.Unbatcher u) plain _ (unbatcher_kinds c (role kind.Unbatcher u) refl i);
   reader = λ kept sent states r v i knows h is given. landed kept sent states h (role kind.Reader r) ReaderIn

@@ -232,7 +232,10 @@ module _ (c : Cluster) (Allowed : ℕ → Event → Type 0) (known holds : Prope
           (λ v i cut p s. as_role (λ a. w.roles a ≡ Plain → Given w.sent a i → Lands holds (reverse w.kept) w.sent w.roles a plain
           (acceptor_row c a (durable_of acceptor_rules a (reverse w.kept)) tt i)) kind.Acceptor me is
           (laws.acceptor (reverse w.kept) w.sent w.roles me.index i knows h) s (given_to i cut p))
-          (λ v first s e. absurd cc)
+          (λ v first. as_role (λ a. w.roles a ≡ Plain
+          → acceptor_rules.snap c a (durable_of acceptor_rules a (reverse w.kept)) tt ≡ Some first
+          → holds (snap_by a first ∷ reverse w.kept) w.sent w.roles) kind.Acceptor me is
+          (laws.acceptor_anew (reverse w.kept) w.sent w.roles me.index first knows h))
       at_role kind.Matchmaker is =
           placed kind.Matchmaker plain plain_volatile only_plain matchmaker_rules me act is refl
           (λ v i cut p s. as_role (λ a. w.roles a ≡ Plain → Given w.sent a i → Lands holds (reverse w.kept) w.sent w.roles a plain
@@ -257,7 +260,10 @@ module _ (c : Cluster) (Allowed : ℕ → Event → Type 0) (known holds : Prope
           (λ v i cut p s. as_role (λ a. w.roles a ≡ ReaderIn v → Given w.sent a i → Lands holds (reverse w.kept) w.sent w.roles a ReaderIn
           (reader_row c a (durable_of reader_rules a (reverse w.kept)) v i)) kind.Reader me is
           (laws.reader (reverse w.kept) w.sent w.roles me.index v i knows h) s (given_to i cut p))
-          (λ v first s e. absurd cc)
+          (λ v first. as_role (λ a. w.roles a ≡ ReaderIn v
+          → reader_rules.snap c a (durable_of reader_rules a (reverse w.kept)) v ≡ Some first
+          → holds (snap_by a first ∷ reverse w.kept) w.sent w.roles) kind.Reader me is
+          (laws.reader_anew (reverse w.kept) w.sent w.roles me.index first v knows h))
       at_role kind.Replacer is =
           placed kind.Replacer ReplacerIn replacer_volatile only_replacer replacer_rules me act is refl
           (λ v i cut p s. as_role (λ a. w.roles a ≡ ReplacerIn v → Given w.sent a i → Lands holds (reverse w.kept) w.sent w.roles a
@@ -300,7 +306,7 @@ module _ (c : Cluster) (Allowed : ℕ → Event → Type 0) (known holds : Prope
     changes (event.Tick r) allowed = acts (Give input.Tick Whole) r tt
     changes (event.Order l order cut) allowed = acts (Give (input.Order order) cut) (role kind.Leader l) tt
     changes (event.Replace x s cut) allowed = acts (Give (input.Order (Replace s)) cut) (role kind.Replacer x) tt
-    changes (event.Snap p cut) allowed = acts (Snap cut) (role kind.Replica p) tt
+    changes (event.Snap r cut) allowed = acts (Snap cut) r tt
     changes (event.Crash r) allowed = acts Stop r tt
     changes (event.Restart r) allowed = acts Wake r tt
 

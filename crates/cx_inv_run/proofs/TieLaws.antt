@@ -82,6 +82,12 @@ module _ (history : List KeptRecord) (sent : List Letter) (states : RoleId → S
       (log_snap me p first history) (tied_snap c me _ v first (log_in history p) (h.tied p) e))
       (λ f. tied_as _ _ _ _ (durable_else replica_rules me (role kind.Replica q) first history f) (log_snap me q first history) (h.tied q))
 
+  -- another role puts its list anew
+  other_anew : (me : RoleId) (first : ℕ) → ((p : ℕ) → same_role (role kind.Replica p) me ≡ false) → (q : ℕ)
+      → IsTiedIn (snap_by me first ∷ history) q
+  other_anew me first e q =
+      tied_as _ _ _ _ (durable_else replica_rules me (role kind.Replica q) first history (e q)) (log_snap me q first history) (h.tied q)
+
 -- the states don't matter
 restated : (history : List KeptRecord) (sent more : List Letter) (states others : RoleId → State) → Ties history sent states
     → Ties history more others
@@ -105,6 +111,10 @@ ties_laws c = record {
   replica = λ history sent states p v i knows h is given. replica_landed history sent states h p
       _ (replica_kinds c (role kind.Replica p) refl (durable_of replica_rules (role kind.Replica p) history) v i);
   snap = λ history sent states p v first knows h is e. record { tied = snapped history sent states h c p v first e };
+  acceptor_anew = λ history sent states a first knows h is e.
+      record { tied = other_anew history sent states h (role kind.Acceptor a) first (λ p. refl) };
+  reader_anew = λ history sent states r first v knows h is e.
+      record { tied = other_anew history sent states h (role kind.Reader r) first (λ p. refl) };
   unbatcher = λ history sent states u i knows h is given. landed history sent states h (role kind.Unbatcher u) plain _ (λ p. refl);
   reader = λ history sent states r v i knows h is given. landed history sent states h (role kind.Reader r) ReaderIn _ (λ p. refl);
   replacer = λ history sent states x v i knows h is given. landed history sent states h (role kind.Replacer x) ReplacerIn _ (λ p. refl);

@@ -1,6 +1,7 @@
 -- Which kind of role sends each kind of datagram, and makes each kind of change in its store.
 use Rattle.std.specs.Prelude.{◌≡◌, true, false, ◌⊎◌, List, Option, None, Some}
-use Rattle.cx_model.specs.Prelude.{Cluster, Event, Kind, RoleId, Letter, KeptRecord, Written, Record, Msg, Member, Outcome, run, State}
+use Rattle.cx_model.specs.Prelude.{puts_anew, Cluster, Event, Kind, RoleId, Letter, KeptRecord, Written, Record, Msg, Member, Outcome, run}
+use Rattle.cx_model.specs.Prelude.{State}
 use Rattle.cx_base.specs.declared.role.Kind.TheVariants as kind
 use Rattle.cx_letter.specs.declared.input.Written.TheVariants as written
 use Rattle.cx_letter.specs.declared.kept.Record.TheVariants as kept
@@ -62,10 +63,10 @@ IsKeeper k (kept.Boot s w entries) = k ≡ kind.Matchmaker
 IsKeeper k (kept.Turn n) = k ≡ kind.Reader
 IsKeeper k other = true ≡ false
 
--- a role of this kind may make this change in its store: keep a record of its kind; a replica also forgets values
+-- a role of this kind may make this change in its store: keep a record of its kind; some also put their lists anew
 abbrev pub IsWriter : Kind → Written → Type 0
 IsWriter k (written.Record r) = IsKeeper k r
-IsWriter k (written.Snap first) = k ≡ kind.Replica
+IsWriter k (written.Snap first) = puts_anew k ≡ true
 
 abbrev pub IsKept : Kind → Option Record → Type 0
 IsKept k None = Unit {0}

@@ -1,5 +1,5 @@
 -- What a property of moments needs, so that every step keeps it: one law for each kind of step, one for each kind of role's rows, and one
--- for a replica that forgets values.
+-- for each kind of role that puts its list anew.
 use Rattle.std.specs.Prelude.{◌≡◌, ◌⊎◌, ℕ, List, [], ◌∷◌, ◌++◌, Option, None, Some}
 use Rattle.cx_model.specs.Prelude.{Cluster, Event, RoleId, role, Token, Letter, Input, KeptRecord, Record, acceptor_rules, acceptor_row}
 use Rattle.cx_model.specs.Prelude.{BatcherVolatile, batcher_row, heard_by, LeaderVolatile, leader_rules, leader_row, matchmaker_rules}
@@ -63,6 +63,15 @@ pub record Laws (c : Cluster) (Allowed : ℕ → Event → Type 0) (known holds 
       → known kept sent states → holds kept sent states → states (role kind.Replica p) ≡ ReplicaIn v
       → replica_rules.snap c (role kind.Replica p) (durable_of replica_rules (role kind.Replica p) kept) v ≡ Some first
       → holds (snap_by (role kind.Replica p) first ∷ kept) sent states
+  -- an acceptor or a reader puts its list anew
+  pub acceptor_anew : (kept : List KeptRecord) (sent : List Letter) (states : RoleId → State) (a first : ℕ)
+      → known kept sent states → holds kept sent states → states (role kind.Acceptor a) ≡ Plain
+      → acceptor_rules.snap c (role kind.Acceptor a) (durable_of acceptor_rules (role kind.Acceptor a) kept) tt ≡ Some first
+      → holds (snap_by (role kind.Acceptor a) first ∷ kept) sent states
+  pub reader_anew : (kept : List KeptRecord) (sent : List Letter) (states : RoleId → State) (r first : ℕ) (v : ReaderVolatile)
+      → known kept sent states → holds kept sent states → states (role kind.Reader r) ≡ ReaderIn v
+      → reader_rules.snap c (role kind.Reader r) (durable_of reader_rules (role kind.Reader r) kept) v ≡ Some first
+      → holds (snap_by (role kind.Reader r) first ∷ kept) sent states
   pub unbatcher : (kept : List KeptRecord) (sent : List Letter) (states : RoleId → State) (u : ℕ) (i : Input)
       → known kept sent states → holds kept sent states → states (role kind.Unbatcher u) ≡ Plain → Given sent (role kind.Unbatcher u) i
       → Lands holds kept sent states (role kind.Unbatcher u) plain (unbatcher_row c (role kind.Unbatcher u) tt tt i)

@@ -371,7 +371,7 @@ module _ (w : World) (Was : List ℕ → Type 0)
   request_asks n (event.Tick r) = λ d m. absurd m
   request_asks n (event.Order leader order cut) = λ d m. absurd m
   request_asks n (event.Replace replacer set cut) = λ d m. absurd m
-  request_asks n (event.Snap p cut) = λ d m. absurd m
+  request_asks n (event.Snap r cut) = λ d m. absurd m
   request_asks n (event.Crash r) = λ d m. absurd m
   request_asks n (event.Restart r) = λ d m. absurd m
 
@@ -397,6 +397,6 @@ module _ (w : World) (Was : List ℕ → Type 0)
   follows (event.Replace x s cut) =
       acts (Give (input.Order (Replace s)) cut) (role kind.Replacer x)
       (λ i k e. let q : input.Order (Replace s) ≡ i = cc in subst (λ y. Given w.sent (role kind.Replacer x) y) q tt)
-  follows (event.Snap p cut) = acts (Snap cut) (role kind.Replica p) (no_given (role kind.Replica p) (Snap cut) (λ i k e. cc))
+  follows (event.Snap r cut) = acts (Snap cut) r (no_given r (Snap cut) (λ i k e. cc))
   follows (event.Crash r) = acts Stop r (no_given r Stop (λ i k e. cc))
   follows (event.Restart r) = acts Wake r (no_given r Wake (λ i k e. cc))

@@ -182,7 +182,7 @@ request_says c history longer n (event.Tick r) = λ d m. absurd m
 request_says c history longer n (event.Order leader order cut) = λ d m. absurd m
 request_says c history longer n (event.Replace replacer set cut) = λ d m. absurd m
 request_says c history longer n (event.Crash r) = λ d m. absurd m
-request_says c history longer n (event.Snap replica cut) = λ d m. absurd m
+request_says c history longer n (event.Snap r cut) = λ d m. absurd m
 request_says c history longer n (event.Restart r) = λ d m. absurd m
 
 request_quiet : (n : ℕ) (e : Event) → QuietSends (request n e)
@@ -199,7 +199,7 @@ request_quiet n (event.Tick r) = λ d m. absurd m
 request_quiet n (event.Order leader order cut) = λ d m. absurd m
 request_quiet n (event.Replace replacer set cut) = λ d m. absurd m
 request_quiet n (event.Crash r) = λ d m. absurd m
-request_quiet n (event.Snap replica cut) = λ d m. absurd m
+request_quiet n (event.Snap r cut) = λ d m. absurd m
 request_quiet n (event.Restart r) = λ d m. absurd m
 
 pub asked : (c : Cluster) (history : List KeptRecord) (sent : List Letter) (states : RoleId → State) (n : ℕ) (e : Event)

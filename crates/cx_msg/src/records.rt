@@ -248,8 +248,8 @@ fn put_client_notes(
 }
 
 fn put_marked_votes(out: &mut Vec<u8>, cw: u64, votes: &Votes) -> Result<(), NoMemory>
-    ensures { OnOk result
-        (Appends (then_by field.mark field.votes) (cw, votes.now) 30601 out.old.items out.new.items) }
+    ensures { OnOk result (Appends (then_by field.mark field.votes) (cw, votes.now) 30601
+        out.old.items out.new.items) }
 {
     put_mark(out, cw)?;
     put_votes(out, cw, votes)

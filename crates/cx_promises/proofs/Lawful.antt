@@ -40,6 +40,7 @@ lawful c es = record {
   sets_are_decided = sets_are_decided c es;
   nothing_is_lost = safe_snapshots.nothing_is_lost c es;
   forgotten_is_kept = safe_snapshots.forgotten_is_kept c es;
+  renewals_keep_all = safe_snapshots.renewals_keep_all c es;
   announced = announced c es;
   bypassed_rounds = bypassed_rounds c es;
   roles_reopen = roles_reopen c es;

@@ -8,6 +8,7 @@ use Rattle.cx_model.specs.Prelude.{SessionsComeAfterHeard, RoundsAskLater, Turns
 use Rattle.cx_model.specs.Prelude.{ForgottenIsKept, run, log_of}
 use Rattle.cx_model.specs.Promises.{ListIsChosen, ReplicasHoldIt, ListGrows, MapsAreFolds, TablesAreFolds, NoneActsTwice, AnswersAreRight}
 use Rattle.cx_model.specs.Promises.{ResultsAreRight, CommandsWereAsked, OrderIsKept, ChosenBelow, HeldBelow, NothingIsLost}
+use Rattle.cx_model.specs.Promises.{RenewalsKeepAll}
 use Rattle.cx_inv_alive.specs.Alive.{NoDeadEnds}
 use Rattle.cx_inv_announce.specs.Announced.{Announced}
 use Rattle.cx_inv_bypass.specs.Bypassed.{BypassedRounds}
@@ -45,6 +46,7 @@ pub record IsLawful (c : Cluster) (es : List Event) : Type 0 where
   -- safe snapshots
   pub nothing_is_lost : NothingIsLost c es
   pub forgotten_is_kept : ForgottenIsKept c es
+  pub renewals_keep_all : RenewalsKeepAll c es
   -- announcement
   pub announced : Announced c es
   -- change of grid

@@ -3,12 +3,13 @@ use Rattle.cx_base.proofs.Common.{◌∙◌, ap, sym, arith, append-nil, true≢
 use Rattle.cx_letter.specs.Prelude.{◌≡◌, ◌≤◌, ◌<◌, ◌+◌, ◌-◌, ◌*◌, ◌^◌, ◌==◌, ◌&&◌, not, nat_lt, ℕ, zero, suc, Bool, true, false, List, []}
 use Rattle.cx_letter.specs.Prelude.{◌∷◌, length, map, None, Some, Ok, refl, codes, slice_index, All, join_with_byte, strip_carriage_return}
 use Rattle.cx_letter.specs.Prelude.{Cluster, Command, Op, Put, Del, App, Cut, Whole, Torn, Kept, Event, Lead, Change, Collect, Replace}
-use Rattle.cx_letter.specs.Prelude.{Client, Batcher, Leader, Replica, Reader, Replacer, RoleId, count_of, IsGrid, Shape, role_text}
+use Rattle.cx_letter.specs.Prelude.{Client, Batcher, Leader, Replica, Reader, Replacer, RoleId, count_of, puts_anew, IsGrid, Shape}
+use Rattle.cx_letter.specs.Prelude.{role_text}
 use Rattle.cx_base.specs.declared.event.Event.TheVariants as event
 use Rattle.cx_script.specs.Grammar.{collect_event, deliver_event, event_in, event_of, line_event, op_at, read_event, replace_event}
 use Rattle.cx_script.specs.Grammar.{grid_order_of, server_of, session_event, snap_event, write_event}
 use Rattle.cx_script.specs.Lines.{lines_of, schedule_of, spelled_from}
-use Rattle.cx_script.specs.Names.{is_client, names_members, names_server, names_set}
+use Rattle.cx_script.specs.Names.{is_client, names_event, names_members, names_server, names_set}
 use Rattle.cx_script.specs.Unended.{lines_text}
 use Rattle.cx_script.proofs.Feeds.{AreFree, IsFree, lines_of_text}
 use Rattle.cx_record.specs.Lines.{cut_words, line_text, line_words, op_words, round_words}
@@ -16,7 +17,7 @@ use Rattle.cx_record.specs.Readable.{AreRead, HasNames, IsRecordable}
 use Rattle.cx_record.proofs.Digits.{decimal_word}
 use Rattle.cx_record.proofs.Grids.{members_are_word, members_back, set_back, set_is_word, sides_are_word, sides_back}
 use Rattle.cx_record.proofs.Spelling.{cut_are_words, cut_back, index_back, key_back, name_word, number_word_back, plain_word, role_word}
-use Rattle.cx_record.proofs.Spelling.{seq_back, seq_is_word, server_back, text_back}
+use Rattle.cx_record.proofs.Spelling.{seq_back, seq_is_word, server_back, snap_back, text_back}
 use Rattle.cx_record.proofs.Words.{AreWords, Avoids, is_break, joined_avoids, joined_short, words_avoid, words_back}
 
 -- ---- what a line of an event is: words, few of them, that say the event
@@ -140,15 +141,16 @@ deliver_line c n cut small =
       said = rw (number_word_back n small, cut_back cut) refl;
     }
 
-snap_line : (c : Cluster) (replica : ℕ) (cut : Cut) → nat_lt replica c.replicas ≡ true
-    → IsLine c (line_words (event.Snap replica cut)) (event.Snap replica cut)
+snap_line : (c : Cluster) (r : RoleId) (cut : Cut) → names_event c (event.Snap r cut) ≡ true
+    → IsLine c (line_words (event.Snap r cut)) (event.Snap r cut)
 unfolding event_of snap_event
-snap_line c replica cut named =
+snap_line c r cut named =
     let few = few_cut cut in
+    let parts = and_parts (puts_anew r.kind) (nat_lt r.index (count_of c r.kind)) named in
     record {
-      words = (plain_word (codes "snap") refl refl refl, (role_word c Replica replica named, cut_are_words cut));
+      words = (plain_word (codes "snap") refl refl refl, (role_word c r.kind r.index parts.1, cut_are_words cut));
       few = omega (arith, few);
-      said = rw (index_back c Replica replica named, cut_back cut) refl;
+      said = rw (snap_back c r.kind r.index parts.1 parts.0, cut_back cut) refl;
     }
 
 replace_line : (c : Cluster) (replacer : ℕ) (s : List ℕ) (cut : Cut) → IsRecordable c (event.Replace replacer s cut)
@@ -266,7 +268,7 @@ is_line c (event.Order l Collect Torn) is = absurd (true≢false (sym is.complet
 is_line c (event.Order l Collect Kept) is = absurd (true≢false (sym is.complete))
 is_line c (event.Order l (Replace s) cut) is = absurd (true≢false (sym (and_parts (nat_lt l c.leaders) false is.named).1))
 is_line c (event.Replace replacer s cut) is = replace_line c replacer s cut is
-is_line c (event.Snap replica cut) is = snap_line c replica cut is.named
+is_line c (event.Snap r cut) is = snap_line c r cut is.named
 is_line c (event.Crash r) is = crash_line c r is.named
 is_line c (event.Restart r) is = restart_line c r is.named
 

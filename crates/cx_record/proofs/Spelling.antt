@@ -3,11 +3,11 @@ use Rattle.cx_base.proofs.Common.{◌∙◌, ap, arith, append_assoc, eqb-true, 
 use Rattle.cx_letter.specs.Prelude.{◌≡◌, ◌<◌, ◌≤◌, ◌+◌, ◌-◌, ◌^◌, ◌==◌, not, nat_lt, nat_le, ℕ, Bool, true, false, List, [], ◌∷◌, ◌++◌}
 use Rattle.cx_letter.specs.Prelude.{length, Ok, refl, if◌then◌else◌, codes, decimal, list_all, slice_split, floor_fits, count_of, Cluster}
 use Rattle.cx_letter.specs.Prelude.{Cut, Whole, Torn, Kept, Kind, Client, Batcher, Leader, Proxy, Acceptor, Matchmaker, Replica, Unbatcher}
-use Rattle.cx_letter.specs.Prelude.{Reader, Replacer, IsName, role, role_text}
+use Rattle.cx_letter.specs.Prelude.{Reader, Replacer, IsName, puts_anew, role, role_text}
 use Rattle.cx_base.specs.Name.{is_name}
 use Rattle.cx_script.specs.Grammar.{cut_at}
 use Rattle.cx_script.specs.Names.{is_client}
-use Rattle.cx_script.specs.Places.{index_word, key_word, number_word, seq_word, server_word, text_word}
+use Rattle.cx_script.specs.Places.{index_word, key_word, number_word, seq_word, server_word, renewing_word, text_word}
 use Rattle.cx_script.specs.Words.{is_empty}
 use Rattle.cx_trace.specs.Trace.{seq_text}
 use Rattle.cx_record.specs.Lines.{cut_words}
@@ -72,6 +72,14 @@ pub server_back : (c : Cluster) (k : Kind) (i : ℕ) → IsIndex c k i → not (
     → server_word c (role_text (role k i)) ≡ Ok (role k i)
 server_back c Client i is off = cc
 server_back c other i is off = rw (number_back i (small_index c other i is), is) refl
+
+-- of a kind that puts its list anew
+pub snap_back : (c : Cluster) (k : Kind) (i : ℕ) → IsIndex c k i → puts_anew k ≡ true
+    → renewing_word c (role_text (role k i)) ≡ Ok (role k i)
+snap_back c Acceptor i is anew = rw (number_back i (small_index c Acceptor i is), is) refl
+snap_back c Replica i is anew = rw (number_back i (small_index c Replica i is), is) refl
+snap_back c Reader i is anew = rw (number_back i (small_index c Reader i is), is) refl
+snap_back c other i is anew = cc
 
 -- ---- numbers, keys and texts
 

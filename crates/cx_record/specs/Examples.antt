@@ -1,6 +1,6 @@
 -- Events, each with its line, written out.
 use Rattle.std.specs.Prelude.{◌≡◌, [], ◌∷◌, codes}
-use Rattle.cx_letter.specs.Prelude.{Put, Del, Whole, Torn, Kept, Lead, Change, Collect, make_grid}
+use Rattle.cx_letter.specs.Prelude.{Put, Del, Whole, Torn, Kept, Lead, Change, Collect, Acceptor, Replica, make_grid, role}
 use Rattle.cx_base.specs.declared.event.Event.TheVariants as event
 use Rattle.cx_record.specs.Lines.{line_text}
 
@@ -15,4 +15,5 @@ pub record Worked : Type 0 where
   pub change : line_text (event.Order 0 (Change (make_grid 1 2 (4 ∷ 5 ∷ []))) Kept) ≡ codes "change leader:0 1x2 4,5 kept"
   pub collect : line_text (event.Order 0 Collect Whole) ≡ codes "collect leader:0"
   pub replace : line_text (event.Replace 1 (3 ∷ 4 ∷ 5 ∷ []) Torn) ≡ codes "replace replacer:1 3,4,5 torn"
-  pub snap : line_text (event.Snap 1 Whole) ≡ codes "snap replica:1"
+  pub snap : line_text (event.Snap (role Replica 1) Whole) ≡ codes "snap replica:1"
+  pub snap_of_acceptor : line_text (event.Snap (role Acceptor 2) Kept) ≡ codes "snap acceptor:2 kept"

@@ -47,7 +47,7 @@ line_words (event.Deliver number cut) = codes "deliver" ∷ decimal number ∷ c
 line_words (event.Tick r) = codes "tick" ∷ role_text r ∷ []
 line_words (event.Order leader order cut) = order_words leader order cut
 line_words (event.Replace replacer set cut) = codes "replace" ∷ role_text (role Replacer replacer) ∷ ids_text set ∷ cut_words cut
-line_words (event.Snap replica cut) = codes "snap" ∷ role_text (role Replica replica) ∷ cut_words cut
+line_words (event.Snap r cut) = codes "snap" ∷ role_text r ∷ cut_words cut
 line_words (event.Crash r) = codes "crash" ∷ role_text r ∷ []
 line_words (event.Restart r) = codes "restart" ∷ role_text r ∷ []
 

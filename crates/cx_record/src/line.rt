@@ -252,9 +252,9 @@ fn put_words(text: &mut Vec<u8>, event: &Event) -> Result<(), NoMemory>
         Event::Replace { replacer, set, cut } => {
             put_replace(text, Kind::Replacer, *replacer, set, *cut)
         }
-        Event::Snap { replica, cut } => {
+        Event::Snap { role, cut } => {
             put(text, b"snap")?;
-            put_role_word(text, Kind::Replica, *replica)?;
+            put_role_word(text, role.kind, role.index)?;
             put_cut(text, *cut)
         }
         Event::Crash(role) => put_verb(text, b"crash", *role),

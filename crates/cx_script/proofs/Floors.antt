@@ -16,7 +16,7 @@ use Rattle.cx_script.specs.declared.fault.LineFault.{LineFault}
 use Rattle.cx_script.specs.declared.fault.LineFault.TheVariants.{Long, Number}
 use Rattle.cx_script.specs.Grammar.{◌>>=◌, next_word, op_at, cut_at, write_event, read_event, session_event, deliver_event, grid_order_of}
 use Rattle.cx_script.specs.Grammar.{collect_event, snap_event, replace_event, server_of, event_of, is_comment, event_in, line_event}
-use Rattle.cx_script.specs.Places.{fitting, seq_and_floor, seq_word, number_word, key_word, index_word, set_word}
+use Rattle.cx_script.specs.Places.{fitting, seq_and_floor, seq_word, number_word, key_word, index_word, renewing_word, set_word}
 use Rattle.cx_script.specs.Requests.{has_slash, request_line, tells_no_floor, without_floor}
 use Rattle.cx_script.specs.Words.{is_blank, is_empty, word_number, parts_of, words_of}
 use Rattle.cx_script.proofs.Cuts.{split_free, split_none, split_some}
@@ -156,7 +156,7 @@ collect_plain c words =
 
 snap_plain : (c : Cluster) (words : List (List ℕ)) → IfOk (snap_event c words) TellsNone
 unfolding snap_event
-snap_plain c words = then_ok _ TellsNone (next_word (index_word c Replica) words) _ (whatever (next_word (index_word c Replica) words))
+snap_plain c words = then_ok _ TellsNone (next_word (renewing_word c) words) _ (whatever (next_word (renewing_word c) words))
     (λ (replica, words) h. then_ok _ TellsNone (cut_at words) _ (whatever (cut_at words)) (λ cut k. refl))
 
 replace_plain : (c : Cluster) (words : List (List ℕ)) → IfOk (replace_event c words) TellsNone

@@ -3,16 +3,18 @@ use Rattle.std.proofs.Common.{find}
 use Rattle.cx_base.proofs.Common.{◌≡◌, ℕ, Bool, true, false, not, nat_lt, List, [], ◌∷◌, Option, None, Some, option_map, option_and_then}
 use Rattle.cx_base.proofs.Common.{ok_or, Result, Ok, Err, IfOk, IfSome, is_none, length, refl, inl, inr, ◌-◌, ◌+◌, ◌*◌, ◌==◌, ◌&&◌}
 use Rattle.cx_base.proofs.Common.{if◌then◌else◌, ⊤, cases_Bool, and_parts, list_all, slice_split, bytes_eq, floor_fits, grid_fault}
-use Rattle.cx_base.proofs.Common.{make_grid, kind_text, role, is_rising, count_of}
+use Rattle.cx_base.proofs.Common.{make_grid, kind_text, role, is_rising, count_of, and_from}
 use Rattle.cx_base.specs.declared.cluster.Cluster.{Cluster}
 use Rattle.cx_base.specs.declared.role.Kind.{Kind}
+use Rattle.cx_base.specs.declared.role.RoleId.{RoleId}
+use Rattle.cx_base.specs.Role.{puts_anew}
 use Rattle.cx_script.specs.declared.fault.LineFault.{LineFault}
 use Rattle.cx_script.specs.declared.fault.LineFault.TheVariants.{Number, Role, Grid}
 use Rattle.cx_script.specs.Grammar.{◌>>=◌, next_word, ended, grid_at}
-use Rattle.cx_script.specs.Names.{is_client, names_server, names_members, names_set}
+use Rattle.cx_script.specs.Names.{is_client, names_server, names_members, names_set, names_snap}
 use Rattle.cx_script.specs.Places.{fitting, seq_and_floor, seq_word, number_if_below, index_below, kind_part, index_part, index_word}
 use Rattle.cx_script.specs.Places.{server_kinds, server_kind, server_in, server_word, sides_word, ids_of, grid_from_ids, members_word}
-use Rattle.cx_script.specs.Places.{set_in, set_word}
+use Rattle.cx_script.specs.Places.{set_in, set_word, if_puts_anew, renewing_word}
 use Rattle.cx_script.specs.Words.{word_number}
 
 pub then_ok : {A B : Type 0} (P : A → Type 0) (Q : B → Type 0) (r : Result A LineFault) (more : A → Result B LineFault) → IfOk r P
@@ -109,6 +111,21 @@ pub server_ok : (c : Cluster) (word : List ℕ) → IfOk (server_word c word) (�
 server_ok c word =
     some_ok (λ r. names_server c r ≡ true) (server_in c (index_part word) (server_kind (kind_part word))) Role (server_some c
     (index_part word) (server_kind (kind_part word)) (found_server (λ kind. bytes_eq (kind_part word) (kind_text kind)) server_kinds refl))
+
+anew_some : (c : Cluster) (r : RoleId) → names_server c r ≡ true → IfSome (if_puts_anew r) (λ s. names_snap c s ≡ true)
+anew_some c r h = go (puts_anew r.kind) refl
+  where
+    go : (b : Bool) → puts_anew r.kind ≡ b → IfSome (if b then Some r else None) (λ s. names_snap c s ≡ true)
+    go true e = and_from (puts_anew r.kind) (nat_lt r.index (count_of c r.kind)) e
+        (and_parts (not (is_client r.kind)) (nat_lt r.index (count_of c r.kind)) h).1
+    go false e = tt
+
+pub snap_ok : (c : Cluster) (word : List ℕ) → IfOk (renewing_word c word) (λ r. names_snap c r ≡ true)
+snap_ok c word =
+    let named = server_in c (index_part word) (server_kind (kind_part word)) in
+    some_ok (λ r. names_snap c r ≡ true) (option_and_then if_puts_anew named) Role
+    (and_then_some (λ r. names_server c r ≡ true) (λ r. names_snap c r ≡ true) named if_puts_anew (server_some c (index_part word)
+    (server_kind (kind_part word)) (found_server (λ kind. bytes_eq (kind_part word) (kind_text kind)) server_kinds refl)) (anew_some c))
 
 ids_some : (count : ℕ) (parts : List (List ℕ)) → IfSome (ids_of count parts) (λ ids. list_all (λ id. nat_lt id count) ids ≡ true)
 ids_some count [] = refl

@@ -16,9 +16,9 @@ use Rattle.cx_script.specs.Grammar.{grid_order_of, collect_event, snap_event, re
 use Rattle.cx_script.specs.Grammar.{line_event}
 use Rattle.cx_script.specs.Lines.{ParsedLines, with_line, spelled_from, lines_of, schedule_of}
 use Rattle.cx_script.specs.Names.{names_event, names_members, names_server, names_set}
-use Rattle.cx_script.specs.Places.{seq_word, number_word, key_word, index_word, server_word, set_word}
+use Rattle.cx_script.specs.Places.{seq_word, number_word, key_word, index_word, server_word, renewing_word, set_word}
 use Rattle.cx_script.specs.Words.{words_of}
-use Rattle.cx_script.proofs.Parts.{then_ok, either_ok, next_ok, ended_ok, whatever, seq_ok, index_ok, server_ok, grid_ok, set_ok}
+use Rattle.cx_script.proofs.Parts.{then_ok, either_ok, next_ok, ended_ok, whatever, seq_ok, index_ok, server_ok, snap_ok, grid_ok, set_ok}
 
 -- the world takes the event, and its names lie in the cluster
 pub record IsGood (c : Cluster) (e : Event) : Type 0 where
@@ -76,10 +76,10 @@ unfolding collect_event
 collect_ok c words = then_ok _ (IsGood c) (next_word (index_word c Leader) words) _ (next_ok _ (index_word c Leader) (index_ok c Leader)
     words) (λ (leader, words) h. ended_ok (IsGood c) (event.Order leader Collect Whole) words (record { taken = refl; named = rw h refl }))
 
-snap_ok : (c : Cluster) (words : List (List ℕ)) → IfOk (snap_event c words) (IsGood c)
+snaps_ok : (c : Cluster) (words : List (List ℕ)) → IfOk (snap_event c words) (IsGood c)
 unfolding snap_event
-snap_ok c words = then_ok _ (IsGood c) (next_word (index_word c Replica) words)
-    _ (next_ok _ (index_word c Replica) (index_ok c Replica) words) (λ (replica, words) h.
+snaps_ok c words = then_ok _ (IsGood c) (next_word (renewing_word c) words)
+    _ (next_ok _ (renewing_word c) (snap_ok c) words) (λ (role, words) h.
     then_ok _ (IsGood c) (cut_at words) _ (whatever (cut_at words)) (λ cut k. record { taken = refl; named = h }))
 
 replace_ok : (c : Cluster) (words : List (List ℕ)) → IfOk (replace_event c words) (IsGood c)
@@ -113,7 +113,7 @@ event_ok c verb words =
     or_else (bytes_eq verb (codes "change"))
     _ _ (then_ok _ (IsGood c) (grid_order_of c words) _ round (λ (leader, grid, cut) h. record { taken = refl; named = h })) (
     or_else (bytes_eq verb (codes "collect")) _ _ (collect_ok c words) (
-    or_else (bytes_eq verb (codes "snap")) _ _ (snap_ok c words) (
+    or_else (bytes_eq verb (codes "snap")) _ _ (snaps_ok c words) (
     or_else (bytes_eq verb (codes "replace")) _ _ (replace_ok c words) (
     or_else (bytes_eq verb (codes "crash"))
     _ _ (then_ok _ (IsGood c) (server_of c words) _ server (λ role h. record { taken = refl; named = h })) (

@@ -16,7 +16,8 @@ use Rattle.cx_base.specs.declared.role.RoleId.{RoleId}
 use Rattle.cx_base.specs.Grid.{Shape}
 use Rattle.cx_script.specs.declared.fault.LineFault.{LineFault}
 use Rattle.cx_script.specs.declared.fault.LineFault.TheVariants.{Long, Word}
-use Rattle.cx_script.specs.Places.{seq_word, number_word, key_word, text_word, index_word, server_word, set_word, sides_word, members_word}
+use Rattle.cx_script.specs.Places.{seq_word, number_word, key_word, text_word, index_word, server_word, renewing_word, set_word, sides_word}
+use Rattle.cx_script.specs.Places.{members_word}
 use Rattle.cx_script.specs.Words.{words_of}
 
 -- what follows a part without a fault, or the part's fault
@@ -114,12 +115,12 @@ grid_order_of c words =
 unfoldable pub collect_event : Cluster → List (List ℕ) → Result Event LineFault
 collect_event c words = next_word (index_word c Leader) words >>= (λ (leader, words). ended (event.Order leader Collect Whole) words)
 
--- replica:P, and a cut
+-- ROLE, and a cut
 unfoldable pub snap_event : Cluster → List (List ℕ) → Result Event LineFault
 snap_event c words =
-    next_word (index_word c Replica) words >>= (λ (replica, words).
+    next_word (renewing_word c) words >>= (λ (role, words).
     cut_at words >>= (λ cut.
-    Ok (Snap replica cut)))
+    Ok (Snap role cut)))
 
 -- replacer:X a,b,.., and a cut
 unfoldable pub replace_event : Cluster → List (List ℕ) → Result Event LineFault

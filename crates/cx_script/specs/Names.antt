@@ -1,6 +1,6 @@
 -- Which names of an event lie in a cluster.
 use Rattle.std.specs.Prelude.{ℕ, ◌+◌, ◌*◌, ◌==◌, Bool, true, false, ◌&&◌, not, nat_lt, List, length}
-use Rattle.cx_base.specs.Prelude.{list_all, count_of, Shape, is_rising}
+use Rattle.cx_base.specs.Prelude.{list_all, count_of, Shape, is_rising, puts_anew}
 use Rattle.cx_base.specs.declared.cluster.Cluster.{Cluster}
 use Rattle.cx_base.specs.declared.event.Event.{Event}
 use Rattle.cx_base.specs.declared.event.Event.TheVariants as event
@@ -28,6 +28,10 @@ is_client Replacer = false
 abbrev pub names_server : Cluster → RoleId → Bool
 names_server c role = not (is_client role.kind) && nat_lt role.index (count_of c role.kind)
 
+-- whether it is a role of the cluster that puts its list anew
+abbrev pub names_snap : Cluster → RoleId → Bool
+names_snap c role = puts_anew role.kind && nat_lt role.index (count_of c role.kind)
+
 -- whether each member of a grid is an acceptor of the cluster
 abbrev pub names_members : Cluster → Shape → Bool
 names_members c grid = list_all (λ id. nat_lt id c.acceptors) grid.members
@@ -43,7 +47,8 @@ names_order c (Change grid) = names_members c grid
 names_order c Collect = true
 names_order c (Replace set) = false
 
--- whether each name of an event lies in the cluster, and each role that ticks, crashes or restarts is no client
+-- whether each name of an event lies in the cluster, each role that ticks, crashes or restarts is no client, and each that snaps puts its
+-- list anew
 abbrev pub names_event : Cluster → Event → Bool
 names_event c (Write command batcher) = nat_lt command.client c.clients && nat_lt batcher c.batchers
 names_event c (Read client seq floor reader replica key) = nat_lt client c.clients && nat_lt reader c.readers && nat_lt replica c.replicas
@@ -52,6 +57,6 @@ names_event c (Deliver number cut) = true
 names_event c (Tick role) = names_server c role
 names_event c (event.Order leader order cut) = nat_lt leader c.leaders && names_order c order
 names_event c (event.Replace replacer set cut) = nat_lt replacer c.replacers && names_set c set
-names_event c (Snap replica cut) = nat_lt replica c.replicas
+names_event c (Snap role cut) = names_snap c role
 names_event c (Crash role) = names_server c role
 names_event c (Restart role) = names_server c role

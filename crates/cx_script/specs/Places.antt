@@ -2,7 +2,7 @@
 use Rattle.std.specs.Prelude.{ℕ, ◌-◌, ◌+◌, ◌*◌, Bool, ◌==◌, ◌&&◌, nat_le, nat_lt, List, [], ◌∷◌, length, find, is_none, Option, Some, None}
 use Rattle.std.specs.Prelude.{option_map, option_and_then, ok_or, Result, Err, if◌then◌else◌, bytes_eq}
 use Rattle.cx_base.specs.Prelude.{before_first, after_first, slice_split, floor_fits, Shape, make_grid, grid_fault, kind_text, role}
-use Rattle.cx_base.specs.Prelude.{is_rising, count_of}
+use Rattle.cx_base.specs.Prelude.{is_rising, count_of, puts_anew}
 use Rattle.cx_base.specs.declared.cluster.Cluster.{Cluster}
 use Rattle.cx_base.specs.declared.role.Kind.{Kind}
 use Rattle.cx_base.specs.declared.role.Kind.TheVariants.{Batcher, Leader, Proxy, Acceptor, Matchmaker, Replica, Unbatcher, Reader, Replacer}
@@ -67,6 +67,13 @@ server_in c digits (Some kind) = option_map (role kind) (index_below (count_of c
 
 abbrev pub server_word : Cluster → List ℕ → Result RoleId LineFault
 server_word c word = ok_or (server_in c (index_part word) (server_kind (kind_part word))) Role
+
+-- ROLE that puts its list anew
+abbrev pub if_puts_anew : RoleId → Option RoleId
+if_puts_anew r = if puts_anew r.kind then Some r else None
+
+abbrev pub renewing_word : Cluster → List ℕ → Result RoleId LineFault
+renewing_word c word = ok_or (option_and_then if_puts_anew (server_in c (index_part word) (server_kind (kind_part word)))) Role
 
 -- RxC: the sides of a grid that some members fill
 abbrev pub sides_fit : ℕ → ℕ → Bool

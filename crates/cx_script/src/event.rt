@@ -104,9 +104,9 @@ fn collect_event(cluster: &Cluster, mut words: Words) -> Result<Event, LineFault
 fn snap_event(cluster: &Cluster, mut words: Words) -> Result<Event, LineFault>
     ensures { result ≡ snap_event cluster.now words.entry }
 {
-    let replica = words.index(cluster, Kind::Replica)?;
+    let role = words.snap(cluster)?;
     let cut = words.cut()?;
-    Ok(Event::Snap { replica, cut })
+    Ok(Event::Snap { role, cut })
 }
 
 #[tactic(auto, unfolding(crate::specs::Grammar::replace_event))]

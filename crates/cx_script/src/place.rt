@@ -4,7 +4,7 @@ ghost use Rattle.std.specs.Prelude.{◌≡◌, ◌==◌, ◌-◌, Some};
 ghost use Rattle.std.specs.List.{slice_split};
 ghost use Rattle.std.specs.Option.{option_copied, option_map_or};
 ghost use Rattle.std.specs.Str.{bytes_eq};
-ghost use Rattle.cx_script.specs.Places.{fitting, seq_and_floor, seq_word, number_word, key_word, text_word, index_below, index_word, server_kind, server_word};
+ghost use Rattle.cx_script.specs.Places.{fitting, seq_and_floor, seq_word, number_word, key_word, text_word, index_below, index_word, server_kind, server_word, if_puts_anew, renewing_word};
 ghost use Rattle.cx_script.specs.Words.{word_number};
 
 use crate::decimal::number;
@@ -126,4 +126,27 @@ pub fn server_word(cluster: &Cluster, word: &[u8]) -> Result<RoleId, LineFault>
     let kind = server_kind(name).ok_or(LineFault::Role)?;
     let index = index_below(count_of(cluster, kind), digits).ok_or(LineFault::Role)?;
     Ok(RoleId::new(kind, index))
+}
+
+fn if_puts_anew(role: RoleId) -> Option<RoleId>
+    ensures { result ≡ if_puts_anew role }
+{
+    match role.kind {
+        Kind::Acceptor | Kind::Replica | Kind::Reader => Some(role),
+        Kind::Client
+        | Kind::Batcher
+        | Kind::Leader
+        | Kind::Proxy
+        | Kind::Matchmaker
+        | Kind::Unbatcher
+        | Kind::Replacer => None,
+    }
+}
+
+/// A role that puts its list anew.
+pub fn renewing_word(cluster: &Cluster, word: &[u8]) -> Result<RoleId, LineFault>
+    ensures { result ≡ renewing_word cluster.now word.now }
+{
+    let role = server_word(cluster, word)?;
+    if_puts_anew(role).ok_or(LineFault::Role)
 }

@@ -3,12 +3,14 @@
 ghost use Rattle.std.specs.Prelude.{◌≡◌, ◌∷◌, [], MatchResult};
 ghost use Rattle.cx_script.specs.declared.fault.LineFault.TheVariants.{Word};
 ghost use Rattle.cx_script.specs.Grammar.{next_word, grid_at, op_at, ended, cut_at};
-ghost use Rattle.cx_script.specs.Places.{seq_word, number_word, key_word, text_word, index_word, server_word, set_word};
+ghost use Rattle.cx_script.specs.Places.{seq_word, number_word, key_word, text_word, index_word, server_word, renewing_word, set_word};
 ghost use Rattle.cx_script.specs.Reading.{ReadsWords};
 
 use crate::fault::LineFault;
 use crate::grid::{members_word, sides_word};
-use crate::place::{index_word, is, key_word, number_word, seq_word, server_word, text_word};
+use crate::place::{
+    index_word, is, key_word, number_word, seq_word, server_word, renewing_word, text_word,
+};
 use crate::set::set_word;
 use crate::split::first_word;
 use cx_base::{Cluster, Cut, Grid, Key, Kind, Op, RoleId, Set, Text};
@@ -89,6 +91,13 @@ impl<'a> Words<'a> {
         ensures { ReadsWords result self.new (next_word (server_word cluster.now) self.old) }
     {
         server_word(cluster, self.next()?)
+    }
+
+    /// A role that puts its list anew.
+    pub fn snap(&mut self, cluster: &Cluster) -> Result<RoleId, LineFault>
+        ensures { ReadsWords result self.new (next_word (renewing_word cluster.now) self.old) }
+    {
+        renewing_word(cluster, self.next()?)
     }
 
     /// A grid of acceptors.

@@ -1,6 +1,6 @@
 -- The lines of the trace: events, and the datagrams that they send.
 use Rattle.std.specs.Prelude.{ℕ, Bool, ◌+◌, ◌==◌, ◌||◌, List, [], ◌∷◌, ◌++◌, codes, decimal, Option, None, Some, if◌then◌else◌, bytes_eq}
-use Rattle.cx_letter.specs.Prelude.{role, role_text, Event, Lead, Change, Collect, Replace, RoleId, Client, Leader, Replica, Replacer}
+use Rattle.cx_letter.specs.Prelude.{role, role_text, Event, Lead, Change, Collect, Replace, RoleId, Client, Leader, Replacer}
 use Rattle.cx_letter.specs.Prelude.{Letter, body, name_of_message}
 use Rattle.cx_base.specs.Why.{why_text}
 use Rattle.cx_base.specs.declared.event.Event.TheVariants as event
@@ -47,7 +47,7 @@ happening_text (event.Deliver number cut) who = codes "deliver " ++ decimal numb
 happening_text (event.Tick r) who = codes "tick " ++ role_text r
 happening_text (event.Order leader order cut) who = order_text order ++ role_text (role Leader leader)
 happening_text (event.Replace replacer set cut) who = codes "replace " ++ role_text (role Replacer replacer)
-happening_text (event.Snap replica cut) who = codes "snap " ++ role_text (role Replica replica)
+happening_text (event.Snap r cut) who = codes "snap " ++ role_text r
 happening_text (event.Crash r) who = codes "crash " ++ role_text r
 happening_text (event.Restart r) who = codes "restart " ++ role_text r
 

@@ -76,9 +76,9 @@ fn put_happening(text: &mut Vec<u8>, event: &Event, who: Option<RoleId>) -> Resu
             put(text, b"replace ")?;
             put_role_at(text, Kind::Replacer, u64::from(*replacer))
         }
-        Event::Snap { replica, .. } => {
+        Event::Snap { role, .. } => {
             put(text, b"snap ")?;
-            put_role_at(text, Kind::Replica, u64::from(*replica))
+            put_role(text, *role)
         }
         Event::Crash(role) => {
             put(text, b"crash ")?;
