@@ -112,7 +112,7 @@ class Wide:
         return Ordered(self.some("replacer"), Replace(tuple(sorted(members))), self.cut())
 
     def snap(self) -> Event:
-        return Snap(self.some("replica").index, self.cut())
+        return Snap(self.some("replica"), self.cut())
 
     def crash(self) -> Event:
         return Crash(self.server())

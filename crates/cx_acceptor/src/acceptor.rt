@@ -40,7 +40,7 @@ impl Model for Acceptor {
     } };
 
     ghost invariant = { λ a.
-        IsSound a.me
+        IsSound a.cluster a.me
         (record { promise = a.promise; cw = a.cw; votes = a.votes.items; top = a.top }) };
 }
 

@@ -1,7 +1,7 @@
 //! The rows of how many slots are chosen.
 
 ghost use Rattle.std.specs.Prelude.{◌≡◌};
-ghost use Rattle.cx_role.specs.Prelude.{[], IsTrue, Kind, role, IsReply, IsStep};
+ghost use Rattle.cx_role.specs.Prelude.{[], IsTrue, Kind, role, names_round, IsReply, IsStep};
 ghost use Rattle.cx_model.specs.Acceptor.{acceptor_rules, inform_row, pre_read_row};
 ghost use Rattle.cx_field.specs.Fields as field;
 
@@ -27,6 +27,7 @@ impl Acceptor {
         requires sender { from ≡ role Kind.Leader from.index }
         requires round { IsTrue (field.round.fits round) }
         requires mark { IsTrue (field.mark.fits mark) }
+        requires named { IsTrue (names_round self.old.cluster round) }
         ensures { IsStep K.append_gives K.tells acceptor_rules self.old
             (inform_row self.old.me self.old.durable from round mark)
             result self.new keeper.old keeper.new out.new.list }

@@ -7,6 +7,7 @@ mod acceptor;
 mod informing;
 mod promising;
 mod records;
+mod snap;
 mod votes;
 mod voting;
 

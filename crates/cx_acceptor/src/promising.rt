@@ -1,7 +1,7 @@
 //! The row of a promise.
 
 ghost use Rattle.std.specs.Prelude.{◌≡◌, ◌∷◌};
-ghost use Rattle.cx_role.specs.Prelude.{[], true, IfOk, IsTrue, Kind, role, is_before, replied, IsReply, IsStep};
+ghost use Rattle.cx_role.specs.Prelude.{[], true, IfOk, IsTrue, Kind, role, is_before, names_round, replied, IsReply, IsStep};
 ghost use Rattle.cx_model.specs.Acceptor.{acceptor_rules, nack_to, phase1a_row};
 ghost use Rattle.cx_field.specs.Fields as field;
 
@@ -25,6 +25,7 @@ impl Acceptor {
         requires empty { out.old.list ≡ [] }
         requires sender { from ≡ role Kind.Leader from.index }
         requires round { IsTrue (field.round.fits round) }
+        requires named { IsTrue (names_round self.old.cluster round) }
         ensures { IsStep K.append_gives K.tells acceptor_rules self.old
             (phase1a_row self.old.me self.old.durable from round)
             result self.new keeper.old keeper.new out.new.list }
@@ -58,7 +59,7 @@ impl Acceptor {
         Ok(Why::Nack)
     }
 
-    fn told_votes(&self) -> Result<Votes, NoMemory>
+    pub(crate) fn told_votes(&self) -> Result<Votes, NoMemory>
         ensures votes { IfOk result (λ votes. votes ≡ self.now.durable.votes) }
         ensures fit { IfOk result (λ votes. IsTrue ((field.votes self.now.durable.cw).fits votes)) }
     {

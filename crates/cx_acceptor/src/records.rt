@@ -1,18 +1,27 @@
 //! What an acceptor remembers of its records.
 
 ghost use Rattle.std.specs.Prelude.{◌≡◌};
-ghost use Rattle.cx_role.specs.Prelude.{true, OnOk, OnErr, IsTrue};
+ghost use Rattle.cx_role.specs.Prelude.{true, OnOk, OnErr, IsTrue, Vote, list_all, names_round};
 ghost use Rattle.cx_role.specs.Prelude.kept;
 ghost use Rattle.cx_model.specs.Acceptor.{acceptor_after, acceptor_fits};
+ghost use Rattle.cx_model.specs.Names.{names_vote};
 ghost use Rattle.cx_field.specs.Fields as field;
 ghost use Rattle.cx_letter.specs.Records.{fits as record_fits};
 
 use crate::Acceptor;
 use crate::votes::{has_vote_in_round, is_in_window, keep_from, place};
-use cx_base::{Duplicate, NoMemory, Round};
+use cx_base::{Cluster, Duplicate, NoMemory, Round, copy_all};
 use cx_field::Vote;
 use cx_letter::Record;
 use cx_role::{names_round, names_value};
+
+fn names_votes(cluster: &Cluster, votes: &[Vote]) -> bool
+    ensures { result ≡ list_all (λ (v : Vote). names_vote cluster.now v) votes.now }
+{
+    votes
+        .iter()
+        .all(|vote| names_round(cluster, vote.round) && names_value(cluster, &vote.value))
+}
 
 impl Acceptor {
     /// Whether it could have appended this record.
@@ -40,6 +49,11 @@ impl Acceptor {
                 names_round(&self.cluster, *round)
                     && !round.is_before(&self.promise)
                     && (self.promise.is_before(round) || self.cw < *mark)
+            }
+            Record::Voted { round, votes, .. } => {
+                !Round::ZERO.is_before(&self.promise)
+                    && names_round(&self.cluster, *round)
+                    && names_votes(&self.cluster, votes.as_slice())
             }
             _ => false,
         }
@@ -81,6 +95,18 @@ impl Acceptor {
                 self.raise(*round, *mark);
                 Ok(())
             }
+            Record::Voted {
+                round,
+                top,
+                cw,
+                votes,
+            } => {
+                self.votes = copy_all(self.alloc, votes.as_slice())?;
+                self.promise = *round;
+                self.cw = *cw;
+                self.top = *top;
+                Ok(())
+            }
             _ => Ok(()),
         }
     }
@@ -89,6 +115,7 @@ impl Acceptor {
     pub(crate) fn raise(&mut self, round: Round, mark: u64)
         requires round { IsTrue (field.round.fits round) }
         requires mark { IsTrue (field.mark.fits mark) }
+        requires named { IsTrue (names_round self.old.cluster round) }
         ensures { self.new ≡ record self.old {
           durable = acceptor_after self.old.durable (kept.Water round mark);
         } }

@@ -1,7 +1,7 @@
 //! The row of a vote.
 
 ghost use Rattle.std.specs.Prelude.{◌≡◌};
-ghost use Rattle.cx_role.specs.Prelude.{[], IsTrue, Kind, role, in_window, IsStep};
+ghost use Rattle.cx_role.specs.Prelude.{[], IsTrue, Kind, role, in_window, names_round, names_value, IsStep};
 ghost use Rattle.cx_model.specs.Acceptor.{acceptor_rules, phase2a_row};
 ghost use Rattle.cx_field.specs.Fields as field;
 
@@ -33,6 +33,8 @@ impl Acceptor {
         requires mark { IsTrue (field.mark.fits cw) }
         requires window { IsTrue (in_window cw slot) }
         requires value { IsTrue (field.value.fits value.now) }
+        requires named { IsTrue (names_round self.old.cluster round) }
+        requires values { IsTrue (names_value self.old.cluster value.now) }
         ensures { IsStep K.append_gives K.tells acceptor_rules self.old
             (phase2a_row self.old.me self.old.durable from round slot cw value.now)
             result self.new keeper.old keeper.new out.new.list }

@@ -248,7 +248,7 @@ module _ (w : World) (s : ClientState) (is : IsAsker w s) (traced : IsTraced w) 
       (λ e m. absurd m)
   client_lands Snap come =
       it_lands w s Snap [] w (λ es. refl) (nothing_sends w s) traced (client_stays why.Idle s) rests_so [] [] does_snap
-      (ap (λ (b : Bool). if b then event.Snap s.me.index Whole ∷ [] else []) (is_no_replica s its_name)) (none_delivered _)
+      (ap (λ (b : Bool). if b then event.Snap s.me Whole ∷ [] else []) (is_no_replica s its_name)) (none_delivered _)
       (λ e m. absurd m)
   client_lands (Give n (input.Take d)) come =
       let heard = hears w s is traced n d come.0 come.1 in

@@ -16,7 +16,8 @@ use Rattle.cx_script.specs.Names as script
 use Rattle.cx_course.specs.declared.doing.Doing.{Doing}
 use Rattle.cx_course.specs.declared.doing.Doing.TheVariants.{Begin, Give, Snap}
 use Rattle.cx_course.specs.Course.{own_event, requests_by, step_events}
-use Rattle.cx_course.specs.Hosted.{Hosted, ClientAt, ReplicaAt, Step, by_snap, does, given, kind_at, name_of, rests, snap_of, snapped}
+use Rattle.cx_course.specs.Hosted.{Hosted, ClientAt, ReplicaAt, Step, by_snap, does, given, kind_at, name_of, rests, snapped}
+use Rattle.cx_role.specs.Snap.{snap_of}
 use Rattle.cx_course.specs.Run.{is_client}
 use Rattle.cx_course.proofs.Alike.{IsAlike, Moves}
 use Rattle.cx_course.proofs.Asker.{IsAsker, IsTraced}
@@ -245,16 +246,16 @@ module _ (w : World) (traced : IsTraced w) where
       }))
 
   no_snap : (me : RoleId) (k : Kind) → me.kind ≡ k → (code_of k == code_of kind.Replica) ≡ false → own_event me Snap ≡ []
-  no_snap me k is other = ap (λ b. if b then event.Snap me.index Whole ∷ [] else []) (is_no kind.Replica k me is other)
+  no_snap me k is other = ap (λ b. if b then event.Snap me Whole ∷ [] else []) (is_no kind.Replica k me is other)
 
   role_snaps : (h : Hosted) → is_asker h ≡ false → IsAlike w h → Steps w h Snap
   role_snaps (ClientAt s) off is = absurd (true≢false off)
   role_snaps (ReplicaAt s) off is =
-      let e = event.Snap s.me.index Whole in
-      steps_by (ReplicaAt s) Snap (e ∷ []) (by_snap s (snap_of s)) off
+      let e = event.Snap s.me Whole in
+      steps_by (ReplicaAt s) Snap (e ∷ []) (by_snap s (snap_of replica_rules s)) off
       (ap (λ b. if b then e ∷ [] else []) (is_one kind.Replica s.me is.kind_is)) (snaps_so (ReplicaAt s))
       (snap_lands w s traced is e (record {
-        change = ap (act_at w (act.Snap Whole)) (sym (by_kind_name kind.Replica s.me is.kind_is));
+        change = refl;
         plain = record { no_request = refl; unheard = λ client u. told_none client w (record { event = e; why = u }) refl };
       }))
       (one_fits e (inr (record { ranges = tt; valid = refl; named = in_cluster kind.Replica s.me is.kind_is is.named; complete = refl })))

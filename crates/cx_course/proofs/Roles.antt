@@ -22,7 +22,8 @@ use Rattle.cx_course.specs.declared.doing.Doing.TheVariants.{Begin, Give, Snap}
 use Rattle.cx_course.specs.Changing.{StoreChange, change_for, changed_by}
 use Rattle.cx_course.specs.Course.{is_a}
 use Rattle.cx_course.specs.Hosted.{Hosted, ClientAt, BatcherAt, LeaderAt, ProxyAt, AcceptorAt, MatchmakerAt, ReplicaAt, UnbatcherAt}
-use Rattle.cx_course.specs.Hosted.{ReaderAt, ReplacerAt, Step, by_row, by_snap, does, given, kind_at, name_of, snap_of}
+use Rattle.cx_course.specs.Hosted.{ReaderAt, ReplacerAt, Step, by_row, by_snap, does, given, kind_at, name_of}
+use Rattle.cx_role.specs.Snap.{snap_of}
 use Rattle.cx_course.specs.Run.{is_client}
 use Rattle.cx_course.proofs.Alike.{IsAlike, IsRole, Moves}
 use Rattle.cx_course.proofs.Asker.{IsTraced}
@@ -69,22 +70,19 @@ may_keep k (Some r) other = other
 
 -- ---- by the rules of its kind
 
--- What holds of the list of each kind by its rules holds of the list in every role's store. A client has none, and only a replica's is put
--- anew.
+-- What holds of the list of each kind by its rules holds of the list in every role's store. A client has none.
 pub stored_by : (P : (List KeptRecord → List Record) → Type 0) (me : RoleId) (k : Kind) → (k ≡ kind.Client → P (λ kept. []))
-    → P (list_of replica_rules me)
-    → ((D V : Type 0) (rules : Rules D V) → ((d : D) (first : ℕ) → rules.renewed d first ≡ []) → P (list_of rules me))
-    → P (λ kept. stored_as me kept k)
-stored_by P me kind.Client none replica others = none refl
-stored_by P me kind.Replica none replica others = replica
-stored_by P me kind.Batcher none replica others = others _ _ batcher_rules (λ d first. refl)
-stored_by P me kind.Leader none replica others = others _ _ leader_rules (λ d first. refl)
-stored_by P me kind.Proxy none replica others = others _ _ proxy_rules (λ d first. refl)
-stored_by P me kind.Acceptor none replica others = others _ _ acceptor_rules (λ d first. refl)
-stored_by P me kind.Matchmaker none replica others = others _ _ matchmaker_rules (λ d first. refl)
-stored_by P me kind.Unbatcher none replica others = others _ _ unbatcher_rules (λ d first. refl)
-stored_by P me kind.Reader none replica others = others _ _ reader_rules (λ d first. refl)
-stored_by P me kind.Replacer none replica others = others _ _ replacer_rules (λ d first. refl)
+    → ((D V : Type 0) (rules : Rules D V) → P (list_of rules me)) → P (λ kept. stored_as me kept k)
+stored_by P me kind.Client none each = none refl
+stored_by P me kind.Batcher none each = each _ _ batcher_rules
+stored_by P me kind.Leader none each = each _ _ leader_rules
+stored_by P me kind.Proxy none each = each _ _ proxy_rules
+stored_by P me kind.Acceptor none each = each _ _ acceptor_rules
+stored_by P me kind.Matchmaker none each = each _ _ matchmaker_rules
+stored_by P me kind.Replica none each = each _ _ replica_rules
+stored_by P me kind.Unbatcher none each = each _ _ unbatcher_rules
+stored_by P me kind.Reader none each = each _ _ reader_rules
+stored_by P me kind.Replacer none each = each _ _ replacer_rules
 
 -- What holds of the turns of each kind by its rules holds of the acts at every role. A client hears whatever it is given.
 pub acts_by : (P : (Act → Change) → Type 0) (c : Cluster) (roles : RoleId → State) (kept : List KeptRecord) (me : RoleId) (k : Kind)
@@ -137,7 +135,7 @@ pub does_change : (h : Hosted) (what : Doing) → ChangesOwn h (does h what).kep
 unfolding does
 does_change h (Give n i) = given_changes h i
 does_change (ReplicaAt s) Snap =
-    record { change = option_map (λ b. Renewal (replica_renewed s.durable b)) (snap_of s); is = refl; renewal = λ records e. refl }
+    record { change = option_map (λ b. Renewal (replica_renewed s.durable b)) (snap_of replica_rules s); is = refl; renewal = λ records e. refl }
 does_change (ClientAt s) Begin = changes_none (ClientAt s)
 does_change other Begin = changes_none other
 does_change other Snap = changes_none other
@@ -261,9 +259,9 @@ module _ (w : World) (s : Running ReplicaDurable ReplicaVolatile) (traced : IsTr
     volatile = state;
   }
 
-  pub snap_lands : (e : Event) → IsAct w e (act.Snap Whole) s.me → Lands w (e ∷ []) s.me (by_snap s (snap_of s))
+  pub snap_lands : (e : Event) → IsAct w e (act.Snap Whole) s.me → Lands w (e ∷ []) s.me (by_snap s (snap_of replica_rules s))
   snap_lands e this =
-      let first = snap_of s in
+      let first = snap_of replica_rules s in
       let m = act_moves replica_rules ReplicaIn replica_volatile (λ v. refl) (λ c roles kept a me. refl) w traced s is (act.Snap Whole)
       (made_snap s.volatile first) (whole_snap s.volatile first) e this.plain (λ d m. absurd m) this.change in
       record {

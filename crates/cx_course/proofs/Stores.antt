@@ -37,7 +37,7 @@ Own me kept y k = stored_as me (kept ++ kept_by me (Some y)) k ≡ list_after (s
 own_record : (me : RoleId) (kept : List KeptRecord) (r : Record) (k : Kind) → (k ≡ kind.Client → ⊥) → Own me kept (written.Record r) k
 own_record me kept r k other =
     stored_by (λ list. list (kept ++ kept_by me (Some (written.Record r))) ≡ list kept ++ r ∷ []) me k (λ client. absurd (other client))
-    (list_own replica_rules me kept (Some (written.Record r))) (λ D V rules none. list_own rules me kept (Some (written.Record r)))
+    (λ D V rules. list_own rules me kept (Some (written.Record r)))
 
 pub own_written : (me : RoleId) (kept : List KeptRecord) (y : Written) (k : Kind) → MayWrite k (Some y) → Own me kept y k
 own_written me kept (written.Record r) k may = own_record me kept r k may
@@ -65,7 +65,7 @@ pub other_store : (me who : RoleId) (kept : List KeptRecord) (o : Option Written
     → stored_as me (kept ++ kept_by who o) k ≡ stored_as me kept k
 other_store me who kept o k e =
     stored_by (λ list. list (kept ++ kept_by who o) ≡ list kept) me k (λ client. refl)
-    (list_other replica_rules me who kept o e) (λ D V rules none. list_other rules me who kept o e)
+    (λ D V rules. list_other rules me who kept o e)
 
 pub other_changes : (me who : RoleId) (o : Option KeeperChange) → same_role me who ≡ false → changes_of me (changed_by who o) ≡ []
 other_changes me who None e = refl

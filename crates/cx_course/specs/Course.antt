@@ -53,7 +53,7 @@ own_event me Begin = []
 own_event me (Give number (input.Take d)) = event.Deliver number Whole ∷ []
 own_event me (Give number input.Tick) = if is_a kind.Client me then [] else event.Tick me ∷ []
 own_event me (Give number (input.Order order)) = if is_a kind.Leader me then event.Order me.index order Whole ∷ [] else []
-own_event me Snap = if is_a kind.Replica me then event.Snap me.index Whole ∷ [] else []
+own_event me Snap = if is_a kind.Replica me then event.Snap me Whole ∷ [] else []
 
 -- the request that a client sends by this datagram, with the floor that it tells
 abbrev pub request_by : ℕ → RoleId → RoleId → Msg → List Event

@@ -4,11 +4,10 @@ use Rattle.cx_role.specs.Prelude.{Kind, RoleId, Letter, Input, Append, Renewal, 
 use Rattle.cx_role.specs.Prelude.{batcher_rules, LeaderDurable, LeaderVolatile, leader_rules, is_idle, MatchmakerDurable, matchmaker_rules}
 use Rattle.cx_role.specs.Prelude.{ProxyVolatile, proxy_rules, ReaderDurable, ReaderVolatile, reader_rules, ReplacerDurable}
 use Rattle.cx_role.specs.Prelude.{ReplacerVolatile, replacer_rules, ReplicaDurable, ReplicaVolatile, replica_renewed, replica_rules, Rules}
-use Rattle.cx_role.specs.Prelude.{Running, outcome_of, running_after, unbatcher_rules, snapped_by}
+use Rattle.cx_role.specs.Prelude.{Running, outcome_of, running_after, unbatcher_rules, snap_of, snapped_by}
 use Rattle.cx_base.specs.declared.role.Kind.TheVariants as kind
 use Rattle.cx_letter.specs.declared.input.Input.TheVariants as input
 use Rattle.cx_client.specs.Client.{ClientState, ClientMoved, client_start, client_takes, client_ticks}
-use Rattle.cx_model.specs.Replica.{replica_snap}
 use Rattle.cx_trace.specs.Trace.{told_text}
 use Rattle.cx_course.specs.declared.doing.Doing.{Doing}
 use Rattle.cx_course.specs.declared.doing.Doing.TheVariants.{Begin, Give, Snap}
@@ -111,10 +110,6 @@ abbrev pub starting_step : Hosted → Step
 starting_step (ClientAt s) = record { next = ClientAt s; kept = []; sends = client_start s; text = []; answers = [] }
 starting_step other = rests other
 
--- below which slot a running replica may forget values, if it may
-abbrev pub snap_of : Running ReplicaDurable ReplicaVolatile → Option ℕ
-snap_of s = replica_snap s.cluster s.me s.durable s.volatile
-
 -- a replica forgets the values below a slot, if there is one, and its list is put anew without them
 abbrev pub by_snap : Running ReplicaDurable ReplicaVolatile → Option ℕ → Step
 by_snap s first =
@@ -128,7 +123,7 @@ by_snap s first =
 
 -- a replica snaps; another role has nothing to forget
 abbrev pub snapped : Hosted → Step
-snapped (ReplicaAt s) = by_snap s (snap_of s)
+snapped (ReplicaAt s) = by_snap s (snap_of replica_rules s)
 snapped other = rests other
 
 -- what a hosted role does

@@ -33,7 +33,7 @@ pub(crate) fn write_synced<D: Disk>(disk: &mut D, at: u64, bytes: &[u8]) -> Resu
 /// What comes after the gate of a record: its length, its bytes, and a closed gate.
 pub(crate) fn body_of(alloc: Global, what: &Record) -> Result<Vec<u8>, NoMemory>
     ensures body { IfOk result (λ v. v.items ≡ append_body (spelling what.now)) }
-    ensures most { IfOk result (λ _. length (spelling what.now) ≤ 30018) }
+    ensures most { IfOk result (λ _. length (spelling what.now) ≤ 30620) }
 {
     let mut payload = Vec::new(alloc);
     record_into(alloc, what, &mut payload)?;

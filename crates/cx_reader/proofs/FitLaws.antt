@@ -1,7 +1,7 @@
 -- A reader keeps what it may keep: its next turn.
 use Rattle.cx_model.specs.Prelude.{is_counted, ask_replicas, asked_anew, asked_for, begin, begin_if, finish, greatest_mark, is_among}
 use Rattle.cx_model.specs.Prelude.{is_first, match_ack_row, pre_read_ack_row, reader_row, reader_takes, request_over, make_token}
-use Rattle.cx_role.proofs.Common.{◌≡◌, ◌≤◌, ◌+◌, ◌==◌, ◌&&◌, not, ℕ, true, false, nat_le, nat_lt, Bool, length, List, [], ◌∷◌, ◌++◌, Option}
+use Rattle.cx_role.proofs.Common.{◌≡◌, ◌≤◌, ◌+◌, ◌==◌, ◌&&◌, ◌||◌, not, ℕ, true, false, nat_le, nat_lt, Bool, length, List, [], ◌∷◌, ◌++◌, Option}
 use Rattle.cx_role.proofs.Common.{None, Some, refl, arith, nat_tests, Cluster, RoleId, Round, same_role, Letter, Take, Entry, Msg, names}
 use Rattle.cx_role.proofs.Common.{is_in, is_above, Outcome, by_test, IsFit, is_member_of, same_round, greatest_watermark, live_entries}
 use Rattle.cx_role.proofs.Common.{rows_whole, Why, Asking, Asked, Batch, ReaderDurable, ReaderVolatile, acked_by, has_acked, is_matched}
@@ -13,7 +13,8 @@ use Rattle.cx_model.specs.Reader.{matched, request_row, sets_row, with_asked}
 abbrev Fits : Cluster → RoleId → ReaderDurable → Outcome ReaderVolatile → Type 0
 Fits c me d o = IsFit reader_rules c me d o.kept
 
-next_fits : (turn last : ℕ) → turn ≤ last → (turn == last) ≡ false → ((turn + 1 == turn + 1) && nat_le (turn + 1) last) ≡ true
+next_fits : (turn last : ℕ) → turn ≤ last → (turn == last) ≡ false
+    → ((turn + 1 == turn + 1 || turn == 0) && nat_le (turn + 1) last) ≡ true
 next_fits turn last range more = grind (arith, nat_tests)
 
 is_not : (a b : Bool) → (a && not b) ≡ true → b ≡ false

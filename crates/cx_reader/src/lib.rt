@@ -14,5 +14,6 @@ mod records;
 mod requests;
 mod rows;
 mod sends;
+mod snap;
 
 pub use reader::Reader;

@@ -10,12 +10,14 @@ use cx_letter::Record;
 pub const LAST_TURN: u64 = u64::MAX;
 
 impl Reader {
-    /// Whether it could have appended this record: its next turn.
+    /// Whether it could have appended this record: its next turn, or as the first record any, since its list may have been put anew.
     pub(crate) fn fits(&self, what: &Record) -> bool
         ensures { result ≡ reader_fits self.now.cluster self.now.me self.now.durable what.now }
     {
         match what {
-            Record::Turn { turn } => self.turn < LAST_TURN && *turn == self.turn + 1,
+            Record::Turn { turn } => {
+                self.turn == 0 || (self.turn < LAST_TURN && *turn == self.turn + 1)
+            }
             _ => false,
         }
     }

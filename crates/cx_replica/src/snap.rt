@@ -1,11 +1,10 @@
 //! A replica forgets the values that no other will ask it for, and puts its list anew: a snapshot, and log compaction.
 
-ghost use Rattle.std.specs.Prelude.{◌≡◌, ◌≤◌, ◌<◌, ◌-◌, ◌^◌, ◌++◌, ℕ, [], true, false, drop, length, map, take};
-ghost use Rattle.std.specs.Prelude.{IfOk, IsErrOf, IsTrue, None, Ok, Err, OnOk, Some, slice_get, vec_len};
+ghost use Rattle.std.specs.Prelude.{◌≡◌, ◌≤◌, ◌<◌, ◌-◌, ◌^◌, ◌++◌, ℕ, [], true, drop, length, map, take};
+ghost use Rattle.std.specs.Prelude.{IfOk, IsTrue, None, OnOk, Some, slice_get, vec_len};
 ghost use Rattle.cx_base.specs.Noted.{floor_of};
 ghost use Rattle.cx_field.specs.Fields as field;
 ghost use Rattle.cx_keep.specs.Keeper.{all_fit};
-ghost use Rattle.cx_keep.specs.declared.keeper.KeepFault.TheVariants as fault;
 ghost use Rattle.cx_model.specs.Renewed.{IsOrdered};
 ghost use Rattle.cx_model.specs.Replica.{held, note_of, notes_of, pieces, replica_renewed, replica_rules, replica_snap};
 ghost use Rattle.cx_model.specs.Rules.{refused};
@@ -23,7 +22,7 @@ use cx_field::name_fits;
 use cx_keep::Renew;
 use cx_letter::Record;
 use cx_rlog::Log;
-use cx_role::{Outbox, StepFault};
+use cx_role::{Outbox, Snaps, StepFault, renew};
 use std::alloc::Global;
 
 // Each pair has a spelling, its bytes in a record. It does nothing when it runs.
@@ -216,29 +215,6 @@ fn push_tail(alloc: Global, log: &Log, records: &mut Vec<Record>) -> Result<(), 
     Ok(())
 }
 
-// Puts a role's list anew. A role whose keeper failed lives no longer, and has to be opened again.
-fn renew<K: Renew>(keeper: &mut K, live: &mut bool, records: &[Record]) -> Result<(), StepFault>
-    requires { IsTrue (all_fit records.now) }
-    ensures renewed { IfOk result (λ _. K.renew_gives keeper.old records.now (Ok tt) keeper.new) }
-    ensures lives { OnOk result (live.new ≡ live.old) }
-    ensures refused { IsErrOf result StepFault.NoMemory
-        → K.renew_gives keeper.old records.now (Err fault.NoMemory) keeper.new }
-    ensures tells_same { K.tells keeper.new ≡ K.tells keeper.old }
-    ensures lives_on { IsErrOf result StepFault.NoMemory → live.new ≡ live.old }
-    ensures failed { IsErrOf result StepFault.Failed
-        → K.renew_gives keeper.old records.now (Err fault.Failed) keeper.new }
-    ensures dead { IsErrOf result StepFault.Failed → live.new ≡ false }
-{
-    match keeper.renew(records) {
-        Ok(()) => Ok(()),
-        Err(StepFault::NoMemory) => Err(StepFault::NoMemory),
-        Err(StepFault::Failed) => {
-            *live = false;
-            Err(StepFault::Failed)
-        }
-    }
-}
-
 impl Replica {
     // The list without the values below the first slot of the tail, which has all others.
     fn renewed(&self, tail: &Log) -> Result<Vec<Record>, NoMemory>
@@ -307,22 +283,12 @@ impl Replica {
         self.wanted = Wanted::nothing();
         Ok(Why::Snapped)
     }
+}
 
+impl Snaps for Replica {
     /// It forgets the values that no other replica will ask it for, where there are some, and its list is put anew
-    /// without them, with the map and the client table that all values leave (this project's own). Out of memory, all
-    /// stays as it is. After `Failed` the list is the old one or the new one, and the replica has to be opened again.
-    pub fn snap<K: Renew>(&mut self, keeper: &mut K, _out: &mut Outbox) -> Result<Why, StepFault>
-        requires live { self.old.live ≡ true }
-        requires empty { _out.old.list ≡ [] }
-        ensures snaps { IsSnap K.renew_gives K.tells replica_rules self.old
-            (replica_snap self.old.cluster self.old.me self.old.durable self.old.volatile)
-            result self.new keeper.old keeper.new _out.new.list }
-        ensures fits { (first : ℕ)
-            → replica_snap self.old.cluster self.old.me self.old.durable self.old.volatile
-            ≡ Some first
-            → refused replica_rules self.old.cluster self.old.me
-            (replica_renewed self.old.durable first) ≡ None }
-    {
+    /// without them, with the map and the client table that all values leave (this project's own).
+    fn snap<K: Renew>(&mut self, keeper: &mut K, _out: &mut Outbox) -> Result<Why, StepFault> {
         match self.snap_slot() {
             Some(first) => self.forget_below(keeper, first),
             None => Ok(Why::Idle),

@@ -51,7 +51,7 @@ pub use Rattle.cx_keep.specs.declared.keeper.KeepFault.{KeepFault}
 pub use Rattle.cx_keep.specs.declared.keeper.KeepFault.TheVariants.{Failed, NoMemory}
 pub use Rattle.cx_role.specs.Outbox.{Outgoing}
 pub use Rattle.cx_role.specs.Role.{Appending, IsReply, IsStep, KeepsDurable, MayKeep, Replies, takes_no_memory}
-pub use Rattle.cx_role.specs.Snap.{snapped_by}
+pub use Rattle.cx_role.specs.Snap.{snap_of, snapped_by}
 pub use Rattle.cx_role.specs.Wake.{refused_behind}
 pub use Rattle.cx_base.specs.declared.role.Kind.TheVariants as kind
 pub use Rattle.cx_base.specs.declared.why.Why.TheVariants as why

@@ -1,6 +1,6 @@
 -- The law of a snap: a role forgets values, and its list is put anew.
 use Rattle.std.specs.Prelude.{◌≡◌, ◌⊎◌, ℕ, Bool, false, List, [], Option, None, Some, Result, Ok, Err, IfOk, IsErrOf}
-use Rattle.cx_model.specs.Prelude.{Why, Rules, Running, written_after, Letter, Record}
+use Rattle.cx_model.specs.Prelude.{Why, Rules, Running, refused, written_after, Letter, Record}
 use Rattle.cx_base.specs.declared.why.Why.TheVariants as why
 use Rattle.cx_keep.specs.declared.keeper.KeepFault.{KeepFault}
 use Rattle.cx_keep.specs.declared.keeper.KeepFault.TheVariants.{Failed, NoMemory}
@@ -10,6 +10,15 @@ use Rattle.cx_role.specs.Role.{KeepsDurable, takes_no_memory}
 -- what a renewal may answer, and leave
 abbrev pub Renewing : Type 0 → Type 1
 Renewing K = K → List Record → Result (Unit {0}) KeepFault → K → Type 0
+
+-- below which slot a role may forget values, where it may put its list anew
+abbrev pub snap_of : {D V : Type 0} → Rules D V → Running D V → Option ℕ
+snap_of rules s = rules.snap s.cluster s.me s.durable s.volatile
+
+-- the role can be opened from the list that it is put anew by
+abbrev pub MayRenew : {D V : Type 0} → Rules D V → Running D V → Type 0
+MayRenew rules s =
+    (first : ℕ) → snap_of rules s ≡ Some first → refused rules s.cluster s.me (rules.renewed s.durable first) ≡ None
 
 -- the word of a snap, of a role that may forget the values below this slot, or none
 abbrev pub snap_word : Option ℕ → Why

@@ -2,8 +2,10 @@
 use Rattle.cx_inv_run.proofs.Common.{◌≡◌, ◌∙◌, ℕ, Bool, true, false, List, [], ◌∷◌, ◌++◌, Option, None, Some, ap, sym, refl, subst, inl}
 use Rattle.cx_inv_run.proofs.Common.{inr, append-nil, ◌-◌, drop, length, map, slice_get, list_all, option_map, list_all-append, cases_Bool}
 use Rattle.cx_inv_run.proofs.Common.{Cluster, Cut, Whole, Torn, Kept, Event, Kind, RoleId, role, same_role, same_role-true, Member, Outcome}
-use Rattle.cx_inv_run.proofs.Common.{ReplicaDurable, held, replica_renewed, replica_rules, Rules, folded, snap_turn, turn, turn_with, World}
-use Rattle.cx_inv_run.proofs.Common.{act_of, change, come, durable_part, kept_by, list_after, run, State, replica_volatile, IsKeeper}
+use Rattle.cx_inv_run.proofs.Common.{ReplicaDurable, acceptor_rules, batcher_rules, leader_rules, matchmaker_rules, proxy_rules}
+use Rattle.cx_inv_run.proofs.Common.{reader_rules, replacer_rules, unbatcher_rules, list_of}
+use Rattle.cx_inv_run.proofs.Common.{held, replica_renewed, replica_rules, Rules, folded, snap_turn, turn, turn_with, World}
+use Rattle.cx_inv_run.proofs.Common.{act_of, change, come, durable_part, kept_by, list_after, run, State, IsKeeper}
 use Rattle.cx_inv_run.proofs.Common.{kinds_are_so, Member-second, run_append, Letter, Act, Give, Snap, Input, KeptRecord, Written, Record}
 use Rattle.cx_journal.proofs.Common.{Result, is_some, fits, record_shape, all_kept_by, is_kept_by, may_keep, all_kept-push, both_so}
 use Rattle.cx_role.specs.Prelude.{notes_of, pieces, Append, KeeperChange, Renewal, KeepFault}
@@ -24,7 +26,7 @@ use Rattle.cx_journal.proofs.Stores.{two_tell}
 use Rattle.cx_keep.specs.Keeper.{list_after as change_after}
 use Rattle.cx_promises.proofs.Lawful.{lawful}
 use Rattle.cx_course.specs.Changing.{change_for}
-use Rattle.cx_course.proofs.Roles.{MayWrite, acts_by, stored_by}
+use Rattle.cx_course.proofs.Roles.{MayWrite, acts_by}
 use Rattle.cx_course.proofs.Stores.{own_written}
 use Rattle.cx_seat.specs.Stops.{IsOfRun, MayChange, with_cut}
 
@@ -79,6 +81,14 @@ cut_act c roles kept i to me what k =
     c roles kept to k
     (λ h. none_kept me what h) (λ D V rules make running h. cut_given rules c to me what (durable_part rules to kept) i running h)
 
+cut_anew : (c : Cluster) (roles : RoleId → State) (kept : List KeptRecord) (to me : RoleId) (what : Written)
+    (k : Kind) → (act_of c roles kept (Snap Whole) to k).kept ≡ kept_by me (Some what)
+    → CutKeeps me what ((act_of c roles kept (Snap Torn) to k).kept) ((act_of c roles kept (Snap Kept) to k).kept)
+cut_anew c roles kept to me what k =
+    acts_by (λ at. (at (Snap Whole)).kept ≡ kept_by me (Some what) → CutKeeps me what ((at (Snap Torn)).kept) ((at (Snap Kept)).kept))
+    c roles kept to k
+    (λ h. none_kept me what h) (λ D V rules make running h. cut_snapped rules c to me what (durable_part rules to kept) running h)
+
 cut_come : (w : World) (me : RoleId) (what : Written) (o : Option Letter)
     → (come w Whole o).kept ≡ kept_by me (Some what)
     → CutKeeps me what ((come w Torn o).kept) ((come w Kept o).kept)
@@ -93,9 +103,7 @@ cut_change w (event.Order l order cut) me what may h =
     cut_act w.cluster w.roles w.kept (input.Order order) (role kind.Leader l) me what kind.Leader h
 cut_change w (event.Replace x set cut) me what may h =
     cut_act w.cluster w.roles w.kept (input.Order (order.Replace set)) (role kind.Replacer x) me what kind.Replacer h
-cut_change w (event.Snap p cut) me what may h =
-    let to = role kind.Replica p in
-    cut_snapped replica_rules w.cluster to me what (durable_part replica_rules to w.kept) (replica_volatile (w.roles to)) h
+cut_change w (event.Snap who cut) me what may h = cut_anew w.cluster w.roles w.kept who me what who.kind h
 cut_change w (event.Write command batcher) me what may h = absurd may
 cut_change w (event.Read client seq floor reader replica key) me what may h = absurd may
 cut_change w (event.Session client seq floor replica key) me what may h = absurd may
@@ -109,9 +117,66 @@ no_keeper : {A : Type 0} (r : Record) → IsKeeper kind.Client r → A
 no_keeper (kept_record.Promise i) is = cc
 no_keeper other is = cc
 
-may_write : (k : Kind) (what : Written) → IsWriter k what → MayWrite k (Some what)
-may_write k (written.Record r) is = λ client. no_keeper r (subst (λ (j : Kind). IsKeeper j r) client is)
-may_write k (written.Snap first) is = is
+-- only the snap of a role puts its list anew
+
+abbrev Anew : RoleId → List KeptRecord → ℕ → Type 0
+Anew me kept first = kept ≡ kept_by me (Some (written.Snap first))
+
+no_row : (to me : RoleId) (o : Option Record) (first : ℕ) → Anew me (kept_as to o) first → ⊥
+no_row to me None first h = cc
+no_row to me (Some r) first h = cc
+
+no_turn : {V : Type 0} (to me : RoleId) (k : Option Record) (o : Outcome V) (first : ℕ) → o.kept ≡ k
+    → Anew me (kept_by to ((turn_with Whole k o).kept)) first → ⊥
+no_turn to me None o first is h = no_row to me o.kept first h
+no_turn to me (Some r) o first is h = no_row to me o.kept first h
+
+no_given : {D V : Type 0} (rules : Rules D V) (c : Cluster) (to me : RoleId) (d : D) (i : Input) (running : Option V) (first : ℕ)
+    → Anew me (kept_by to ((turn rules c to d (Give i Whole) running).kept)) first → ⊥
+no_given rules c to me d i None first h = cc
+no_given rules c to me d i (Some v) first h = no_turn to me ((rules.row c to d v i).kept) (rules.row c to d v i) first refl h
+
+no_act : (c : Cluster) (roles : RoleId → State) (kept : List KeptRecord) (i : Input) (to me : RoleId) (first : ℕ) (k : Kind)
+    → Anew me ((act_of c roles kept (Give i Whole) to k).kept) first → ⊥
+no_act c roles kept i to me first k =
+    acts_by (λ at. Anew me ((at (Give i Whole)).kept) first → ⊥) c roles kept to k
+    (λ h. none_kept me (written.Snap first) h)
+    (λ D V rules make running h. no_given rules c to me (durable_part rules to kept) i running first h)
+
+no_come : (w : World) (me : RoleId) (first : ℕ) (o : Option Letter) → Anew me ((come w Whole o).kept) first → ⊥
+no_come w me first None h = cc
+no_come w me first (Some d) h = no_act w.cluster w.roles w.kept (input.Take d) d.to me first d.to.kind h
+
+own_kept_by : (to me : RoleId) (o : Option Written) (what : Written) → kept_by to o ≡ kept_by me (Some what) → to ≡ me
+own_kept_by to me None what h = cc
+own_kept_by to me (Some other) what h = cc
+
+own_snap : (c : Cluster) (roles : RoleId → State) (kept : List KeptRecord) (to me : RoleId) (what : Written) (k : Kind)
+    → (act_of c roles kept (Snap Whole) to k).kept ≡ kept_by me (Some what) → to ≡ me
+own_snap c roles kept to me what k =
+    acts_by (λ at. (at (Snap Whole)).kept ≡ kept_by me (Some what) → to ≡ me) c roles kept to k (λ h. none_kept me what h)
+    (λ D V rules make running h. own_kept_by to me ((turn rules c to (durable_part rules to kept) (Snap Whole) running).kept) what h)
+
+replica_anew : (w : World) (e : Event) (me : RoleId) (first : ℕ) → MayChange e → Anew me ((change w (with_cut Whole e)).kept) first
+    → me.kind ≡ kind.Replica
+replica_anew w (event.Deliver n cut) me first may h = absurd (no_come w me first (slice_get w.sent n) h)
+replica_anew w (event.Order l order cut) me first may h =
+    absurd (no_act w.cluster w.roles w.kept (input.Order order) (role kind.Leader l) me first kind.Leader h)
+replica_anew w (event.Replace x set cut) me first may h =
+    absurd (no_act w.cluster w.roles w.kept (input.Order (order.Replace set)) (role kind.Replacer x) me first kind.Replacer h)
+replica_anew w (event.Snap who cut) me first may h =
+    subst (λ (r : RoleId). r.kind ≡ kind.Replica) (own_snap w.cluster w.roles w.kept who me (written.Snap first) who.kind h) may
+replica_anew w (event.Write command batcher) me first may h = absurd may
+replica_anew w (event.Read client seq floor reader replica key) me first may h = absurd may
+replica_anew w (event.Session client seq floor replica key) me first may h = absurd may
+replica_anew w (event.Tick who) me first may h = absurd may
+replica_anew w (event.Crash who) me first may h = absurd may
+replica_anew w (event.Restart who) me first may h = absurd may
+
+may_write : (w : World) (e : Event) (me : RoleId) (what : Written) → MayChange e
+    → (change w (with_cut Whole e)).kept ≡ kept_by me (Some what) → IsWriter me.kind what → MayWrite me.kind (Some what)
+may_write w e me (written.Record r) may h is = λ client. no_keeper r (subst (λ (j : Kind). IsKeeper j r) client is)
+may_write w e me (written.Snap first) may h is = replica_anew w e me first may h
 
 kept_next : (c : Cluster) (es : List Event) (e : Event) → (run c (es ++ e ∷ [])).kept ≡ (run c es).kept
     ++ (change (run c es) e).kept
@@ -162,11 +227,11 @@ renewed_tagged d first =
 
 -- a role's changes are of its own kind, so its kind's journal may have the tags of its list
 module _ {D V : Type 0} (rules : Rules D V) (me : RoleId)
-    (renews : (d : D) (first : ℕ) → me.kind ≡ kind.Replica → are_tagged me.kind (rules.renewed d first) ≡ true) where
+    (renews : (d : D) (first : ℕ) → are_tagged me.kind (rules.renewed d first) ≡ true) where
   tagged_after : (list : List Record) (w : Written) → IsWriter me.kind w → are_tagged me.kind list ≡ true
       → are_tagged me.kind (list_after rules list w) ≡ true
   tagged_after list (written.Record r) is h = tagged_both me.kind list (r ∷ []) h (rw (own_tag me.kind r is) refl)
-  tagged_after list (written.Snap first) is h = renews (folded rules list) first is
+  tagged_after list (written.Snap first) is h = renews (folded rules list) first
 
   tagged_from : (list : List Record) (ks : List KeptRecord) → ((k : KeptRecord) → Member k ks → IsWriter k.role.kind k.what)
       → are_tagged me.kind list ≡ true → are_tagged me.kind (list_after_kept rules me list ks) ≡ true
@@ -179,14 +244,24 @@ module _ {D V : Type 0} (rules : Rules D V) (me : RoleId)
     | inr other ↦ rw other (tagged_from list ks (λ x m. are x (inr m)) h)
   ]
 
-as_replica : (me : RoleId) (d : ReplicaDurable) (first : ℕ) → me.kind ≡ kind.Replica → are_tagged me.kind (replica_renewed d first) ≡ true
-as_replica me d first is = subst (λ (k : Kind). are_tagged k (replica_renewed d first) ≡ true) (sym is) (renewed_tagged d first)
+by_rules : {D V : Type 0} (rules : Rules D V) (me : RoleId) (ks : List KeptRecord)
+    → ((k : KeptRecord) → Member k ks → IsWriter k.role.kind k.what) → (k : Kind) → me.kind ≡ k
+    → ((d : D) (first : ℕ) → are_tagged k (rules.renewed d first) ≡ true) → are_tagged me.kind (list_of rules me ks) ≡ true
+by_rules rules me ks are k is renews = tagged_from rules me
+    (λ d first. subst (λ (own : Kind). are_tagged own (rules.renewed d first) ≡ true) (sym is) (renews d first)) [] ks are refl
 
 stored_tagged : (me : RoleId) (ks : List KeptRecord) → ((k : KeptRecord) → Member k ks → IsWriter k.role.kind k.what) → (k : Kind)
-    → are_tagged me.kind (stored_as me ks k) ≡ true
-stored_tagged me ks are k = stored_by (λ list. are_tagged me.kind (list ks) ≡ true) me k (λ client. refl)
-    (tagged_from replica_rules me (as_replica me) [] ks are refl)
-    (λ D V rules none. tagged_from rules me (λ d first is. ap (are_tagged me.kind) (none d first)) [] ks are refl)
+    → me.kind ≡ k → are_tagged me.kind (stored_as me ks k) ≡ true
+stored_tagged me ks are kind.Client is = refl
+stored_tagged me ks are kind.Batcher is = by_rules batcher_rules me ks are kind.Batcher is (λ d first. refl)
+stored_tagged me ks are kind.Leader is = by_rules leader_rules me ks are kind.Leader is (λ d first. refl)
+stored_tagged me ks are kind.Proxy is = by_rules proxy_rules me ks are kind.Proxy is (λ d first. refl)
+stored_tagged me ks are kind.Acceptor is = by_rules acceptor_rules me ks are kind.Acceptor is (λ d first. refl)
+stored_tagged me ks are kind.Matchmaker is = by_rules matchmaker_rules me ks are kind.Matchmaker is (λ d first. refl)
+stored_tagged me ks are kind.Replica is = by_rules replica_rules me ks are kind.Replica is renewed_tagged
+stored_tagged me ks are kind.Unbatcher is = by_rules unbatcher_rules me ks are kind.Unbatcher is (λ d first. refl)
+stored_tagged me ks are kind.Reader is = by_rules reader_rules me ks are kind.Reader is (λ d first. refl)
+stored_tagged me ks are kind.Replacer is = by_rules replacer_rules me ks are kind.Replacer is (λ d first. refl)
 
 -- so it may have the list, where the fields of its records are in their ranges
 own_kept : (k : Kind) (rs : List Record) → are_tagged k rs ≡ true → all_kept_by None rs ≡ true → all_kept_by (Some k) rs ≡ true
@@ -206,7 +281,7 @@ of_run c es e cut me files records is fit stored =
     let here : stored_as me ((run c all).kept) me.kind ≡ records =
     ap (λ (ks : List KeptRecord). stored_as me ks me.kind) (kept_next c es (with_cut cut e)) ∙ is in
     let own = own_kept me.kind (stored_as me (run c all).kept me.kind)
-    (stored_tagged me (run c all).kept (kinds_are_so.keepers c all) me.kind)
+    (stored_tagged me (run c all).kept (kinds_are_so.keepers c all) me.kind refl)
     (subst (λ (rs : List Record). all_kept_by None rs ≡ true) (sym here) fit) in
     record {
       stored = subst (λ (rs : List Record). IsFilesImageOf rs files) (sym here) stored (Some me.kind) own;
@@ -219,7 +294,7 @@ module _ (c : Cluster) (es : List Event) (e : Event) (me : RoleId) (what : Writt
   list = stored_as me (run c es).kept me.kind
 
   -- the change is one of the role's kind, since the event is one of a run
-  pub own_writer : IsWriter me.kind what
+  own_writer : IsWriter me.kind what
   own_writer =
       let k : KeptRecord = record { role = me; what = what } in
       kinds_are_so.keepers c (es ++ with_cut Whole e ∷ []) k
@@ -227,12 +302,15 @@ module _ (c : Cluster) (es : List Event) (e : Event) (me : RoleId) (what : Writt
       (Member-second k (run c es).kept (change (run c es) (with_cut Whole e)).kept
       (subst (λ (ks : List KeptRecord). Member k ks) (sym next) (inl refl))))
 
-  changed : (cut : Cut) → (change (run c es) (with_cut cut e)).kept ≡ kept_by me (Some what)
+  pub writes : MayChange e → MayWrite me.kind (Some what)
+  writes may = may_write (run c es) e me what may next own_writer
+
+  changed : MayChange e → (cut : Cut) → (change (run c es) (with_cut cut e)).kept ≡ kept_by me (Some what)
       → all_kept_by None (change_after list (change_for list what)) ≡ true
       → IsFilesImageOf (change_after list (change_for list what)) files → IsOfRun c es e cut me files
-  changed cut kept fit stored =
+  changed may cut kept fit stored =
       of_run c es e cut me files _ (ap (λ (ks : List KeptRecord). stored_as me ((run c es).kept ++ ks) me.kind) kept
-      ∙ own_written me (run c es).kept what me.kind (may_write me.kind what own_writer)) fit stored
+      ∙ own_written me (run c es).kept what me.kind (writes may)) fit stored
 
   pub lost_of_run : MayChange e → all_kept_by None list ≡ true → IsFilesImageOf list files → IsOfRun c es e Torn me files
   lost_of_run may fit stored =
@@ -243,14 +321,14 @@ module _ (c : Cluster) (es : List Event) (e : Event) (me : RoleId) (what : Writt
 
   pub kept_of_run : MayChange e → all_kept_by None (change_after list (change_for list what)) ≡ true
       → IsFilesImageOf (change_after list (change_for list what)) files → IsOfRun c es e Kept me files
-  kept_of_run may = changed Kept (cut_change (run c es) e me what may next).kept_too
+  kept_of_run may = changed may Kept (cut_change (run c es) e me what may next).kept_too
 
-  pub whole_of_run : all_kept_by None (change_after list (change_for list what)) ≡ true
+  pub whole_of_run : MayChange e → all_kept_by None (change_after list (change_for list what)) ≡ true
       → IsFilesImageOf (change_after list (change_for list what)) files → IsOfRun c es e Whole me files
-  whole_of_run = changed Whole next
+  whole_of_run may = changed may Whole next
 
 -- only a list over two disks is put anew
-pub renews_two : (list : List Record) (what : Written) (k : Kind) (two : Bool) → IsWriter k what → two ≡ has_second k
+pub renews_two : (list : List Record) (what : Written) (k : Kind) (two : Bool) → MayWrite k (Some what) → two ≡ has_second k
     → (records : List Record) → change_for list what ≡ Renewal records → two ≡ true
 renews_two list (written.Record r) k two is sides records e = cc
 renews_two list (written.Snap first) k two is sides records e = sides ∙ ap has_second is

@@ -4,13 +4,13 @@ use Rattle.cx_role.proofs.Common.{RoleId, Append, KeeperChange, Renewal, KeepFau
 use Rattle.cx_role.proofs.Common.{replica_renewed, replica_rules, Rules, Running, Letter, Record}
 use Rattle.cx_keep.specs.declared.keeper.KeepFault.TheVariants.{NoMemory}
 use Rattle.cx_role.specs.Role.{Appending, IsStep, Refuses as RefusesAppend}
-use Rattle.cx_role.specs.Snap.{IsSnap, Renewing}
+use Rattle.cx_role.specs.Snap.{IsSnap, Renewing, snap_of}
 use Rattle.cx_seat.specs.declared.guest.Guest.TheVariants as guest
 use Rattle.cx_course.specs.Changing.{changed_by, changes_of}
 use Rattle.cx_course.proofs.Stores.{first_change}
 use Rattle.cx_seat.specs.Changing.{Changing, Refuses, changing}
 use Rattle.cx_seat.specs.Guest.{HasChangeFailed, MakesRow, Performs}
-use Rattle.cx_course.specs.Hosted.{ReplicaAt, snap_of, snapped}
+use Rattle.cx_course.specs.Hosted.{ReplicaAt, snapped}
 
 module _ {K : Type 0} (append_gives : Appending K) (renew_gives : Renewing K) (tells : K → Bool) (old new : K)
     (sent : List Letter) where
@@ -56,7 +56,7 @@ module _ {K : Type 0} (append_gives : Appending K) (renew_gives : Renewing K) (t
     unrenewed (inr p) = inr (Renewal p.0, p.1)
 
     pub snap_ends : (e : KeepFault)
-        → IsSnap renew_gives tells replica_rules before (snap_of before) (Err e) after old new sent
+        → IsSnap renew_gives tells replica_rules before (snap_of replica_rules before) (Err e) after old new sent
         → Performs gives (snapped (ReplicaAt before)) (Err e) (guest.Replica before old) (guest.Replica after new) sent []
     snap_ends NoMemory snap = record {
       role = tt;
@@ -79,6 +79,6 @@ module _ {K : Type 0} (append_gives : Appending K) (renew_gives : Renewing K) (t
           rests = λ is. cc;
           failed = λ is.
               fails_first before.me (asked before.durable)
-              (option_map (λ b. Renewal (replica_renewed before.durable b)) (snap_of before))
+              (option_map (λ b. Renewal (replica_renewed before.durable b)) (snap_of replica_rules before))
               (ap (option_map (λ b. Renewal (replica_renewed before.durable b))) p.1) p.2;
         }

@@ -2,6 +2,7 @@
 use Rattle.std.specs.Prelude.{◌≡◌, ℕ, true, is_some, List, [], ◌∷◌, ◌++◌, Option, Some, Ok}
 use Rattle.cx_model.specs.Prelude.{Cluster, Cut, Whole, Event, RoleId, change, kept_by, run, Written}
 use Rattle.cx_base.specs.declared.event.Event.TheVariants as event
+use Rattle.cx_base.specs.declared.role.Kind.TheVariants as kind
 use Rattle.cx_journal.specs.Files.{Files, files_image, files_records}
 use Rattle.cx_journal.specs.Store.{store_told, store_whole}
 use Rattle.cx_journal.specs.declared.store.RecordStore.{RecordStore}
@@ -14,7 +15,7 @@ abbrev pub with_cut : Cut → Event → Event
 with_cut cut (event.Deliver n other) = event.Deliver n cut
 with_cut cut (event.Order l order other) = event.Order l order cut
 with_cut cut (event.Replace x set other) = event.Replace x set cut
-with_cut cut (event.Snap p other) = event.Snap p cut
+with_cut cut (event.Snap who other) = event.Snap who cut
 with_cut cut (event.Write command batcher) = event.Write command batcher
 with_cut cut (event.Read client seq floor reader replica key) = event.Read client seq floor reader replica key
 with_cut cut (event.Session client seq floor replica key) = event.Session client seq floor replica key
@@ -22,12 +23,12 @@ with_cut cut (event.Tick r) = event.Tick r
 with_cut cut (event.Crash r) = event.Crash r
 with_cut cut (event.Restart r) = event.Restart r
 
--- the events in which a role may change its store
+-- the events in which a role of a node may change its store: only a replica puts its list anew there
 abbrev pub MayChange : Event → Type 0
 MayChange (event.Deliver n cut) = Unit {0}
 MayChange (event.Order l order cut) = Unit {0}
 MayChange (event.Replace x set cut) = Unit {0}
-MayChange (event.Snap p cut) = Unit {0}
+MayChange (event.Snap who cut) = who.kind ≡ kind.Replica
 MayChange (event.Write command batcher) = ⊥
 MayChange (event.Read client seq floor reader replica key) = ⊥
 MayChange (event.Session client seq floor replica key) = ⊥

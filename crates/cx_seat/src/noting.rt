@@ -41,7 +41,7 @@ fn own_event(me: RoleId, what: &Doing) -> Option<Event>
         Doing::Begin => None,
         Doing::Give { number, input } => event_given(me, *number, input),
         Doing::Snap if me.kind == Kind::Replica => Some(Event::Snap {
-            replica: me.index,
+            role: me,
             cut: Cut::Whole,
         }),
         Doing::Snap => None,

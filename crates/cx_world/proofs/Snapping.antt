@@ -1,25 +1,19 @@
 -- A seat whose role forgets is as the store of its keeper leaves it.
 use Rattle.cx_inv_run.proofs.Common.{◌∙◌, Option, ap, sym, subst, inl, inr, Kept, Snap, cut_turn, snap_turn}
 use Rattle.cx_role.specs.Prelude.{◌≡◌, ℕ, Bool, true, false, List, [], None, Some, Err, refl, Cluster, Cut, Whole, Torn, RoleId, Why}
-use Rattle.cx_role.specs.Prelude.{Letter, Written, list_with, Rules, Running, folded, refused, Renewal, Failed, KeepsDurable}
+use Rattle.cx_role.specs.Prelude.{Letter, Written, list_with, Rules, Running, folded, refused, Renewal, Failed, KeepsDurable, snap_of}
+use Rattle.cx_base.specs.declared.why.Why.TheVariants as why
 use Rattle.cx_letter.specs.declared.input.Written.TheVariants as written
+use Rattle.cx_model.specs.Turn.{still}
 use Rattle.cx_keeper.specs.MemKeeper.{kept_of}
 use Rattle.cx_role.specs.Snap.{SnapStays, Snaps}
 use Rattle.cx_world.specs.LastKeeper.{LastState, first_slot_of, last_renew_gives, list_kept}
-use Rattle.cx_world.specs.Seat.{IsTurned, Opens, Seat, Sits, seat_turn, why_of_cut}
+use Rattle.cx_world.specs.Seat.{IsTurned, NeverSnaps, Opens, SaysFirst, Seat, Sits, seat_turn, volatile_of, why_of_cut}
 use Rattle.cx_world.proofs.Standing.{cut_either, cut_turned, here, knows, lives, on, stays, stops, whole_list}
-
--- below which slot a role may forget
-abbrev pub snap_of : {D V : Type 0} → Rules D V → Running D V → Option ℕ
-snap_of rules s = rules.snap s.cluster s.me s.durable s.volatile
 
 -- a role could be opened from the list of a renewal
 abbrev pub IsOwn : {D V : Type 0} → Rules D V → Running D V → Option ℕ → Type 0
 IsOwn rules s o = (n : ℕ) → o ≡ Some n → refused rules s.cluster s.me (rules.renewed s.durable n) ≡ None
-
--- the renewed list says which slot is its first
-abbrev pub SaysFirst : {D V : Type 0} → Rules D V → Type 0
-SaysFirst {D} rules = (d : D) (n : ℕ) → first_slot_of (rules.renewed d n) ≡ n
 
 -- of a seat whose role runs
 module _ {S D V : Type 0} (rules : Rules D V) (state : S → Running D V) (c : Cluster) (me : RoleId) (store : LastState) (role : Option S)
@@ -97,13 +91,14 @@ module _ {S D V : Type 0} (rules : Rules D V) (says : SaysFirst rules) (state : 
   grown n list = list ∙ ap (λ d. rules.renewed d n) fold
 
   -- the change that it is
-  left : (n : ℕ) → new.last ≡ Some (written.Snap (first_slot_of (rules.renewed (state s).durable n))) → k ≡ Some (written.Snap n)
-  left n last = told ∙ last ∙ ap (λ x. Some (written.Snap x)) (says (state s).durable n)
+  left : (n : ℕ) → snap_of rules (state s) ≡ Some n → new.last ≡ Some (written.Snap (first_slot_of (rules.renewed (state s).durable n))) → k ≡ Some (written.Snap n)
+  left n is last =
+      told ∙ last ∙ ap (λ x. Some (written.Snap x)) (says (state s).cluster (state s).me (state s).durable (state s).volatile n is)
 
-  whole_snap : (o : Option ℕ) → (w : Why) (after : S) (sent : List Letter)
+  whole_snap : (o : Option ℕ) → snap_of rules (state s) ≡ o → (w : Why) (after : S) (sent : List Letter)
       → Snaps last_renew_gives rules (state s) o w old new (state after) sent
       → IsTurned rules state (snap_turn cut (state s).volatile o) seat (record seat { role = Some after; records = list_kept new }) w k sent
-  whole_snap None w after sent step =
+  whole_snap None may w after sent step =
       let nothing : k ≡ None = told ∙ ap (λ (x : LastState). x.last) step.list ∙ none in
       record {
         why = step.why;
@@ -114,9 +109,9 @@ module _ {S D V : Type 0} (rules : Rules D V) (says : SaysFirst rules) (state : 
         cluster = refl;
         me = refl;
       }
-  whole_snap (Some n) w after sent step =
+  whole_snap (Some n) may w after sent step =
       let is : cut ≡ Whole = sym set ∙ step.list.0.0 in
-      let change : k ≡ Some (written.Snap n) = left n step.list.1 in
+      let change : k ≡ Some (written.Snap n) = left n may step.list.1 in
       rw is (record {
         why = step.why;
         role = ap (λ (x : Running D V). Some x.volatile) step.state;
@@ -133,7 +128,7 @@ module _ {S D V : Type 0} (rules : Rules D V) (says : SaysFirst rules) (state : 
       (record seat { role = Some after; records = list_kept new }) w k sent
   snap_turned w after sent step =
       subst (λ t. IsTurned rules state t seat (record seat { role = Some after; records = list_kept new }) w k sent) (sym turn_is)
-      (whole_snap (snap_of rules (state s)) w after sent step)
+      (whole_snap (snap_of rules (state s)) refl w after sent step)
 
   pub snap_failed : ((n : ℕ) × (snap_of rules (state s) ≡ Some n)
       × last_renew_gives old (rules.renewed (state s).durable n) (Err Failed) new)
@@ -152,5 +147,16 @@ module _ {S D V : Type 0} (rules : Rules D V) (says : SaysFirst rules) (state : 
             let is : cut ≡ Kept = sym set ∙ kept.cut in
             cut_turned rules state (seat_turn rules state (Snap cut) seat) seat cut (Some (written.Snap n)) k (list_kept new)
             (turn ∙ ap (λ x. snap_turn x v (Some n)) is ∙ ap (λ x. cut_turn (why_of_cut x) (Some (written.Snap n))) (sym is))
-            (left n kept.last) (grown n kept.list)
+            (left n fail.1 kept.last) (grown n kept.list)
       ]
+
+-- a snap of a role whose list is never put anew
+pub rests : {S D V : Type 0} (rules : Rules D V) (never : NeverSnaps rules) (state : S → Running D V) (seat : Seat S) (cut : Cut) (s : S)
+    → seat.role ≡ Some s → IsTurned rules state (seat_turn rules state (Snap cut) seat) seat seat why.Idle None []
+rests rules never state seat cut s is =
+    let v = (state s).volatile in
+    let role : volatile_of state seat.role ≡ Some v = ap (volatile_of state) is in
+    let turn : seat_turn rules state (Snap cut) seat ≡ still (Some v) why.Idle =
+    rw (is, never seat.cluster seat.me (folded rules seat.records) v) refl in
+    subst (λ t. IsTurned rules state t seat seat why.Idle None []) (sym turn)
+    (record { why = refl; role = role; kept = refl; sends = refl; records = refl; cluster = refl; me = refl })

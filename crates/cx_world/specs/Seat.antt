@@ -6,7 +6,7 @@ use Rattle.cx_model.specs.Prelude.{Cut, Whole, Torn, Kept, RoleId, Why, Rules, R
 use Rattle.cx_letter.specs.declared.input.Written.TheVariants as written
 use Rattle.cx_model.specs.Lists.{list_with}
 use Rattle.cx_base.specs.declared.why.Why.TheVariants as why
-use Rattle.cx_world.specs.LastKeeper.{LastState, list_kept}
+use Rattle.cx_world.specs.LastKeeper.{LastState, first_slot_of, list_kept}
 
 -- the word of a step that was cut in the change of its store
 abbrev pub why_of_cut : Cut → Why
@@ -32,6 +32,15 @@ is_snap (Give input cut) = false
 is_snap (Snap cut) = true
 is_snap Stop = false
 is_snap Wake = false
+
+-- such a role's list is never put anew
+abbrev pub NeverSnaps : {D V : Type 0} → Rules D V → Type 0
+NeverSnaps {D} {V} rules = (c : Cluster) (me : RoleId) (d : D) (v : V) → rules.snap c me d v ≡ None
+
+-- a list that is put anew says from which slot on it has values
+abbrev pub SaysFirst : {D V : Type 0} → Rules D V → Type 0
+SaysFirst {D} {V} rules = (c : Cluster) (me : RoleId) (d : D) (v : V) (first : ℕ) → rules.snap c me d v ≡ Some first
+    → first_slot_of (rules.renewed d first) ≡ first
 
 -- the last change, where it failed, so that the role doesn't know it
 abbrev pub unknown : Bool → Option Written → Option Written

@@ -1,10 +1,10 @@
 //! What an event does to the roles.
 
-ghost use Rattle.std.specs.Prelude.{◌≡◌, [], false, IfOk, OnOk, IsTrue, None, Some, option_to_list};
+ghost use Rattle.std.specs.Prelude.{◌≡◌, ◌&&◌, [], false, IfOk, OnOk, IsTrue, None, Some, option_to_list};
 ghost use Rattle.cx_base.specs.Asked.{is_valid_event};
 ghost use Rattle.cx_model.specs.Request.{request};
 ghost use Rattle.cx_model.specs.World.{act_at, ask, change, come, kept_by};
-ghost use Rattle.cx_base.specs.Role.{role};
+ghost use Rattle.cx_base.specs.Role.{puts_anew, role};
 ghost use Rattle.cx_field.specs.Fields.{mark};
 ghost use Rattle.cx_base.specs.declared.role.Kind.TheVariants as kind;
 ghost use Rattle.cx_letter.specs.declared.input.Act.TheVariants.{Give, Snap};
@@ -67,10 +67,10 @@ fn nothing(who: Option<RoleId>, why: Why) -> Changed
     }
 }
 
-// An act at a role, but for a snap. A client hears whatever it is given.
+// An act at a role, but for a snap of a kind whose lists are put anew. A client hears whatever it is given.
 fn act(seats: &mut Seats, who: RoleId, act: &Act, out: &mut Outbox) -> Result<Changed, NoMemory>
     requires empty { out.old.list ≡ [] }
-    requires other { is_snap act.now ≡ false }
+    requires other { (is_snap act.now && puts_anew who.kind) ≡ false }
     ensures { IfOk result
         (λ changed. Changes (λ w. act_at w act.now who) seats.old changed seats.new out.new.list) }
 {
@@ -115,15 +115,27 @@ fn act(seats: &mut Seats, who: RoleId, act: &Act, out: &mut Outbox) -> Result<Ch
     }
 }
 
-// A replica forgets.
-fn snap(seats: &mut Seats, replica: u16, cut: Cut, out: &mut Outbox) -> Result<Changed, NoMemory>
+// A role's list is put anew, where its kind does that.
+fn snap(seats: &mut Seats, who: RoleId, cut: Cut, out: &mut Outbox) -> Result<Changed, NoMemory>
     requires empty { out.old.list ≡ [] }
-    ensures { IfOk result (λ changed. Changes (λ w. act_at w (Snap cut) (role kind.Replica replica))
-        seats.old changed seats.new out.new.list) }
+    ensures { IfOk result (λ changed. Changes (λ w. act_at w (Snap cut) who) seats.old changed
+        seats.new out.new.list) }
 {
-    let who = RoleId::new(Kind::Replica, replica);
-    let turned = snap_at(&mut seats.replicas, replica, cut, out)?;
-    Ok(of_role(who, turned))
+    match who.kind {
+        Kind::Acceptor => {
+            let turned = snap_at(&mut seats.acceptors, who.index, cut, out)?;
+            Ok(of_role(who, turned))
+        }
+        Kind::Replica => {
+            let turned = snap_at(&mut seats.replicas, who.index, cut, out)?;
+            Ok(of_role(who, turned))
+        }
+        Kind::Reader => {
+            let turned = snap_at(&mut seats.readers, who.index, cut, out)?;
+            Ok(of_role(who, turned))
+        }
+        _ => act(seats, who, &Act::Snap { cut }, out),
+    }
 }
 
 // The datagram of a request goes out; in a session it tells of how many values the client has heard.
@@ -267,7 +279,7 @@ pub fn change(
             let order = give(Input::Order { order }, *cut);
             act(seats, who, &order, out)
         }
-        Event::Snap { replica, cut } => snap(seats, *replica, *cut, out),
+        Event::Snap { role, cut } => snap(seats, *role, *cut, out),
         Event::Crash(role) => act(seats, *role, &Act::Stop, out),
         Event::Restart(role) => act(seats, *role, &Act::Wake, out),
     }

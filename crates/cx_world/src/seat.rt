@@ -1,8 +1,7 @@
 //! A role with its keeper, running or not.
 
-ghost use Rattle.std.specs.Prelude.{◌≡◌, [], false, IfOk, IsErrOf, IsTrue, length, None, OnOk, Some, true};
+ghost use Rattle.std.specs.Prelude.{◌≡◌, [], IfOk, IsErrOf, IsTrue, length, None, OnOk, Some, true};
 ghost use Rattle.cx_base.specs.Cluster.{count_of};
-ghost use Rattle.cx_model.specs.Replica.{replica_rules};
 ghost use Rattle.cx_model.specs.Rules.{Rules, Running, opened, outcome_of, refused};
 ghost use Rattle.cx_letter.specs.declared.input.Act.TheVariants.{Give, Snap, Stop, Wake};
 ghost use Rattle.cx_keep.specs.declared.keeper.KeepFault.TheVariants as fault;
@@ -10,14 +9,13 @@ ghost use Rattle.cx_keep.specs.Keeper.{all_fit};
 ghost use Rattle.cx_role.specs.Role.{IsStep, MayKeep};
 ghost use Rattle.cx_role.specs.Wake.{refused_behind, reopened};
 ghost use Rattle.cx_world.specs.LastKeeper.{last_append_gives, list_kept, tells_nothing};
-ghost use Rattle.cx_world.specs.Seat.{AreJustOpened, AreSeats, IsRoleOfRules, IsTurned, is_snap, Seat, seat_turn, StandsByStore, TurnsAt, volatile_of, why_of_cut};
+ghost use Rattle.cx_world.specs.Seat.{AreJustOpened, AreSeats, IsRoleOfRules, IsTurned, NeverSnaps, SaysFirst, is_snap, Seat, seat_turn, StandsByStore, TurnsAt, volatile_of, why_of_cut};
 
 use crate::last_keeper::LastKeeper;
 use crate::turned::Turned;
 use cx_base::{Cluster, Cut, Kind, NoMemory, RoleId, Why};
 use cx_letter::{Act, Input, Record, Written};
-use cx_replica::Replica;
-use cx_role::{Outbox, Role, StepFault, WakeFault};
+use cx_role::{Outbox, Role, Snaps, StepFault, WakeFault};
 use std::alloc::Global;
 use std::array::from_ref;
 use std::marker::Model;
@@ -228,28 +226,41 @@ impl<R: Role + Drop> Seat<R> {
         Ok(Why::Opened)
     }
 
-    /// What is done to the role, but for a snap.
+    // A snap of a role whose list is never put anew.
+    fn rest(&self, cut: Cut) -> Why
+        requires { NeverSnaps R.rules }
+        ensures { IsTurned R.rules R.state (seat_turn R.rules R.state (Snap cut) self.now) self.now
+            self.now result None [] }
+    {
+        if !self.runs {
+            return Why::Down;
+        }
+        Why::Idle
+    }
+
+    /// What is done to the role, but for a snap of one whose list may be put anew.
     pub fn act(&mut self, act: &Act, out: &mut Outbox) -> Result<Turned, NoMemory>
         requires empty { out.old.list ≡ [] }
-        requires other { is_snap act.now ≡ false }
+        requires other { is_snap act.now ≡ true → NeverSnaps R.rules }
         ensures { IfOk result (λ turned. IsTurned R.rules R.state (seat_turn R.rules R.state act.now
             self.old) self.old self.new turned.why turned.kept out.new.list) }
     {
         match act {
             Act::Give { input, cut } => self.give(input, *cut, out),
-            Act::Snap { .. } => unreachable!(),
+            Act::Snap { cut } => Ok(still(self.rest(*cut))),
             Act::Stop => Ok(still(self.stop())),
             Act::Wake => Ok(still(self.wake()?)),
         }
     }
 }
 
-impl Seat<Replica> {
-    /// The replica forgets what no other will ask it for.
+impl<R: Snaps + Drop> Seat<R> {
+    /// The role's list is put anew.
     pub fn snap(&mut self, cut: Cut, out: &mut Outbox) -> Result<Turned, NoMemory>
-        requires { out.old.list ≡ [] }
-        ensures { IfOk result (λ turned. IsTurned replica_rules (λ s. s)
-            (seat_turn replica_rules (λ s. s) (Snap cut) self.old) self.old self.new turned.why
+        requires empty { out.old.list ≡ [] }
+        requires says { SaysFirst R.rules }
+        ensures { IfOk result (λ turned. IsTurned R.rules R.state
+            (seat_turn R.rules R.state (Snap cut) self.old) self.old self.new turned.why
             turned.kept out.new.list) }
     {
         if !self.runs {
@@ -277,15 +288,16 @@ impl Seat<Replica> {
     }
 }
 
-/// The replica at this place forgets what no other will ask it for.
-pub fn snap_at(
-    seats: &mut Vec<Seat<Replica>>,
+/// The list of the role at this place is put anew.
+pub fn snap_at<R: Snaps + Drop>(
+    seats: &mut Vec<Seat<R>>,
     index: u16,
     cut: Cut,
     out: &mut Outbox,
 ) -> Result<Turned, NoMemory>
-    requires { out.old.list ≡ [] }
-    ensures { IfOk result (λ turned. TurnsAt replica_rules (λ s. s) (Snap cut) index seats.old.items
+    requires empty { out.old.list ≡ [] }
+    requires says { SaysFirst R.rules }
+    ensures { IfOk result (λ turned. TurnsAt R.rules R.state (Snap cut) index seats.old.items
         seats.new.items turned.why turned.kept out.new.list) }
 {
     let index = index as usize;
@@ -296,7 +308,7 @@ pub fn snap_at(
     seat.snap(cut, out)
 }
 
-/// What is done to the role at this place, but for a snap.
+/// What is done to the role at this place, but for a snap of one whose list may be put anew.
 pub fn act_at<R: Role + Drop>(
     seats: &mut Vec<Seat<R>>,
     index: u16,
@@ -304,7 +316,7 @@ pub fn act_at<R: Role + Drop>(
     out: &mut Outbox,
 ) -> Result<Turned, NoMemory>
     requires empty { out.old.list ≡ [] }
-    requires other { is_snap act.now ≡ false }
+    requires other { is_snap act.now ≡ true → NeverSnaps R.rules }
     ensures { IfOk result (λ turned. TurnsAt R.rules R.state act.now index seats.old.items
         seats.new.items turned.why turned.kept out.new.list) }
 {

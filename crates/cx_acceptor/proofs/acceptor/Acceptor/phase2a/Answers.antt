@@ -24,5 +24,5 @@ invariant_of-self-2 g c =
       c.max-self-inside.ensures,
       c.max-self-inside-2.ensures,
     )
-    (sound_vote c.self.inside.me _ c.self.invariant c.args.round r.round c.args.slot c.args.cw c.args.value.now r.slot
-    r.mark r.value from r.window)
+    (sound_vote c.self.inside.cluster c.self.inside.me _ c.self.invariant c.args.round r.round (rw (← c.self.view_is) at r.named)
+    c.args.slot c.args.cw c.args.value.now r.slot r.mark r.value (rw (← c.self.view_is) at r.values) from r.window)
