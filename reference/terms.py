@@ -41,6 +41,8 @@ class Cluster:
     batch: int
     pool: int
     replacers: int
+    one_entry_a_grid: bool = False
+    own_proxies: bool = False
 
     def count_of(self, kind: str) -> int:
         """How many roles of a kind there are."""
