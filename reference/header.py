@@ -47,8 +47,10 @@ def cluster_of(header: bytes) -> Cluster:
     ranges = {"leaders": (1, 8), "proxies": (1, 16), "acceptors": (1, 64), "replicas": (f + 1, 8), "batchers": (1, 8), "unbatchers": (1, 8),
               "readers": (1, 8), "clients": (1, 64), "batch": (1, 8), "pool": (2 * f + 1, 64, 2 * f + 1), "replacers": (0, 4, 0)}
     counts = {key: number(members, key, *its) for key, its in ranges.items()}
+    one_entry = number(members, "one_entry_a_grid", 0, 1, 0)
     own_most = 1 if counts["proxies"] % counts["leaders"] == 0 else 0
-    cluster = Cluster(f=f, **counts, own_proxies=number(members, "own_proxies", 0, own_most, 0))
+    own = number(members, "own_proxies", 0, own_most, 0)
+    cluster = Cluster(f=f, **counts, one_entry_a_grid=one_entry == 1, own_proxies=own == 1)
     number(members, "base_port", 1024, 60000, 1024)
     if members:
         raise BadHeader("unknown")

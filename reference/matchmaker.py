@@ -10,7 +10,8 @@ import records as kept
 from rules import Outcome, Rules, refused
 from terms import NO_ROUND, Asking, Entry, Grid, Role, Round, Set
 
-ROUNDS = 16                     # a matchmaker that has this many rounds records no further one
+ROUNDS = 16                     # a matchmaker that has this many rounds records no further one, but in the place of others with its grid,
+JOINED = 254                    # and none where it has this many
 
 
 @dataclass(slots=True)
@@ -36,6 +37,8 @@ class Matchmaker(Rules):
         d = self.durable
         match record:
             case kept.Match(i, grid):
+                if len(d.entries) >= ROUNDS:
+                    d.entries = [it for it in d.entries if it.round == d.watermark or it.grid != grid]
                 d.entries.append(Entry(i, grid))
             case kept.Garbage(i, grid):
                 d.watermark = i
@@ -52,6 +55,12 @@ class Matchmaker(Rules):
     def has(self, i: Round) -> bool:
         """Whether a round is recorded."""
         return any(it.round == i for it in self.durable.entries)
+
+    def has_room(self, grid: Grid) -> bool:
+        """Whether a round with this grid can be recorded: there are few, or it can take the place of one with its grid."""
+        entries = self.durable.entries
+        others = self.cluster.one_entry_a_grid and any(it.grid == grid for it in entries)
+        return len(entries) < ROUNDS or (others and len(entries) < JOINED)
 
     @property
     def set(self) -> Set | None:
@@ -81,8 +90,9 @@ class Matchmaker(Rules):
             return Outcome("later", [self.send(leader, msg.MatchNack(i, "later", greatest))])
         matched = [self.send(leader, msg.MatchB(i, d.watermark, tuple(it for it in d.entries if it.round < i)))]
         if self.has(i):
-            return Outcome("same", matched)
-        if len(d.entries) >= ROUNDS:
+            all_told = [self.send(leader, msg.MatchB(i, d.watermark, tuple(d.entries)))]
+            return Outcome("same", all_told if self.cluster.one_entry_a_grid else matched)
+        if not self.has_room(grid):
             return Outcome("full", [self.send(leader, msg.MatchNack(i, "full", greatest))])
         return Outcome("matched", matched, kept.Match(i, grid))
 

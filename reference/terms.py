@@ -41,7 +41,8 @@ class Cluster:
     batch: int
     pool: int
     replacers: int
-    own_proxies: int = 0        # 1 where each leader has proxy leaders of its own
+    one_entry_a_grid: bool = False
+    own_proxies: bool = False   # each leader has proxy leaders of its own
 
     def count_of(self, kind: str) -> int:
         """How many roles of a kind there are."""

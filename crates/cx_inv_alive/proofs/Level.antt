@@ -23,6 +23,7 @@ use Rattle.cx_inv_alive.proofs.Moments.{Moment, Goes, Left}
 use Rattle.cx_inv_alive.proofs.Phase.{apart_below, less, less_test, phase_all}
 use Rattle.cx_inv_alive.proofs.Plans.{values_for, plan_of, end_is, plan_is, end_below, votes_such}
 use Rattle.cx_inv_alive.proofs.Serve.{not_before_itself, held_after, all_served, not_less}
+use Rattle.cx_model.specs.Matchmaker.{has_room}
 use Rattle.cx_inv_alive.proofs.Stages.{HasCounts, is_of, is_role, Apart, lead_round, begun_over, matching, goes_on_with, phasing}
 use Rattle.cx_inv_alive.proofs.Stages.{settled_at, IsHearing, Grown, CanMatch, match_answer_of, reported_by, MayHavePromised, MayVote}
 use Rattle.cx_inv_alive.proofs.Stages.{single_grid, proposed_over, with_values}
@@ -40,9 +41,6 @@ pub record AreNamed (w : World) : Type 0 where
 pub not_true : (b : Bool) → not b ≡ true → b ≡ false
 not_true true h = cc
 not_true false h = refl
-
-under : (n : ℕ) → nat_lt n 16 ≡ true → nat_le 16 n ≡ false
-under n h = grind (arith, nat_tests, h)
 
 not_end : (n : ℕ) → nat_lt n 1099511627776 ≡ true → (n == 1099511627776) ≡ false
 not_end n h = grind (arith, nat_tests, h)
@@ -284,17 +282,17 @@ module _ (w : World) (h b : ℕ) (command : Command) (counts : HasCounts w.clust
   -- ITS MATCHMAKERS
 
   abbrev works : ℕ → Bool
-  works m = takes_a_round (matchmaker_store w m)
+  works m = takes_a_round c (matchmaker_store w m)
 
-  can_match : (m : ℕ) → Member m (filter works (first_set c)) → CanMatch c m r (matchmaker_store w m)
+  can_match : (m : ℕ) → Member m (filter works (first_set c)) → CanMatch c m r g (matchmaker_store w m)
   can_match m there =
       let f = Member-filter works m (first_set c) there in
       let d = matchmaker_store w m in
-      let parts = and_parts (not (is_stopped d)) (nat_lt (length d.entries) 16) f.1 in
+      let parts = and_parts (not (is_stopped d)) (has_room c g d.entries) f.1 in
       record {
         member = booted c m d.booted (less_test m (2 * c.f + 1) (below-Member m (2 * c.f + 1) f.0));
         works = not_true (is_stopped d) parts.0;
-        room = under (length d.entries) parts.1;
+        room = parts.1;
         watermark = all-Member (λ m. nat_lt (matchmaker_store w m).watermark.r r) (first_set c) room.rounds.watermarks m f.0;
         lower = all-Member (λ m. list_all (λ (e : Entry). nat_lt e.round.r r) (matchmaker_store w m).entries) (first_set c)
             room.rounds.entries m f.0;

@@ -41,7 +41,7 @@ none_same l r (e ∷ es) all =
 -- ROWS
 
 row_match : (c : Cluster) (l r m : ℕ) (g : Shape) (d : MatchmakerDurable) → nat_lt l c.leaders ≡ true → nat_lt m c.pool ≡ true
-    → names_grid c g ≡ true → CanMatch c m r d
+    → names_grid c g ≡ true → CanMatch c m r g d
     → matchmaker_row c (role kind.Matchmaker m) d tt (input.Take (match_a_to (role kind.Leader l) (lead_round l r) g m))
     ≡ record {
       why = why.Matched;
@@ -63,7 +63,7 @@ row_match c l r m g d led there named can = rw (
 ) refl
 
 module _ (c : Cluster) (l r m : ℕ) (g : Shape) (v : LeaderVolatile) (d : MatchmakerDurable) (told : List MatchAnswer)
-    (led : nat_lt l c.leaders ≡ true) (there : nat_lt m c.pool ≡ true) (can : CanMatch c m r d) (knows : is_in m v.set ≡ true)
+    (led : nat_lt l c.leaders ≡ true) (there : nat_lt m c.pool ≡ true) (can : CanMatch c m r g d) (knows : is_in m v.set ≡ true)
     (new : is_counted m told ≡ false) where
   abbrev more : List MatchAnswer
   more = told ++ match_answer_of (lead_round l r) d m ∷ []
@@ -143,7 +143,7 @@ module _ (goal : World → Type 0) (c : Cluster) (l r : ℕ) (g : Shape) (v : Le
     pub there : nat_lt m c.pool ≡ true
     pub knows : is_in m v.set ≡ true
     pub new : is_counted m told ≡ false
-    pub can : CanMatch c m r (d0 m)
+    pub can : CanMatch c m r g (d0 m)
 
   pub record IsMatched (told : List MatchAnswer) (x : Moment) : Type 0 where
     pub runs : x.states me ≡ LeaderIn (goes_on_with c l r g v told).volatile

@@ -1,14 +1,15 @@
 -- NO DEAD ENDS. From each world that any list of events reaches, while room is left, further events bring an answer to each command that
 -- was submitted. Nothing of it is proved here.
-use Rattle.std.specs.Prelude.{◌≡◌, ℕ, ◌+◌, ◌==◌, ◌&&◌, ◌||◌, not, Bool, true, false, nat_lt, nat_le, filter, is_none, List, length}
+use Rattle.std.specs.Prelude.{◌≡◌, ℕ, ◌+◌, ◌==◌, ◌&&◌, ◌||◌, not, Bool, true, false, nat_lt, nat_le, filter, is_none, List, [], ◌∷◌, length}
 use Rattle.cx_model.specs.Prelude.{list_all, Cluster, Command, Reply, Value, Event, Lead, RoleId, commands_of, IsGrid, below, floor_of}
 use Rattle.cx_model.specs.Prelude.{is_done, role, Entry, Vote, Letter, letter, AcceptorDurable, acceptor_rules, LeaderDurable, leader_rules}
 use Rattle.cx_model.specs.Prelude.{round_of, enough, first_set, MatchmakerDurable, matchmaker_rules, is_stopped, Member, ReplicaDurable}
 use Rattle.cx_model.specs.Prelude.{held, replica_rules, World, run, run_from, durable_part}
 use Rattle.cx_base.specs.declared.event.Event.TheVariants as event
 use Rattle.cx_base.specs.declared.role.Kind.TheVariants as kind
-use Rattle.cx_base.specs.Grid.{grid_fault}
+use Rattle.cx_base.specs.Grid.{grid_fault, make_grid}
 use Rattle.cx_letter.specs.declared.message.Msg.TheVariants as msg
+use Rattle.cx_model.specs.Matchmaker.{has_room}
 
 -- the client's command was submitted to this batcher
 abbrev pub submitted : Command → ℕ → Letter
@@ -51,9 +52,10 @@ replica_store w p = durable_part replica_rules (role kind.Replica p) w.kept
 
 -- THE CONDITIONS, of stores alone: whatever else a role knows goes when it is opened again.
 
--- A matchmaker that hasn't stopped records a round more: at most 16 are recorded.
-abbrev pub takes_a_round : MatchmakerDurable → Bool
-takes_a_round d = not (is_stopped d) && nat_lt (length d.entries) 16
+-- A matchmaker that hasn't stopped has room for a round over acceptor 0 alone: it has fewer than 16, or one of them with that grid, where the
+-- cluster has one entry a grid.
+abbrev pub takes_a_round : Cluster → MatchmakerDurable → Bool
+takes_a_round c d = not (is_stopped d) && has_room c (make_grid 1 1 (0 ∷ [])) d.entries
 
 -- each grid that one recorded has rows, of which a first phase asks; the program's type of a grid says so
 abbrev pub HasGrids : Cluster → World → Type 0
@@ -89,7 +91,7 @@ pub record StillWaits (c : Cluster) (w : World) (command : Command) : Type 0 whe
 
 -- Room is left: f + 1 of the first set of matchmakers, for which a leader waits, record a round more, and rounds and slots are left.
 pub record IsRoomy (c : Cluster) (w : World) (command : Command) : Type 0 where
-  pub matchmakers : nat_le (enough c) (length (filter (λ m. takes_a_round (matchmaker_store w m)) (first_set c))) ≡ true
+  pub matchmakers : nat_le (enough c) (length (filter (λ m. takes_a_round c (matchmaker_store w m)) (first_set c))) ≡ true
   pub grids : HasGrids c w
   pub round : ℕ
   pub rounds : RoundsLeft c w round

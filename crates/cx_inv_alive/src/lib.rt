@@ -6,7 +6,7 @@
 //! submitted.
 //!
 //! Room is left while f + 1 of the first set of matchmakers haven't stopped and have fewer than 16 rounds
-//! recorded now; a round is left above all in the stores, and a slot above all that are held or were voted
+//! recorded now, or, where the cluster has one entry a grid, one whose grid is acceptor 0 alone; a round is left above all in the stores, and a slot above all that are held or were voted
 //! in; recorded grids have rows, as the program's type of a grid says; and neither a replica nor a vote
 //! knows that the client is done with the number.
 //!
