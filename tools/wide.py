@@ -23,7 +23,8 @@ def random_cluster(rng: random.Random) -> Cluster:
             "batchers": (1, 1, 2, 8), "unbatchers": (1, 2, 8), "readers": (1, 1, 2, 8), "clients": (1, 2, 4, 64), "batch": (1, 1, 2, 3, 8),
             "pool": (1, 3, 5, 9, 20, 64), "replacers": (0, 1, 2, 4)}
     least = {"replicas": f + 1, "pool": 2 * f + 1}
-    return Cluster(f=f, **{key: max(rng.choice(its), least.get(key, 0)) for key, its in some.items()})
+    counts = {key: max(rng.choice(its), least.get(key, 0)) for key, its in some.items()}
+    return Cluster(f=f, **counts, own_proxies=0 if counts["proxies"] % counts["leaders"] else rng.choice([0, 1]))
 
 
 class Wide:
