@@ -14,7 +14,7 @@ use Rattle.cx_script.specs.Grammar.{◌>>=◌, next_word, ended, grid_at}
 use Rattle.cx_script.specs.Names.{is_client, names_server, names_members, names_set, names_snap}
 use Rattle.cx_script.specs.Places.{fitting, seq_and_floor, seq_word, number_if_below, index_below, kind_part, index_part, index_word}
 use Rattle.cx_script.specs.Places.{server_kinds, server_kind, server_in, server_word, sides_word, ids_of, grid_from_ids, members_word}
-use Rattle.cx_script.specs.Places.{set_in, set_word, if_puts_anew, renewing_word}
+use Rattle.cx_script.specs.Places.{server_named, set_in, set_word, if_puts_anew, renewing_word}
 use Rattle.cx_script.specs.Words.{word_number}
 
 pub then_ok : {A B : Type 0} (P : A → Type 0) (Q : B → Type 0) (r : Result A LineFault) (more : A → Result B LineFault) → IfOk r P
@@ -122,7 +122,7 @@ anew_some c r h = go (puts_anew r.kind) refl
 
 pub snap_ok : (c : Cluster) (word : List ℕ) → IfOk (renewing_word c word) (λ r. names_snap c r ≡ true)
 snap_ok c word =
-    let named = server_in c (index_part word) (server_kind (kind_part word)) in
+    let named = server_named c word in
     some_ok (λ r. names_snap c r ≡ true) (option_and_then if_puts_anew named) Role
     (and_then_some (λ r. names_server c r ≡ true) (λ r. names_snap c r ≡ true) named if_puts_anew (server_some c (index_part word)
     (server_kind (kind_part word)) (found_server (λ kind. bytes_eq (kind_part word) (kind_text kind)) server_kinds refl)) (anew_some c))

@@ -65,15 +65,18 @@ abbrev pub server_in : Cluster → List ℕ → Option Kind → Option RoleId
 server_in c digits None = None
 server_in c digits (Some kind) = option_map (role kind) (index_below (count_of c kind) digits)
 
+abbrev pub server_named : Cluster → List ℕ → Option RoleId
+server_named c word = server_in c (index_part word) (server_kind (kind_part word))
+
 abbrev pub server_word : Cluster → List ℕ → Result RoleId LineFault
-server_word c word = ok_or (server_in c (index_part word) (server_kind (kind_part word))) Role
+server_word c word = ok_or (server_named c word) Role
 
 -- ROLE that puts its list anew
 abbrev pub if_puts_anew : RoleId → Option RoleId
 if_puts_anew r = if puts_anew r.kind then Some r else None
 
 abbrev pub renewing_word : Cluster → List ℕ → Result RoleId LineFault
-renewing_word c word = ok_or (option_and_then if_puts_anew (server_in c (index_part word) (server_kind (kind_part word)))) Role
+renewing_word c word = ok_or (option_and_then if_puts_anew (server_named c word)) Role
 
 -- RxC: the sides of a grid that some members fill
 abbrev pub sides_fit : ℕ → ℕ → Bool

@@ -1,10 +1,10 @@
 //! What a word says in its place.
 
-ghost use Rattle.std.specs.Prelude.{◌≡◌, ◌==◌, ◌-◌, Some};
+ghost use Rattle.std.specs.Prelude.{◌≡◌, ◌==◌, ◌-◌, Some, option_and_then};
 ghost use Rattle.std.specs.List.{slice_split};
 ghost use Rattle.std.specs.Option.{option_copied, option_map_or};
 ghost use Rattle.std.specs.Str.{bytes_eq};
-ghost use Rattle.cx_script.specs.Places.{fitting, seq_and_floor, seq_word, number_word, key_word, text_word, index_below, index_word, server_kind, server_word, if_puts_anew, renewing_word};
+ghost use Rattle.cx_script.specs.Places.{fitting, seq_and_floor, seq_word, number_word, key_word, text_word, index_below, index_word, server_kind, server_named, server_word, if_puts_anew, renewing_word};
 ghost use Rattle.cx_script.specs.Words.{word_number};
 
 use crate::decimal::number;
@@ -118,14 +118,20 @@ fn server_kind(name: &[u8]) -> Option<Kind>
     SERVERS.iter().copied().find(|kind| is(name, kind.text()))
 }
 
+fn server_named(cluster: &Cluster, word: &[u8]) -> Option<RoleId>
+    ensures { result ≡ server_named cluster.now word.now }
+{
+    let (name, digits) = parted(word, b':');
+    let kind = server_kind(name)?;
+    let index = index_below(count_of(cluster, kind), digits)?;
+    Some(RoleId::new(kind, index))
+}
+
 /// Any role but a client.
 pub fn server_word(cluster: &Cluster, word: &[u8]) -> Result<RoleId, LineFault>
     ensures { result ≡ server_word cluster.now word.now }
 {
-    let (name, digits) = parted(word, b':');
-    let kind = server_kind(name).ok_or(LineFault::Role)?;
-    let index = index_below(count_of(cluster, kind), digits).ok_or(LineFault::Role)?;
-    Ok(RoleId::new(kind, index))
+    server_named(cluster, word).ok_or(LineFault::Role)
 }
 
 fn if_puts_anew(role: RoleId) -> Option<RoleId>
@@ -143,10 +149,15 @@ fn if_puts_anew(role: RoleId) -> Option<RoleId>
     }
 }
 
+fn renewing_named(cluster: &Cluster, word: &[u8]) -> Option<RoleId>
+    ensures { result ≡ option_and_then if_puts_anew (server_named cluster.now word.now) }
+{
+    if_puts_anew(server_named(cluster, word)?)
+}
+
 /// A role that puts its list anew.
 pub fn renewing_word(cluster: &Cluster, word: &[u8]) -> Result<RoleId, LineFault>
     ensures { result ≡ renewing_word cluster.now word.now }
 {
-    let role = server_word(cluster, word)?;
-    if_puts_anew(role).ok_or(LineFault::Role)
+    renewing_named(cluster, word).ok_or(LineFault::Role)
 }

@@ -119,9 +119,40 @@ const RECORDS: [(&str, Option<WireFault>); 10] = [
     ("10000000000000000100", Some(WireFault::Trailing { at: 9 })),
     // Tags that are none.
     ("000000000000000001", Some(WireFault::Kind(0))),
-    ("110000000000000001", Some(WireFault::Kind(17))),
+    ("120000000000000001", Some(WireFault::Kind(18))),
     ("200000000000000001", Some(WireFault::Kind(32))),
     ("900000000000000001", Some(WireFault::Kind(144))),
+];
+
+// Lists of acceptors that begin anew: the promise of round 1, a vote below slot 3, and one slot held.
+const VOTED: [(&str, Option<WireFault>); 6] = [
+    // No vote; a no-op voted for at slot 1, where the window begins.
+    (
+        "11000000010000000000000000000000000003000000000000000100",
+        None,
+    ),
+    (
+        "1100000001000000000000000000000000000300000000000000010100000001000000000000000000000000000100",
+        None,
+    ),
+    // A promise of no round, and 2^40 + 1 slots voted in.
+    (
+        "11000000000000000000000000000000000003000000000000000100",
+        Some(WireFault::Field { kind: 17, at: 1 }),
+    ),
+    (
+        "11000000010000000000000000010000000001000000000000000100",
+        Some(WireFault::Field { kind: 17, at: 11 }),
+    ),
+    // A vote below the window, and a byte behind no vote.
+    (
+        "1100000001000000000000000000000000000300000000000000010100000001000000000000000000000000000000",
+        Some(WireFault::Field { kind: 17, at: 38 }),
+    ),
+    (
+        "1100000001000000000000000000000000000300000000000000010000",
+        Some(WireFault::Trailing { at: 28 }),
+    ),
 ];
 
 #[test]
@@ -142,6 +173,16 @@ fn askings(rt: HostRuntime) -> Result<(), Fail> {
 fn turns(rt: HostRuntime) -> Result<(), Fail> {
     let alloc = rt.alloc();
     for (text, fault) in &RECORDS {
+        let (bytes, _) = unhex(alloc, text.as_bytes())?;
+        assert_eq!(rt; record_from(alloc, &bytes).err(), *fault);
+    }
+    Ok(())
+}
+
+#[test]
+fn lists_of_votes(rt: HostRuntime) -> Result<(), Fail> {
+    let alloc = rt.alloc();
+    for (text, fault) in &VOTED {
         let (bytes, _) = unhex(alloc, text.as_bytes())?;
         assert_eq!(rt; record_from(alloc, &bytes).err(), *fault);
     }
