@@ -237,7 +237,7 @@ def signs(page, stops):
         found.append((f'<g class="{groups[0]}">{path("arrow", 2, 0, 22, 0)}</g>{cross(22, 0)}', "never delivered"))
     if any("gap" in it for it in lives(page, stops)):
         found.append(('<path class="gap" d="M5 -5h16M5 5h16"/>', "stopped"))
-    meant = ("chosen", "a slot is chosen"), ("answer", "an answer"), ("snap", "a replica forgets")
+    meant = ("chosen", "a slot is chosen"), ("answer", "an answer"), ("snap", "a list put anew")
     return found + [(point(kind, 13, 0), said) for kind, said in meant if kind in kinds]
 
 

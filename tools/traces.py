@@ -10,7 +10,7 @@ SUMMARY = re.compile(r"chosen \d+")
 
 STOPS = {"crashed", "torn", "kept"}     # the results after which the role is stopped
 OPENS = "opened"                        # and the one after which it runs again
-FORGETS = "snapped"                     # a replica forgets values
+FORGETS = "snapped"                     # a role puts its list anew; a replica forgets values by that
 
 
 class Unreadable(Exception):

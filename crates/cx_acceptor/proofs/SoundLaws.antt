@@ -2,7 +2,8 @@
 use Rattle.cx_role.specs.Prelude.{Acceptor, round, slots_rise, vote_in_range, AcceptorDurable}
 use Rattle.cx_role.proofs.Common.{◌≡◌, ◌≤◌, ◌<◌, ℕ, ◌+◌, ◌^◌, ◌&&◌, Bool, true, not, nat_le, nat_lt, max, List, [], ◌∷◌, refl, arith}
 use Rattle.cx_role.proofs.Common.{and_parts, nat_tests, Cluster, Value, RoleId, Round, role, is_before, no_round, Record, Vote, in_window}
-use Rattle.cx_role.proofs.Common.{names_round, names_value, value, fits, vote_at, is_of_round, list_all, ◌||◌, sym, true≢false, bool_cases, inl, inr, None, Some, none-some, refused}
+use Rattle.cx_role.proofs.Common.{names_round, names_value, value, fits, vote_at, is_of_round, list_all, ◌||◌, sym, true≢false, bool_cases}
+use Rattle.cx_role.proofs.Common.{inl, inr, None, Some, none-some, refused}
 use Rattle.cx_role.proofs.Common.kept
 use Rattle.cx_role.proofs.Ranges.{max_fits, real_above, real_or_none}
 use Rattle.cx_wire.specs.Format.{u16, u32, u64}
@@ -94,6 +95,11 @@ vote_tests a b c d e f h = grind (arith, nat_tests)
 water_tests : (a b c : Bool) → (a && b && c) ≡ true → a ≡ true
 water_tests a b c h = grind (arith, nat_tests)
 
+-- the round of a watermark that was kept names a leader
+pub water_named : (c : Cluster) (d : AcceptorDurable) (i : Round) (cw : ℕ)
+    → (names_round c i && not (is_before i d.promise) && (is_before d.promise i || nat_lt d.cw cw)) ≡ true → names_round c i ≡ true
+water_named c d i cw takes = water_tests (names_round c i) (not (is_before i d.promise)) (is_before d.promise i || nat_lt d.cw cw) takes
+
 voted_tests : (a b c : Bool) → (a && b && c) ≡ true → (b ≡ true) × (c ≡ true)
 voted_tests a b c h = grind (arith, nat_tests)
 
@@ -138,8 +144,7 @@ after_sound c me d (kept.Vote i s cw v) sound fit takes =
     sound_vote c me d sound i p.0 tests.0 s cw v p.1 p.2 p.3 tests.1 tests.2 tests.3
 after_sound c me d (kept.Water i cw) sound fit takes =
     let a = and_parts (round.fits i) (mark.fits cw) fit in
-    let known = water_tests (names_round c i) (not (is_before i d.promise)) (is_before d.promise i || nat_lt d.cw cw) takes in
-    sound_water c me d sound i a.0 known cw a.1
+    sound_water c me d sound i a.0 (water_named c d i cw takes) cw a.1
 after_sound c me d (kept.Voted i top cw vs) sound fit takes =
     let tests = voted_tests (not (is_before no_round d.promise)) (names_round c i) (are_named c vs) takes in
     sound_voted c me i top cw vs sound.who fit tests.0 tests.1
@@ -166,7 +171,16 @@ pub empty_sound : (c : Cluster) (me : RoleId) → me ≡ role Acceptor me.index
     → IsSound c me (record { promise = no_round; cw = 0; votes = []; top = 0 })
 unfolding round0 mark u16 u32 u64
 empty_sound c me who =
-    record { who = who; promise = refl; cw = refl; top = refl; votes = refl; rising = refl; leader = λ e. absurd (true≢false (sym e)); named = refl }
+    record {
+      who = who;
+      promise = refl;
+      cw = refl;
+      top = refl;
+      votes = refl;
+      rising = refl;
+      leader = λ e. absurd (true≢false (sym e));
+      named = refl;
+    }
 
 -- a sound acceptor can be opened from its list put anew
 pub renewable : (c : Cluster) (me : RoleId) (d : AcceptorDurable) → IsSound c me d → (first : ℕ)

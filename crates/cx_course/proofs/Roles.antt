@@ -135,7 +135,11 @@ pub does_change : (h : Hosted) (what : Doing) → ChangesOwn h (does h what).kep
 unfolding does
 does_change h (Give n i) = given_changes h i
 does_change (ReplicaAt s) Snap =
-    record { change = option_map (λ b. Renewal (replica_renewed s.durable b)) (snap_of replica_rules s); is = refl; renewal = λ records e. refl }
+    record {
+      change = option_map (λ b. Renewal (replica_renewed s.durable b)) (snap_of replica_rules s);
+      is = refl;
+      renewal = λ records e. refl;
+    }
 does_change (ClientAt s) Begin = changes_none (ClientAt s)
 does_change other Begin = changes_none other
 does_change other Snap = changes_none other

@@ -1,7 +1,8 @@
 -- A reader keeps what it may keep: its next turn.
 use Rattle.cx_model.specs.Prelude.{is_counted, ask_replicas, asked_anew, asked_for, begin, begin_if, finish, greatest_mark, is_among}
 use Rattle.cx_model.specs.Prelude.{is_first, match_ack_row, pre_read_ack_row, reader_row, reader_takes, request_over, make_token}
-use Rattle.cx_role.proofs.Common.{◌≡◌, ◌≤◌, ◌+◌, ◌==◌, ◌&&◌, ◌||◌, not, ℕ, true, false, nat_le, nat_lt, Bool, length, List, [], ◌∷◌, ◌++◌, Option}
+use Rattle.cx_role.proofs.Common.{◌≡◌, ◌≤◌, ◌+◌, ◌==◌, ◌&&◌, ◌||◌, not, ℕ, true, false, nat_le, nat_lt, Bool, length, List, [], ◌∷◌, ◌++◌}
+use Rattle.cx_role.proofs.Common.{Option}
 use Rattle.cx_role.proofs.Common.{None, Some, refl, arith, nat_tests, Cluster, RoleId, Round, same_role, Letter, Take, Entry, Msg, names}
 use Rattle.cx_role.proofs.Common.{is_in, is_above, Outcome, by_test, IsFit, is_member_of, same_round, greatest_watermark, live_entries}
 use Rattle.cx_role.proofs.Common.{rows_whole, Why, Asking, Asked, Batch, ReaderDurable, ReaderVolatile, acked_by, has_acked, is_matched}

@@ -1,5 +1,6 @@
 -- The next turn is in its range.
-use Rattle.cx_role.proofs.Common.{◌≡◌, ◌<◌, ◌≤◌, ◌+◌, ◌^◌, ◌&&◌, ◌||◌, ◌==◌, ℕ, true, nat_le, nat_lt, max, arith, nat_tests, fits, last_turn}
+use Rattle.cx_role.proofs.Common.{◌≡◌, ◌<◌, ◌≤◌, ◌+◌, ◌^◌, ◌&&◌, ◌||◌, ◌==◌, ℕ, true, nat_le, nat_lt, max, arith, nat_tests, fits}
+use Rattle.cx_role.proofs.Common.{last_turn}
 use Rattle.cx_role.proofs.Common.{refl, Cluster, RoleId, ReaderDurable, None, reader_rules, refused}
 use Rattle.cx_model.specs.Reader.{reader_renewed}
 use Rattle.cx_role.proofs.Common.kept

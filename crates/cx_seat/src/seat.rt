@@ -26,7 +26,7 @@ use cx_keeper::MemKeeper;
 use cx_leader::Leader;
 use cx_letter::{Datagram, Input};
 use cx_record::Recorder;
-use cx_role::{Outbox, Role, StepFault};
+use cx_role::{Outbox, Role, Snaps, StepFault};
 use cx_trace::put_told;
 use std::alloc::Global;
 use std::marker::Model;

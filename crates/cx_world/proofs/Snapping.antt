@@ -2,6 +2,10 @@
 use Rattle.cx_inv_run.proofs.Common.{◌∙◌, Option, ap, sym, subst, inl, inr, Kept, Snap, cut_turn, snap_turn}
 use Rattle.cx_role.specs.Prelude.{◌≡◌, ℕ, Bool, true, false, List, [], None, Some, Err, refl, Cluster, Cut, Whole, Torn, RoleId, Why}
 use Rattle.cx_role.specs.Prelude.{Letter, Written, list_with, Rules, Running, folded, refused, Renewal, Failed, KeepsDurable, snap_of}
+use Rattle.cx_role.proofs.Common.{◌&&◌, if◌then◌else◌, nat_lt, is_before, no_round, none-some, same_Some, true≢false, Kind, acceptor_rules}
+use Rattle.cx_role.proofs.Common.{reader_rules, replica_rules}
+use Rattle.cx_base.specs.Role.{puts_anew}
+use Rattle.cx_base.specs.declared.role.Kind.TheVariants as kind
 use Rattle.cx_base.specs.declared.why.Why.TheVariants as why
 use Rattle.cx_letter.specs.declared.input.Written.TheVariants as written
 use Rattle.cx_model.specs.Turn.{still}
@@ -91,7 +95,8 @@ module _ {S D V : Type 0} (rules : Rules D V) (says : SaysFirst rules) (state : 
   grown n list = list ∙ ap (λ d. rules.renewed d n) fold
 
   -- the change that it is
-  left : (n : ℕ) → snap_of rules (state s) ≡ Some n → new.last ≡ Some (written.Snap (first_slot_of (rules.renewed (state s).durable n))) → k ≡ Some (written.Snap n)
+  left : (n : ℕ) → snap_of rules (state s) ≡ Some n
+      → new.last ≡ Some (written.Snap (first_slot_of (rules.renewed (state s).durable n))) → k ≡ Some (written.Snap n)
   left n is last =
       told ∙ last ∙ ap (λ x. Some (written.Snap x)) (says (state s).cluster (state s).me (state s).durable (state s).volatile n is)
 
@@ -160,3 +165,30 @@ rests rules never state seat cut s is =
     rw (is, never seat.cluster seat.me (folded rules seat.records) v) refl in
     subst (λ t. IsTurned rules state t seat seat why.Idle None []) (sym turn)
     (record { why = refl; role = role; kept = refl; sends = refl; records = refl; cluster = refl; me = refl })
+
+-- of two that aren't both so
+pub both_off : (b p : Bool) → (b && p) ≡ false → b ≡ true → p ≡ true → ⊥
+both_off true true off first second = true≢false off
+both_off true false off first second = true≢false (sym second)
+both_off false p off first second = true≢false (sym first)
+
+-- ---- which kinds put their lists anew
+
+only_zero : (b : Bool) (first : ℕ) → (if b then Some 0 else None) ≡ Some first → 0 ≡ first
+only_zero true first is = same_Some 0 first is
+only_zero false first is = absurd (none-some first is)
+
+pub acceptor_says : SaysFirst acceptor_rules
+acceptor_says c me d v first is = only_zero (is_before no_round d.promise) first is
+
+pub reader_says : SaysFirst reader_rules
+reader_says c me d v first is = only_zero (nat_lt 0 d.turn) first is
+
+pub replica_says : SaysFirst replica_rules
+replica_says c me d v first is = refl
+
+pub other_kinds : (k : Kind) → (k ≡ kind.Acceptor → ⊥) → (k ≡ kind.Replica → ⊥) → (k ≡ kind.Reader → ⊥) → puts_anew k ≡ false
+other_kinds kind.Acceptor a p r = absurd (a refl)
+other_kinds kind.Replica a p r = absurd (p refl)
+other_kinds kind.Reader a p r = absurd (r refl)
+other_kinds other a p r = refl

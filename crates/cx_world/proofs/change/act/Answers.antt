@@ -1,6 +1,10 @@
+use Rattle.cx_role.proofs.Common.{ap}
+use Rattle.cx_base.specs.Role.{puts_anew}
+use Rattle.cx_world.specs.Seat.{is_snap}
 use Rattle.cx_world.specs.World.{lists_of}
 use Rattle.cx_world.proofs.ByKind.{batchers, leaders, proxies, acceptors, matchmakers, replicas, unbatchers, readers, replacers}
 use Rattle.cx_world.proofs.Seats.{kind_change}
+use Rattle.cx_world.proofs.Snapping.{both_off}
 use Rattle.cx_world.proofs.change.act.Goals as goal
 
 pub returns-in_ok-turned-in-Batcher : goal.returns-in_ok-turned-in-Batcher
@@ -67,3 +71,33 @@ returns-in_ok-turned-in-Replacer c =
     c.of_role-in-Replacer.result.why c.of_role-in-Replacer.result.who c.in_ok-turned-in-Replacer.turned.kept
     c.of_role-in-Replacer.result.kept c.act_at-in-Replacer.new.out.list c.of_role-in-Replacer.ensures.who c.of_role-in-Replacer.ensures.why
     c.of_role-in-Replacer.ensures.kept has c.in-Replacer.is c.act_at-in-Replacer.new.seats.items c.in_ok-turned-in-Replacer.ensures
+
+pub act_at-requires-clause-other : goal.act_at-requires-clause-other
+act_at-requires-clause-other c = λ snap d me durable v. refl
+
+pub act_at-requires-in-Leader-clause-other : goal.act_at-requires-in-Leader-clause-other
+act_at-requires-in-Leader-clause-other c = λ snap d me durable v. refl
+
+pub act_at-requires-in-Proxy-clause-other : goal.act_at-requires-in-Proxy-clause-other
+act_at-requires-in-Proxy-clause-other c = λ snap d me durable v. refl
+
+pub act_at-requires-in-Acceptor-clause-other : goal.act_at-requires-in-Acceptor-clause-other
+act_at-requires-in-Acceptor-clause-other c = λ snap.
+    absurd (both_off (is_snap c.args.act.now) (puts_anew c.args.who.kind) c.requires.other snap (ap puts_anew c.in-Acceptor.is))
+
+pub act_at-requires-in-Matchmaker-clause-other : goal.act_at-requires-in-Matchmaker-clause-other
+act_at-requires-in-Matchmaker-clause-other c = λ snap d me durable v. refl
+
+pub act_at-requires-in-Replica-clause-other : goal.act_at-requires-in-Replica-clause-other
+act_at-requires-in-Replica-clause-other c = λ snap.
+    absurd (both_off (is_snap c.args.act.now) (puts_anew c.args.who.kind) c.requires.other snap (ap puts_anew c.in-Replica.is))
+
+pub act_at-requires-in-Unbatcher-clause-other : goal.act_at-requires-in-Unbatcher-clause-other
+act_at-requires-in-Unbatcher-clause-other c = λ snap d me durable v. refl
+
+pub act_at-requires-in-Reader-clause-other : goal.act_at-requires-in-Reader-clause-other
+act_at-requires-in-Reader-clause-other c = λ snap.
+    absurd (both_off (is_snap c.args.act.now) (puts_anew c.args.who.kind) c.requires.other snap (ap puts_anew c.in-Reader.is))
+
+pub act_at-requires-in-Replacer-clause-other : goal.act_at-requires-in-Replacer-clause-other
+act_at-requires-in-Replacer-clause-other c = λ snap d me durable v. refl
