@@ -7,7 +7,7 @@ from headers import KINDS, Header, Role, Unusable, can_lose_any, enough_processe
 
 USUAL = {"f": 1, "leaders": 1, "proxies": 2, "acceptors": 4, "replicas": 3, "batchers": 2, "unbatchers": 2, "readers": 2, "clients": 16,
          "batch": 1, "base_port": 20000}
-LEFT_OUT = {"pool": 3, "replacers": 0}          # what it then has of these
+LEFT_OUT = {"pool": 3, "replacers": 0, "one_entry_a_grid": 0, "own_proxies": 0}          # what it then has of these
 
 
 def header(**numbers: int) -> Header:
@@ -42,6 +42,12 @@ class HeaderTest(unittest.TestCase):
         self.assertEqual([larger.count("match"), larger.matchmakers, larger.count("replacer")], [7, 3, 2])
         self.assertEqual(larger.port(Role("replacer", 1)), 20000 + 35 + 4 + 1)
         for numbers in ({"pool": 2}, {"pool": 65}, {"replacers": 5}, {"replacers": -1}):
+            with self.subTest(numbers=numbers), self.assertRaises(Unusable):
+                header(**numbers)
+
+    def test_choices(self) -> None:
+        self.assertEqual(header(one_entry_a_grid=1, own_proxies=1).numbers, USUAL | LEFT_OUT | {"one_entry_a_grid": 1, "own_proxies": 1})
+        for numbers in ({"one_entry_a_grid": 2}, {"one_entry_a_grid": -1}, {"own_proxies": 2}, {"own_proxies": 1, "leaders": 3}):
             with self.subTest(numbers=numbers), self.assertRaises(Unusable):
                 header(**numbers)
 

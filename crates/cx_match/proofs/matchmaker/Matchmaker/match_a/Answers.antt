@@ -45,7 +45,8 @@ returns g c =
       why = search rules;
       kept = search rules;
       state = search rules;
-      sends = one_told (entries_before c.args.round) _ _ _ _ _ _ _ _ _ _ _ c.self.invariant.who c.requires.sender c.in_ok-entries-2.ensures.earlier
+      sends = one_told (entries_before c.args.round) _ _ _ _ _ _ _ _ _ _ _ c.self.invariant.who c.requires.sender
+          c.in_ok-entries-2.ensures.earlier
           c.deref-4.ensures.value c.requires.empty c.in_ok-room-5.ensures.list c.push-2.ensures.list c.match_b-2.ensures;
     }) (search rules))
 
@@ -94,7 +95,8 @@ returns-then-has_entry g c =
       why = search rules;
       kept = search rules;
       state = search rules;
-      sends = one_told (again_told c.self.inside.cluster c.args.round) _ _ _ _ _ _ _ _ _ _ _ c.self.invariant.who c.requires.sender c.in_ok-entries.ensures.told
+      sends = one_told (again_told c.self.inside.cluster c.args.round) _ _ _ _ _ _ _ _ _ _ _ c.self.invariant.who c.requires.sender
+          c.in_ok-entries.ensures.told
           c.deref-then-has_entry.ensures.value c.requires.empty c.in_ok-room-3.ensures.list c.push-then-has_entry.ensures.list
           c.match_b.ensures;
     }) (search rules))
