@@ -35,7 +35,7 @@ from statuses import lines_by_status  # noqa: E402
 
 DATA = TOP / "crates/compax/data"
 BAD_WORDS, BAD_INPUT, LINK_FAILED, STORE_FAILED, NO_MEMORY = 2, 3, 6, 7, 9
-OPTIONAL = ("pool", "replacers")        # keys that a header may lack
+OPTIONAL = ("pool", "replacers", "one_entry_a_grid", "own_proxies")        # keys that a header may lack
 NODE_ROW = re.search(r"^\| `compax node .*", (TOP / "docs/INPUT.md").read_text(), re.MULTILINE)[0]
 OPTIONS = dict(re.findall(r"\[(--\w+)( \w)?\]", NODE_ROW))         # whether each takes a number
 VALUES = {"--turns": ("1", "10", "200"), "--tend": ("64", "65", "1024", "65536"), "--window": ("1", "2", "63", "64")}
@@ -55,6 +55,8 @@ def header(rng, port=None):
     for key, (low, high) in RANGES.items():
         values[key] = rng.randint(low, high if wide else min(high, low + rng.choice([0, 0, 1, 2, 3])))
     values["replicas"] = max(values["replicas"], values["f"] + 1)
+    if values["proxies"] % values["leaders"]:
+        values["own_proxies"] = 0
     values["pool"] = max(values["pool"], 2 * values["f"] + rng.choice([1, 2, 4]))
     for key in OPTIONAL:
         if rng.random() < 0.5:

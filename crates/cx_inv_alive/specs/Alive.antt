@@ -52,8 +52,8 @@ replica_store w p = durable_part replica_rules (role kind.Replica p) w.kept
 
 -- THE CONDITIONS, of stores alone: whatever else a role knows goes when it is opened again.
 
--- A matchmaker that hasn't stopped has room for a round over acceptor 0 alone: it has fewer than 16, or one of them with that grid, where the
--- cluster has one entry a grid.
+-- A matchmaker that hasn't stopped has room for a round over acceptor 0 alone: it has fewer than 16, or, where the cluster has one entry a
+-- grid, one of them with that grid.
 abbrev pub takes_a_round : Cluster → MatchmakerDurable → Bool
 takes_a_round c d = not (is_stopped d) && has_room c (make_grid 1 1 (0 ∷ [])) d.entries
 

@@ -1,10 +1,10 @@
 -- Entries in rising order.
 use Rattle.cx_role.proofs.Common.{◌≡◌, ◌≤◌, ◌<◌, ◌+◌, not, Bool, true, false, filter, List, [], ◌∷◌, length, refl, list_all, list_any}
-use Rattle.cx_role.proofs.Common.{arith, nat_tests, Round, Shape, is_before, same_round, Entry, by_test, entries_since, has_round}
+use Rattle.cx_role.proofs.Common.{arith, nat_tests, Cluster, Round, Shape, is_before, same_round, Entry, by_test, entries_since, has_round}
 use Rattle.cx_field.proofs.ListLaws.{entries_filter, entries_apart, entries_cons}
 use Rattle.cx_field.specs.Fields.{round, entries}
 use Rattle.cx_field.specs.Ranges.{entry_in_range}
-use Rattle.cx_model.specs.Matchmaker.{entry, greatest, with_own}
+use Rattle.cx_model.specs.Matchmaker.{entry, greatest, has_room, with_own}
 
 -- entries that a datagram may have are at most 255
 pub at_most_255 : (es : List Entry) → entries.fits es ≡ true → length es ≤ 255
@@ -62,6 +62,11 @@ pub some_later : (i : Round) (es : List Entry) → list_any (λ (e : Entry). is_
     → 0 < length es
 some_later i [] later = cc
 some_later i (e ∷ es) later = omega arith
+
+-- where there is no room there is an entry
+pub some_entry : (c : Cluster) (g : Shape) (es : List Entry) → has_room c g es ≡ false → 0 < length es
+some_entry c g [] full = cc
+some_entry c g (e ∷ es) full = omega arith
 
 -- entries none of which is later or of this round are all of earlier rounds
 pub all_before : (i : Round) (es : List Entry) → list_any (λ (e : Entry). is_before i e.round) es ≡ false

@@ -212,6 +212,3 @@ empty_sound me who = record {
   accepted = refl;
   next = refl;
 }
-
-pub has_space : (n : ℕ) → n < 16 → nat_le 16 n ≡ false
-has_space n h = grind (arith, nat_tests)

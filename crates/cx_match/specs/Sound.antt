@@ -10,8 +10,8 @@ matchmaker_durable w es booted ballot accepted next =
 
 -- It is a matchmaker, its retirement watermark is a round or none, and its entries are such as a datagram may have: at most 255, each in
 -- its ranges, in the rising order of their rounds. It began with at most 254 of them, and recorded others only while there were
--- fewer than 16, or fewer than 254 and in the place of another; one more may be of the retirement watermark's round. Its ballots are rounds or none, and it accepted a set exactly where
--- it has a ballot in which it did.
+-- fewer than 16, or fewer than 254 and in the place of another; one more may be of the retirement watermark's round. Its ballots are rounds
+-- or none, and it accepted a set exactly where it has a ballot in which it did.
 pub record IsSound (me : RoleId) (d : MatchmakerDurable) : Type 0 where
   pub who : me ≡ role Matchmaker me.index
   pub watermark : IsTrue (round0.fits d.watermark)
