@@ -5,7 +5,7 @@ use Rattle.cx_role.proofs.Common.{and_parts, nat_tests, Cluster, Value, RoleId, 
 use Rattle.cx_role.proofs.Common.{names_round, names_value, value, fits, vote_at, is_of_round, list_all, ◌||◌, sym, true≢false, bool_cases}
 use Rattle.cx_role.proofs.Common.{inl, inr, None, Some, none-some, refused}
 use Rattle.cx_role.proofs.Common.kept
-use Rattle.cx_role.proofs.Ranges.{max_fits, real_above, real_or_none}
+use Rattle.cx_role.proofs.Ranges.{max_fits, real_or_none}
 use Rattle.cx_wire.specs.Format.{u16, u32, u64}
 use Rattle.cx_field.specs.Fields.{mark, round0, slot, votes}
 use Rattle.cx_field.proofs.ListLaws.{votes_apart}
@@ -95,11 +95,6 @@ vote_tests a b c d e f h = grind (arith, nat_tests)
 water_tests : (a b c : Bool) → (a && b && c) ≡ true → a ≡ true
 water_tests a b c h = grind (arith, nat_tests)
 
--- the round of a watermark that was kept names a leader
-pub water_named : (c : Cluster) (d : AcceptorDurable) (i : Round) (cw : ℕ)
-    → (names_round c i && not (is_before i d.promise) && (is_before d.promise i || nat_lt d.cw cw)) ≡ true → names_round c i ≡ true
-water_named c d i cw takes = water_tests (names_round c i) (not (is_before i d.promise)) (is_before d.promise i || nat_lt d.cw cw) takes
-
 voted_tests : (a b c : Bool) → (a && b && c) ≡ true → (b ≡ true) × (c ≡ true)
 voted_tests a b c h = grind (arith, nat_tests)
 
@@ -144,7 +139,8 @@ after_sound c me d (kept.Vote i s cw v) sound fit takes =
     sound_vote c me d sound i p.0 tests.0 s cw v p.1 p.2 p.3 tests.1 tests.2 tests.3
 after_sound c me d (kept.Water i cw) sound fit takes =
     let a = and_parts (round.fits i) (mark.fits cw) fit in
-    sound_water c me d sound i a.0 (water_named c d i cw takes) cw a.1
+    let known = water_tests (names_round c i) (not (is_before i d.promise)) (is_before d.promise i || nat_lt d.cw cw) takes in
+    sound_water c me d sound i a.0 known cw a.1
 after_sound c me d (kept.Voted i top cw vs) sound fit takes =
     let tests = voted_tests (not (is_before no_round d.promise)) (names_round c i) (are_named c vs) takes in
     sound_voted c me i top cw vs sound.who fit tests.0 tests.1
@@ -160,12 +156,16 @@ pub vote_fits : (i : Round) (s cw : ℕ) (v : Value) → round.fits i ≡ true �
 unfolding kept_record
 vote_fits i s cw v real in_slots in_marks fit = rw (real, in_slots, in_marks, fit) refl
 
+real_above_none : (w : Round) → round0.fits w ≡ true → is_before no_round w ≡ true → round.fits w ≡ true
+unfolding round round0
+real_above_none w fit before = grind (arith, nat_tests)
+
 -- all that a sound acceptor's list leaves has a spelling, where it promised a round
 pub voted_fits : (c : Cluster) (me : RoleId) (d : AcceptorDurable) → IsSound c me d → is_before no_round d.promise ≡ true
     → (votes d.cw).fits d.votes ≡ true → fits (kept.Voted d.promise d.top d.cw d.votes) ≡ true
 unfolding kept_record
 voted_fits c me d sound promised told =
-    rw (real_above no_round d.promise refl sound.promise promised, sound.top, sound.cw, told) refl
+    rw (real_above_none d.promise sound.promise promised, sound.top, sound.cw, told) refl
 
 pub empty_sound : (c : Cluster) (me : RoleId) → me ≡ role Acceptor me.index
     → IsSound c me (record { promise = no_round; cw = 0; votes = []; top = 0 })

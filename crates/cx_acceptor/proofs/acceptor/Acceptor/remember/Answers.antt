@@ -1,6 +1,6 @@
 use Rattle.cx_role.proofs.Common.{arith}
 use Rattle.cx_role.proofs.Common.kept
-use Rattle.cx_acceptor.proofs.SoundLaws.{after_sound, slot_small, vote_parts, water_named}
+use Rattle.cx_acceptor.proofs.SoundLaws.{after_sound, slot_small, vote_parts}
 use Rattle.cx_acceptor.proofs.acceptor.Acceptor.remember.Goals as goal
 
 pub invariant_of-self : goal.invariant_of-self
@@ -33,14 +33,11 @@ invariant_of-self-in-Vote c =
     (after_sound self.inside.cluster self.inside.me _ (kept.Vote vote.round vote.slot vote.cw vote.value) self.invariant
     ranges own)
 
-pub raise-requires-clause-named : goal.raise-requires-clause-named
-raise-requires-clause-named c = water_named _ _ _ _ (rw c.in-Water.is at c.requires.own)
-
 pub invariant_of-self-in-Voted : goal.invariant_of-self-in-Voted
 invariant_of-self-in-Voted c =
     let self = c.self-in-Voted in
     let voted = c.in-Voted in
     let own = rw (← self.view_is, voted.is) at c.requires.own in
     let ranges = rw voted.is at c.requires.ranges in
-    rw (c.in_ok-copy_all.ensures, c.as_slice.ensures)
+    rw (c.in_ok-self-inside-in-Voted.ensures, c.as_slice.ensures.items)
     (after_sound self.inside.cluster self.inside.me _ (kept.Voted voted.round voted.top voted.cw voted.votes) self.invariant ranges own)

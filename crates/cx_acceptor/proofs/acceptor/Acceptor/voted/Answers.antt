@@ -1,5 +1,5 @@
 use Rattle.cx_acceptor.proofs.SoundLaws.{voted_fits}
-use Rattle.cx_acceptor.proofs.snap.Acceptor.voted.Goals as goal
+use Rattle.cx_acceptor.proofs.acceptor.Acceptor.voted.Goals as goal
 
 pub returns-clause-fits : goal.returns-clause-fits
 returns-clause-fits c =

@@ -1,5 +1,5 @@
 use Rattle.cx_reader.proofs.Turns.{renewable, turn_spelled}
-use Rattle.cx_reader.proofs.snap.Reader.has_turn.Goals as goal
+use Rattle.cx_reader.proofs.reader.Reader.has_turn.Goals as goal
 
 pub returns-clause-fits : goal.returns-clause-fits
 returns-clause-fits c =

@@ -1,5 +1,5 @@
 use Rattle.cx_acceptor.proofs.SoundLaws.{renewable}
-use Rattle.cx_acceptor.proofs.snap.Acceptor.has_promised.Goals as goal
+use Rattle.cx_acceptor.proofs.acceptor.Acceptor.has_promised.Goals as goal
 
 pub returns-clause-fits : goal.returns-clause-fits
 returns-clause-fits c =
