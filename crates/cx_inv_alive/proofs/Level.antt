@@ -23,7 +23,7 @@ use Rattle.cx_inv_alive.proofs.Moments.{Moment, Goes, Left}
 use Rattle.cx_inv_alive.proofs.Phase.{apart_below, less, less_test, phase_all}
 use Rattle.cx_inv_alive.proofs.Plans.{values_for, plan_of, end_is, plan_is, end_below, votes_such}
 use Rattle.cx_inv_alive.proofs.Serve.{not_before_itself, held_after, all_served, not_less}
-use Rattle.cx_model.specs.Matchmaker.{has_room}
+use Rattle.cx_model.specs.Matchmaker.{has_place}
 use Rattle.cx_inv_alive.proofs.Stages.{HasCounts, is_of, is_role, Apart, lead_round, begun_over, matching, goes_on_with, phasing}
 use Rattle.cx_inv_alive.proofs.Stages.{settled_at, IsHearing, Grown, CanMatch, match_answer_of, reported_by, MayHavePromised, MayVote}
 use Rattle.cx_inv_alive.proofs.Stages.{single_grid, proposed_over, with_values}
@@ -288,7 +288,7 @@ module _ (w : World) (h b : ℕ) (command : Command) (counts : HasCounts w.clust
   can_match m there =
       let f = Member-filter works m (first_set c) there in
       let d = matchmaker_store w m in
-      let parts = and_parts (not (is_stopped d)) (has_room c g d.entries) f.1 in
+      let parts = and_parts (not (is_stopped d)) (has_place c g d.entries) f.1 in
       record {
         member = booted c m d.booted (less_test m (2 * c.f + 1) (below-Member m (2 * c.f + 1) f.0));
         works = not_true (is_stopped d) parts.0;

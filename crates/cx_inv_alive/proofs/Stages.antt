@@ -8,7 +8,7 @@ use Rattle.cx_inv_run.proofs.Common.{Outcome, ReplicaDurable, replica_after}
 use Rattle.cx_base.specs.declared.role.Kind.TheVariants as kind
 use Rattle.cx_base.specs.Grid.{make_grid}
 use Rattle.cx_letter.specs.declared.kept.Record.TheVariants as kept
-use Rattle.cx_model.specs.Matchmaker.{has_room}
+use Rattle.cx_model.specs.Matchmaker.{has_place}
 
 -- a cluster has roles of each kind, f + 1 replicas and 2f + 1 matchmakers
 pub record HasCounts (c : Cluster) : Type 0 where
@@ -81,7 +81,7 @@ pub record Grown (c : Cluster) (most : ℕ) (v u : LeaderVolatile) : Type 0 wher
 pub record CanMatch (c : Cluster) (m r : ℕ) (g : Shape) (d : MatchmakerDurable) : Type 0 where
   pub member : is_booted c (role kind.Matchmaker m) d ≡ true
   pub works : is_stopped d ≡ false
-  pub room : has_room c g d.entries ≡ true
+  pub room : has_place c g d.entries ≡ true
   pub watermark : nat_lt d.watermark.r r ≡ true
   pub lower : list_all (λ (e : Entry). nat_lt e.round.r r) d.entries ≡ true
   pub named_watermark : names_round c d.watermark ≡ true

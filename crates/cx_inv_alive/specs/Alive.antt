@@ -9,7 +9,7 @@ use Rattle.cx_base.specs.declared.event.Event.TheVariants as event
 use Rattle.cx_base.specs.declared.role.Kind.TheVariants as kind
 use Rattle.cx_base.specs.Grid.{grid_fault, make_grid}
 use Rattle.cx_letter.specs.declared.message.Msg.TheVariants as msg
-use Rattle.cx_model.specs.Matchmaker.{has_room}
+use Rattle.cx_model.specs.Matchmaker.{has_place}
 
 -- the client's command was submitted to this batcher
 abbrev pub submitted : Command → ℕ → Letter
@@ -55,7 +55,7 @@ replica_store w p = durable_part replica_rules (role kind.Replica p) w.kept
 -- A matchmaker that hasn't stopped has room for a round over acceptor 0 alone: it has fewer than 16, or, where the cluster has one entry a
 -- grid, one of them with that grid.
 abbrev pub takes_a_round : Cluster → MatchmakerDurable → Bool
-takes_a_round c d = not (is_stopped d) && has_room c (make_grid 1 1 (0 ∷ [])) d.entries
+takes_a_round c d = not (is_stopped d) && has_place c (make_grid 1 1 (0 ∷ [])) d.entries
 
 -- each grid that one recorded has rows, of which a first phase asks; the program's type of a grid says so
 abbrev pub HasGrids : Cluster → World → Type 0

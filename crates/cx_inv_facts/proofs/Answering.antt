@@ -19,7 +19,7 @@ use Rattle.cx_base.specs.declared.why.Why.TheVariants as why
 use Rattle.cx_letter.specs.declared.input.Input.TheVariants as input
 use Rattle.cx_letter.specs.declared.kept.Record.TheVariants as kept
 use Rattle.cx_letter.specs.declared.message.Msg.TheVariants as msg
-use Rattle.cx_model.specs.Matchmaker.{again_told, has_room}
+use Rattle.cx_model.specs.Matchmaker.{again_told, has_place}
 use Rattle.cx_inv_vote.proofs.Steps.{facts_hold}
 use Rattle.cx_inv_facts.specs.Answers.{HasEntry, HasReached, AnswerSays, AnswersSay}
 
@@ -191,7 +191,7 @@ module _ (c : Cluster) (history : List KeptRecord) (sent : List Letter) (states 
       (by_test Answers (is_before i log.watermark) _ _ (λ t. one _ tt)
       (λ low. either_way Answers (list_any (λ (e : Entry). is_before i e.round) log.entries) _ _ (one _ tt)
       (either_way Answers (has_round i log.entries) _ _ (one _ (entry_again i low))
-      (either_way Answers (not (has_room c g log.entries)) _ _ (one _ tt) (one_more (kept.Match i g) _ (entry_before i low))))))
+      (either_way Answers (not (has_place c g log.entries)) _ _ (one _ tt) (one_more (kept.Match i g) _ (entry_before i low))))))
   matchmaker_told from (msg.GarbageA i g) =
       at_work_told (garbage_a_row matchmaker log from i g)
       (either_way Answers (is_before log.watermark i) _ _ (one_more (kept.Garbage i g) _ tt) (one _ tt))

@@ -11,7 +11,7 @@ use Rattle.cx_base.specs.declared.role.Kind.TheVariants as kind
 use Rattle.cx_letter.specs.declared.input.Input.TheVariants as input
 use Rattle.cx_letter.specs.declared.message.Msg.TheVariants as msg
 use Rattle.cx_model.specs.Names.{names_ballot}
-use Rattle.cx_model.specs.Matchmaker.{has_room}
+use Rattle.cx_model.specs.Matchmaker.{has_place}
 use Rattle.cx_inv_open.specs.Fits.{Fitting}
 use Rattle.cx_inv_open.proofs.Keep.{calm_in, new_fits, lands}
 
@@ -50,8 +50,8 @@ module _ (c : Cluster) (me : RoleId) (d : MatchmakerDurable) where
       by_test Fine (is_before i d.watermark) _ _ (λ t. tt)
       (λ high. by_test Fine (list_any (λ (e : Entry). is_before i e.round) d.entries) _ _ (λ t. tt)
       (λ last. by_test Fine (has_round i d.entries) _ _ (λ t. tt)
-      (λ new. by_test Fine (not (has_room c g d.entries)) _ _ (λ t. tt)
-      (λ room. (rw (booted, works, round, grid, high, all_before i d.entries last new, not_from (has_room c g d.entries) room) refl,
+      (λ new. by_test Fine (not (has_place c g d.entries)) _ _ (λ t. tt)
+      (λ room. (rw (booted, works, round, grid, high, all_before i d.entries last new, not_from (has_place c g d.entries) room) refl,
           refl)))))
 
   boots_fine : (from : RoleId) (s : List ℕ) (w : Round) (es : List Entry) → is_in me.index s ≡ true → names_set c s ≡ true

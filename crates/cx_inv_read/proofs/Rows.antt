@@ -20,7 +20,7 @@ use Rattle.cx_base.specs.declared.why.Why.TheVariants.{Stopped}
 use Rattle.cx_letter.specs.declared.input.Input.TheVariants as input
 use Rattle.cx_letter.specs.declared.message.Msg.TheVariants as msg
 use Rattle.cx_model.specs.Reader.{Batch, finish}
-use Rattle.cx_model.specs.Matchmaker.{has_room}
+use Rattle.cx_model.specs.Matchmaker.{has_place}
 
 -- a message that is of no read
 abbrev pub IsPlain : Msg → Type 0
@@ -99,7 +99,7 @@ module _ (P : Letter → Type 0) (c : Cluster) (me : RoleId) (plain : (to : Role
       (λ b f. either_way MatchmakerTells (is_before i d.watermark) _ _ (matchmaker_one _ _ tt)
       (either_way MatchmakerTells (list_any (λ (e : Entry). is_before i e.round) d.entries) _ _ (matchmaker_one _ _ tt)
       (either_way MatchmakerTells (has_round i d.entries) _ _ (matchmaker_one _ _ tt)
-      (either_way MatchmakerTells (not (has_room c g d.entries)) _ _ (matchmaker_one _ _ tt) (matchmaker_one _ _ tt)))))
+      (either_way MatchmakerTells (not (has_place c g d.entries)) _ _ (matchmaker_one _ _ tt) (matchmaker_one _ _ tt)))))
   matchmaker_tells (msg.GarbageA i g) ack =
       at_work_tells (garbage_a_row me d from i g) (λ b f. either_way MatchmakerTells (is_before d.watermark i) _ _ (matchmaker_one _ _ tt)
           (matchmaker_one _ _ tt))

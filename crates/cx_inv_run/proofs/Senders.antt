@@ -23,7 +23,7 @@ use Rattle.cx_model.specs.declared.states.Deferred.{Deferred}
 use Rattle.cx_model.specs.declared.states.Pending.{Pending}
 use Rattle.cx_model.specs.Outcome.{either_way}
 use Rattle.cx_model.specs.Reader.{matched as batch_matched}
-use Rattle.cx_model.specs.Matchmaker.{has_room}
+use Rattle.cx_model.specs.Matchmaker.{has_place}
 use Rattle.cx_inv_run.specs.Kinds.{IsSender, IsKeeper, OfKind}
 use Rattle.cx_inv_run.proofs.Members.{Member-both, Member-map, Member-one}
 
@@ -101,7 +101,7 @@ module _ (c : Cluster) (me : RoleId) (is : me.kind ≡ kind.Matchmaker) (d : Mat
       worker _ (pick me (is_before i d.watermark) _ _ (replying me _ tt _ (one me _ _ is))
       (pick me (list_any (λ (e : Entry). is_before i e.round) d.entries) _ _ (replying me _ tt _ (one me _ _ is))
       (pick me (has_round i d.entries) _ _ (replying me _ tt _ (one me _ _ is))
-      (pick me (not (has_room c g d.entries)) _ _ (replying me _ tt _ (one me _ _ is)) (keeping me _ _ tt _ is (one me _ _ is))))))
+      (pick me (not (has_place c g d.entries)) _ _ (replying me _ tt _ (one me _ _ is)) (keeping me _ _ tt _ is (one me _ _ is))))))
   matchmaker_took from (msg.GarbageA i g) =
       worker _ (pick me (is_before d.watermark i) _ _ (keeping me _ _ tt _ is (one me _ _ is)) (replying me _ tt _ (one me _ _ is)))
   matchmaker_took from (msg.MatchRead t) = worker _ (replying me _ tt _ (one me _ _ is))

@@ -20,7 +20,7 @@ use Rattle.cx_model.specs.declared.states.Replacing.TheVariants.{Idle}
 use Rattle.cx_model.specs.Matchmaker.{boot_a_row}
 use Rattle.cx_model.specs.Replacer.{stop_a_to, next_a_to, boot_a_to, sets_to, others, sets_to_all, begin_in, stop_b_row, next_b_row}
 use Rattle.cx_model.specs.Replacer.{boot_b_row, with_seen, stop_nack_row, sets_row, tick_in}
-use Rattle.cx_model.specs.Matchmaker.{has_room}
+use Rattle.cx_model.specs.Matchmaker.{has_place}
 use Rattle.cx_inv_vote.proofs.Leading.{each}
 
 -- nobody is asked to begin by these
@@ -220,7 +220,7 @@ module _ (c : Cluster) (me : RoleId) (d : MatchmakerDurable) (m : Msg) where
       (λ k t w es e. cc)
       (λ k. by_test WasAsked (has_round i d.entries) _ _
       (λ k t w es e. cc)
-      (λ k. by_test WasAsked (not (has_room c g d.entries)) _ _
+      (λ k. by_test WasAsked (not (has_place c g d.entries)) _ _
       (λ k t w es e. cc)
       (λ k t w es e. cc))))
 

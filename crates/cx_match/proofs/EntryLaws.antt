@@ -4,7 +4,7 @@ use Rattle.cx_role.proofs.Common.{arith, nat_tests, Cluster, Round, Shape, is_be
 use Rattle.cx_field.proofs.ListLaws.{entries_filter, entries_apart, entries_cons}
 use Rattle.cx_field.specs.Fields.{round, entries}
 use Rattle.cx_field.specs.Ranges.{entry_in_range}
-use Rattle.cx_model.specs.Matchmaker.{entry, greatest, has_room, with_own}
+use Rattle.cx_model.specs.Matchmaker.{entry, greatest, has_place, with_own}
 
 -- entries that a datagram may have are at most 255
 pub at_most_255 : (es : List Entry) → entries.fits es ≡ true → length es ≤ 255
@@ -64,7 +64,7 @@ some_later i [] later = cc
 some_later i (e ∷ es) later = omega arith
 
 -- where there is no room there is an entry
-pub some_entry : (c : Cluster) (g : Shape) (es : List Entry) → has_room c g es ≡ false → 0 < length es
+pub some_entry : (c : Cluster) (g : Shape) (es : List Entry) → has_place c g es ≡ false → 0 < length es
 some_entry c g [] full = cc
 some_entry c g (e ∷ es) full = omega arith
 

@@ -6,7 +6,7 @@ use Rattle.cx_model.specs.Names.{names_ballot, names_body, names_entry, names_gr
 use Rattle.cx_role.proofs.Common.msg
 use Rattle.cx_role.proofs.Named.{body_named}
 use Rattle.cx_model.specs.Matchmaker.{MatchmakerDurable, matchmaker_row, matchmaker_takes, at_work, in_set, is_booted, is_stopped, set_of}
-use Rattle.cx_model.specs.Matchmaker.{has_room, garbage_a_row, match_a_row, stop_a_row, next_a_row, boot_in, boot_a_row}
+use Rattle.cx_model.specs.Matchmaker.{has_place, garbage_a_row, match_a_row, stop_a_row, next_a_row, boot_in, boot_a_row}
 use Rattle.cx_match.proofs.EntryLaws.{all_before, behind}
 
 abbrev Fits : Cluster → RoleId → MatchmakerDurable → Outcome (Unit {0}) → Type 0
@@ -31,8 +31,8 @@ module _ (c : Cluster) (me : RoleId) (d : MatchmakerDurable) (from : RoleId) whe
       by_test (Fits c me d) (is_before i d.watermark) _ _ (λ _. tt) (λ high.
       by_test (Fits c me d) (list_any (λ (e : Entry). is_before i e.round) d.entries) _ _ (λ _. tt) (λ last.
       by_test (Fits c me d) (has_round i d.entries) _ _ (λ _. tt) (λ new.
-      by_test (Fits c me d) (not (has_room c g d.entries)) _ _ (λ _. tt) (λ space.
-      (rw (booted, working, named, members, high, all_before i d.entries last new, there_is (has_room c g d.entries) space) refl, refl)))))
+      by_test (Fits c me d) (not (has_place c g d.entries)) _ _ (λ _. tt) (λ space.
+      (rw (booted, working, named, members, high, all_before i d.entries last new, there_is (has_place c g d.entries) space) refl, refl)))))
 
   garbage_a_fit : (i : Round) (g : Shape) → names_round c i ≡ true → names_grid c g ≡ true
       → is_booted c me d ≡ true → is_stopped d ≡ false → Fits c me d (garbage_a_row me d from i g)

@@ -13,7 +13,7 @@ use Rattle.cx_model.specs.Matchmaker.{matchmaker_after, matchmaker_fits, entry}
 use Rattle.cx_field.proofs.ListLaws.{entries_filter}
 use Rattle.cx_field.proofs.Rising.{list_all-filter}
 use Rattle.cx_role.proofs.Common.{by_test}
-use Rattle.cx_model.specs.Matchmaker.{has_room, has_grid, same_grid, without_grid, beside}
+use Rattle.cx_model.specs.Matchmaker.{has_place, has_grid, same_grid, without_grid, beside}
 use Rattle.cx_match.specs.Sound.{IsSound, matchmaker_durable}
 use Rattle.cx_match.proofs.EntryLaws.{at_most_255, with_own_fits, own_round, from_fewer, filter_fewer}
 
@@ -47,7 +47,7 @@ module _ (me : RoleId) (d : MatchmakerDurable) (i : Round) (g : Shape) (sound : 
           (without_grid d.watermark g d.entries)
       (λ t. before) (λ f. list_all-filter stays (λ (e : Entry). is_before e.round i) d.entries before)
 
-  beside_few : (c : Cluster) → has_room c g d.entries ≡ true → length (beside d.watermark g d.entries) < 254
+  beside_few : (c : Cluster) → has_place c g d.entries ≡ true → length (beside d.watermark g d.entries) < 254
   beside_few c space =
       by_test (λ (xs : List Entry). length xs < 254) (nat_lt (length d.entries) 16) d.entries (without_grid d.watermark g d.entries)
       (λ t. let l = is_below (length d.entries) 16 t in omega arith)
@@ -56,7 +56,7 @@ module _ (me : RoleId) (d : MatchmakerDurable) (i : Round) (g : Shape) (sound : 
           (nat_lt (length d.entries) 254) f space) in
       omega arith)
 
-  pub sound_match : list_all (λ (e : Entry). is_before e.round i) d.entries ≡ true → (c : Cluster) → has_room c g d.entries ≡ true
+  pub sound_match : list_all (λ (e : Entry). is_before e.round i) d.entries ≡ true → (c : Cluster) → has_place c g d.entries ≡ true
       → IsSound me (matchmaker_after d (kept.Match i g))
   sound_match before c space =
       let one : List Entry = entry i g ∷ [] in
@@ -161,7 +161,7 @@ pub after_sound : (c : Cluster) (me : RoleId) (d : MatchmakerDurable) (r : Recor
 unfolding kept_record
 after_sound c me d (kept.Match i g) sound fit takes =
     let a = and_parts (round.fits i) (grid.fits g) fit in
-    let t = last_two _ (list_all (λ (e : Entry). is_before e.round i) d.entries) (has_room c g d.entries) takes in
+    let t = last_two _ (list_all (λ (e : Entry). is_before e.round i) d.entries) (has_place c g d.entries) takes in
     sound_match me d i g sound a.0 a.1 t.0 c t.1
 after_sound c me d (kept.Garbage i g) sound fit takes =
     let a = and_parts (round.fits i) (grid.fits g) fit in

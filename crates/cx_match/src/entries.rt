@@ -2,7 +2,7 @@
 
 ghost use Rattle.std.specs.Prelude.{◌≡◌, ◌<◌, ◌≤◌};
 ghost use Rattle.cx_role.specs.Prelude.{vec_len, vec_capacity, IfOk, IsTrue, list_all, list_any, is_before, Entry};
-ghost use Rattle.cx_model.specs.Matchmaker.{again_told, beside, entries_before, entries_since, greatest, has_grid, has_room, has_round, same_grid, with_own};
+ghost use Rattle.cx_model.specs.Matchmaker.{again_told, beside, entries_before, entries_since, greatest, has_grid, has_place, has_round, same_grid, with_own};
 ghost use Rattle.cx_field.specs.Fields as field;
 
 use cx_base::{Cluster, Few, Grid, JOINED, NoMemory, ROUNDS, Round, copy_all};
@@ -70,8 +70,8 @@ fn has_grid(entries: &[Entry], grid: &Grid) -> bool
 
 /// Whether a round with this grid can be recorded: fewer than 16 are, or the cluster has one entry a grid, and the round can
 /// take the place of one with its grid (this project's own).
-pub fn has_room(cluster: &Cluster, grid: &Grid, entries: &[Entry]) -> bool
-    ensures { result ≡ has_room cluster.now grid.now entries.now }
+pub fn has_place(cluster: &Cluster, grid: &Grid, entries: &[Entry]) -> bool
+    ensures { result ≡ has_place cluster.now grid.now entries.now }
 {
     entries.len() < ROUNDS
         || (cluster.one_entry_a_grid && has_grid(entries, grid) && entries.len() < JOINED)

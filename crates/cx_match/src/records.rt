@@ -7,7 +7,7 @@ ghost use Rattle.cx_letter.specs.Records.{fits as record_fits};
 ghost use Rattle.cx_role.specs.Role.{Refuses};
 
 use crate::Matchmaker;
-use crate::entries::{are_before, has_room, make_room, retire};
+use crate::entries::{are_before, has_place, make_room, retire};
 use cx_base::{NoMemory, copy_all};
 use cx_field::Entry;
 use cx_keep::Keeper;
@@ -42,7 +42,7 @@ impl Matchmaker {
                     && names_grid(&self.cluster, grid)
                     && !round.is_before(&self.watermark)
                     && are_before(&self.entries, *round)
-                    && has_room(&self.cluster, grid, &self.entries)
+                    && has_place(&self.cluster, grid, &self.entries)
             }
             Record::Garbage { round, grid } => {
                 self.is_at_work()

@@ -7,7 +7,7 @@ ghost use Rattle.cx_field.specs.Fields as field;
 
 use crate::Matchmaker;
 use crate::entries::{
-    all_entries, earlier_entries, entries_again, has_entry, has_later, has_room, last_round, make_room,
+    all_entries, earlier_entries, entries_again, has_entry, has_later, has_place, last_round, make_room,
     retire,
 };
 use crate::records::keep_own;
@@ -60,7 +60,7 @@ impl Matchmaker {
             out.push(match_b(self.me.index, from.index, round, self.watermark, entries));
             return Ok(Why::Same);
         }
-        if !has_room(&self.cluster, &grid, &self.entries) {
+        if !has_place(&self.cluster, &grid, &self.entries) {
             let last = last_round(&self.entries);
             out.room(1)?;
             out.push(match_nack(self.me.index, from.index, round, NackReason::Full, last));

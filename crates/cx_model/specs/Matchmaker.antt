@@ -85,8 +85,8 @@ beside w g es = if nat_lt (length es) 16 then es else without_grid w g es
 
 -- Whether there is room for a round with this grid: there are fewer than 16 entries; or, where the cluster has one entry a grid, it can
 -- take the place of one. After a replacement there may be up to 254: fewer leave room for one more, and for that of a retirement.
-abbrev pub has_room : Cluster → Shape → List Entry → Bool
-has_room c g es = nat_lt (length es) 16 || (c.one_entry_a_grid && has_grid g es && nat_lt (length es) 254)
+abbrev pub has_place : Cluster → Shape → List Entry → Bool
+has_place c g es = nat_lt (length es) 16 || (c.one_entry_a_grid && has_grid g es && nat_lt (length es) 254)
 
 abbrev pub matchmaker_after : MatchmakerDurable → Record → MatchmakerDurable
 matchmaker_after d (kept.Match i g) = record d { entries = beside d.watermark g d.entries ++ entry i g ∷ [] }
@@ -100,7 +100,7 @@ matchmaker_after d other = d
 abbrev pub matchmaker_fits : Cluster → RoleId → MatchmakerDurable → Record → Bool
 matchmaker_fits c me d (kept.Match i g) =
     is_booted c me d && not (is_stopped d) && names_round c i && names_grid c g && not (is_before i d.watermark)
-    && list_all (λ (e : Entry). is_before e.round i) d.entries && has_room c g d.entries
+    && list_all (λ (e : Entry). is_before e.round i) d.entries && has_place c g d.entries
 matchmaker_fits c me d (kept.Garbage i g) =
     is_booted c me d && not (is_stopped d) && names_round c i && names_grid c g && is_before d.watermark i
 matchmaker_fits c me d (kept.Stop b) = is_booted c me d && names_ballot c b && is_before d.ballot b
@@ -131,7 +131,7 @@ match_a_row c me d from i g =
     else if list_any (λ (e : Entry). is_before i e.round) d.entries
     then replied Later tt (match_nack_to me from i nack.Later (greatest d.entries) ∷ [])
     else if has_round i d.entries then replied Same tt (match_again_to c me from i d ∷ [])
-    else if not (has_room c g d.entries) then replied Full tt (match_nack_to me from i nack.Full (greatest d.entries) ∷ [])
+    else if not (has_place c g d.entries) then replied Full tt (match_nack_to me from i nack.Full (greatest d.entries) ∷ [])
     else record { why = Matched; kept = Some (kept.Match i g); volatile = tt; sends = match_b_to me from i d ∷ [] }
 
 abbrev pub garbage_b_to : RoleId → RoleId → Round → Letter

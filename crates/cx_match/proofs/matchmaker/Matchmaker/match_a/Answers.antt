@@ -16,10 +16,10 @@ match_nack-requires-then-has_later-clause-other g c =
     rw (c.last_round-last.ensures, c.deref-then-has_later.ensures.value)
     (greatest_fits c.self.inside.entries.items (some_later c.args.round c.self.inside.entries.items later) c.self.invariant.entries)
 
-pub match_nack-requires-then-not-has_room-clause-other : goal.match_nack-requires-then-not-has_room-clause-other
-match_nack-requires-then-not-has_room-clause-other g c =
-    let full = rw (c.has_room.ensures, c.deref-3.ensures.value) at c.if-not-has_room.true in
-    rw (c.last_round-last-then-not-has_room.ensures, c.deref-then-not-has_room.ensures.value)
+pub match_nack-requires-then-not-has_place-clause-other : goal.match_nack-requires-then-not-has_place-clause-other
+match_nack-requires-then-not-has_place-clause-other g c =
+    let full = rw (c.has_place.ensures, c.deref-3.ensures.value) at c.if-not-has_place.true in
+    rw (c.last_round-last-then-not-has_place.ensures, c.deref-then-not-has_place.ensures.value)
     (greatest_fits c.self.inside.entries.items (some_entry c.self.inside.cluster c.args.grid c.self.inside.entries.items full)
     c.self.invariant.entries)
 
@@ -30,7 +30,7 @@ pub invariant_of-self-2 : goal.invariant_of-self-2
 invariant_of-self-2 g c =
     let last = rw (c.has_later.ensures, c.deref.ensures.value) at c.if-has_later.false in
     let new = rw (c.has_entry.ensures, c.deref-2.ensures.value) at c.if-has_entry.false in
-    let space = rw (c.has_room.ensures, c.deref-3.ensures.value) at c.if-not-has_room.false in
+    let space = rw (c.has_place.ensures, c.deref-3.ensures.value) at c.if-not-has_place.false in
     let sound = sound_match c.self.inside.me _ c.args.round c.args.grid c.self.invariant c.requires.round c.requires.grid
     (all_before c.args.round c.self.inside.entries.items last new) c.self.inside.cluster space in
     rw (c.push_reserved.ensures.items, c.make_room.ensures.items, c.reserve.ensures.items) sound
@@ -40,7 +40,7 @@ returns g c =
     let high = rw c.is_before.ensures at c.if-is_before.false in
     let last = rw (c.has_later.ensures, c.deref.ensures.value) at c.if-has_later.false in
     let new = rw (c.has_entry.ensures, c.deref-2.ensures.value) at c.if-has_entry.false in
-    let space = rw (c.has_room.ensures, c.deref-3.ensures.value) at c.if-not-has_room.false in
+    let space = rw (c.has_place.ensures, c.deref-3.ensures.value) at c.if-not-has_place.false in
     rw (← c.self.view_is, high, last, new, space) (done (record {
       why = search rules;
       kept = search rules;
@@ -55,7 +55,7 @@ returns-in_err-keep_own g c =
     let high = rw c.is_before.ensures at c.if-is_before.false in
     let last = rw (c.has_later.ensures, c.deref.ensures.value) at c.if-has_later.false in
     let new = rw (c.has_entry.ensures, c.deref-2.ensures.value) at c.if-has_entry.false in
-    let space = rw (c.has_room.ensures, c.deref-3.ensures.value) at c.if-not-has_room.false in
+    let space = rw (c.has_place.ensures, c.deref-3.ensures.value) at c.if-not-has_place.false in
     let p = err_from_is_err_and c.from_residual-in_err-keep_own.result c.from_residual-in_err-keep_own.ensures.1 in
     rw (← c.self.view_is, high, last, new, space) (record {
       ok = search rules;
@@ -70,12 +70,12 @@ returns-in_err-keep_own g c =
       keeps = search rules;
     })
 
-pub returns-then-not-has_room : goal.returns-then-not-has_room
-returns-then-not-has_room g c =
+pub returns-then-not-has_place : goal.returns-then-not-has_place
+returns-then-not-has_place g c =
     let high = rw c.is_before.ensures at c.if-is_before.false in
     let last = rw (c.has_later.ensures, c.deref.ensures.value) at c.if-has_later.false in
     let new = rw (c.has_entry.ensures, c.deref-2.ensures.value) at c.if-has_entry.false in
-    let full = rw (c.has_room.ensures, c.deref-3.ensures.value) at c.if-not-has_room.true in
+    let full = rw (c.has_place.ensures, c.deref-3.ensures.value) at c.if-not-has_place.true in
     rw (← c.self.view_is, high, last, new, full)
     (done (record { why = search rules; kept = search rules; state = search rules; sends = search rules }) (search rules))
 
