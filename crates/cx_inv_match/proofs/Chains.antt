@@ -188,13 +188,27 @@ module _ (c : Cluster) (history : List KeptRecord) (sent : List Letter) (facts :
   boot_told k = tells_boot k (λ w es. IsTold k w es) base on
     where
       base : (s : List ℕ) (w : Round) (es : List Entry) → IsNth c history k s → IsJoin c history s w es → IsTold k w es
-      base s w es h join = record { set = s; nth = h; who = join.who; most = join.most; stopped = join.stopped; told = λ m t j g x.
-          joins_told s w es join m t j g x }
+      base s w es h join = record {
+        set = s;
+        nth = h;
+        who = join.who;
+        most = join.most;
+        stopped = join.stopped;
+        told = λ m t j g x.
+            joins_told s w es join m t j g x;
+      }
 
       on : (s : List ℕ) (w : Round) (es : List Entry) (join : IsJoin c history s w es) (m : ℕ) → join.who m ≡ true
           → (t : List ℕ) (v : Round) (xs : List Entry) → HasBoot history (role kind.Matchmaker m) t v xs → IsTold k v xs → IsTold k w es
-      on s w es join m t b v xs x h = record { set = h.set; nth = h.nth; who = h.who; most = h.most; stopped = h.stopped; told =
-          λ o p j g y. go j g (h.told o p j g y) }
+      on s w es join m t b v xs x h = record {
+        set = h.set;
+        nth = h.nth;
+        who = h.who;
+        most = h.most;
+        stopped = h.stopped;
+        told =
+            λ o p j g y. go j g (h.told o p j g y);
+      }
         where
           go : (j : Round) (g : Shape) → (is_before j v ≡ true) ⊎ IsGridTold c j g xs → (is_before j w ≡ true) ⊎ IsGridTold c j g es
           go j g (inl l) = inl (before-to_at_least j v w l (join.boots m t b v xs x))
@@ -235,7 +249,7 @@ module _ (c : Cluster) (history : List KeptRecord) (sent : List Letter) (facts :
             (subst (λ q. c.f < how_many q may.who) (sym e) may.most) in
             ⊎_elim
             (λ r. ⊎_elim inl (λ k. inr (r.0, (k, (role kind.Matchmaker x.0, r.1))))
-                (told_or_below s w es join x.0 x.2 j r.0 (taken_round (role kind.Matchmaker x.0) r.0 r.1)))
+            (told_or_below s w es join x.0 x.2 j r.0 (taken_round (role kind.Matchmaker x.0) r.0 r.1)))
             (λ can. absurd (can.1 (join.stopped x.0 x.2)))
             (may.each x.0 x.3)
 

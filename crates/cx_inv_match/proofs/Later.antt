@@ -104,9 +104,13 @@ module _ (c : Cluster) (past history : List KeptRecord) (passed sent : List Lett
             → ((e : Entry) → Member e xs → is_before e.round (tells m t).0 ≡ false → IsGridTold c e.round e.grid (tells m t).1)
             → (is_before j v ≡ true) ⊎ ((g : Shape) × (IsGridTold c j g xs × ((o : RoleId) × HasTaken history o j g))) → Told
         covers m t u v xs low all (inl l) = (m, t, inl (before-to_at_least j v (tells m t).0 l low))
-        covers m t u v xs low all (inr y) = unless_below m t (λ l.
-            (y.0, (covers_on c j y.0 xs (tells m t).1 y.1.0 (all y.1.0.0 y.1.0.1 (at_most-trans (tells m t).0 j y.1.0.0.round l y.1.0.3)),
-                y.1.1)))
+        covers m t u v xs low all (inr y) = unless_below m t (λ l. (
+          y.0,
+          (
+            covers_on c j y.0 xs (tells m t).1 y.1.0 (all y.1.0.0 y.1.0.1 (at_most-trans (tells m t).0 j y.1.0.0.round l y.1.0.3)),
+            y.1.1,
+          ),
+        ))
 
         later : (i : ℕ) → i ≡ k → matched.known.0 < i → Told
         later zero e l = absurd (omega arith)
@@ -137,8 +141,13 @@ module _ (c : Cluster) (past history : List KeptRecord) (passed sent : List Lett
             let x = most_meet c s matched.who who (nth_length c history sent facts k s nth)
             (subst (λ z. c.f < how_many z matched.who) same matched.most) most in
             let r = matched.each x.0 x.2 in
-            unless_below x.0 x.3 (λ l. (r.0, ((tells x.0 x.3).2.all j r.0 l (had (role kind.Matchmaker x.0) r.0 r.1),
-                (role kind.Matchmaker x.0, grown_taken (role kind.Matchmaker x.0) r.0 r.1))))
+            unless_below x.0 x.3 (λ l. (
+              r.0,
+              (
+                (tells x.0 x.3).2.all j r.0 l (had (role kind.Matchmaker x.0) r.0 r.1),
+                (role kind.Matchmaker x.0, grown_taken (role kind.Matchmaker x.0) r.0 r.1),
+              ),
+            ))
 
   -- WHAT A LEADER OF A NEWER ROUND COUNTS
   -- a member of a set forgot the rounds below this one, or began with a watermark that isn't below it

@@ -73,14 +73,14 @@ module _ (c : Cluster) (history : List KeptRecord) (sent : List Letter) (states 
           (match_had j h x);
       only = λ e m. ⊎_elim
           (λ o. ⊎_elim (λ y. inl (grown_round c history sent (entry_by me (kept.Match i g) ∷ history) sent grows_match me e.round e.grid y))
-              (λ y. inr (inr y)) ((facts.logs me).only e (beside-member (durable_of matchmaker_rules me history) g e o)))
+          (λ y. inr (inr y)) ((facts.logs me).only e (beside-member (durable_of matchmaker_rules me history) g e o)))
           (λ n. ⊎_elim (λ q. inl (inl (inl (ap (λ (y : Entry). entry_by me (kept.Match y.round y.grid)) q)))) (λ z. absurd z) n)
           (Member-cases e standing (entry i g ∷ []) m);
       from_watermark = λ e m. ⊎_elim
           (λ o. (facts.logs me).from_watermark e (beside-member (durable_of matchmaker_rules me history) g e o))
           (λ n. ⊎_elim
           (λ q. subst (λ (y : Entry). is_before y.round (durable_of matchmaker_rules me history).watermark ≡ false) (sym q) at_watermark)
-              (λ z. absurd z) n)
+          (λ z. absurd z) n)
           (Member-cases e standing (entry i g ∷ []) m);
       bound = λ j h x. (facts.logs me).bound j h (old_garbages me (kept.Match i g) history no me j h x);
       boots = λ s w es x. (facts.logs me).boots s w es (old_boots me (kept.Match i g) history no me s w es x);
@@ -102,10 +102,16 @@ module _ (c : Cluster) (history : List KeptRecord) (sent : List Letter) (states 
         more_entries : IsWatermark (entry_by me (kept.Match i g) ∷ history) (durable_of matchmaker_rules me history).watermark
             (durable_of matchmaker_rules me history).entries
             → IsWatermark (entry_by me (kept.Match i g) ∷ history) (durable_of matchmaker_rules me history).watermark
-                (standing ++ entry i g ∷ [])
+            (standing ++ entry i g ∷ [])
         more_entries (inl e) = inl e
-        more_entries (inr x) = inr (x.0, (x.1.0, Member-first _ standing (entry i g ∷ [])
-            (beside-water (durable_of matchmaker_rules me history) g x.1.0 x.1.1)))
+        more_entries (inr x) = inr (
+          x.0,
+          (
+            x.1.0,
+            Member-first _ standing (entry i g ∷ [])
+                (beside-water (durable_of matchmaker_rules me history) g x.1.0 x.1.1),
+          ),
+        )
 
     match_sets : SetFacts c (entry_by me (kept.Match i g) ∷ history)
     match_sets = grown_sets c history sent (entry_by me (kept.Match i g) ∷ history) sent grows_match facts.sets
@@ -187,7 +193,7 @@ module _ (c : Cluster) (history : List KeptRecord) (sent : List Letter) (states 
           let above = before-to_at_least (durable_of matchmaker_rules me history).watermark i j raises l in
           let y : IsGridTold c j h (durable_of matchmaker_rules me history).entries =
           (facts.logs me).all j h (before-not (durable_of matchmaker_rules me history).watermark j above)
-              (old_had me (kept.Garbage i g) history no no me j h x) in (
+          (old_had me (kept.Garbage i g) history no no me j h x) in (
             y.0,
             with-older i g (entries_since i (durable_of matchmaker_rules me history).entries) y.0
                 (entries-there i (durable_of matchmaker_rules me history).entries y.0 (at_most-trans i j y.0.round l y.3) y.1),
