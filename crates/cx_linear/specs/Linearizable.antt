@@ -1,0 +1,53 @@
+-- Linearizability (Herlihy and Wing 1990), of calls of one map. A history is a list of invocations and responses in real time.
+use Rattle.std.specs.Prelude.{◌≡◌, ℕ, ◌<◌, List, [], ◌∷◌, take, slice_get, Option, Some}
+use Rattle.cx_letter.specs.Prelude.{Op, Pair, Reply, Token, map_after, reply_of, text_at}
+use Rattle.cx_model.specs.Member.{Member}
+
+-- what a call asks: a put, an append or a removal, or the text of a key
+pub data Operation : Type 0 where
+  Update : Op → Operation
+  Get : List ℕ → Operation
+
+-- its response: the reply to a command, or the text of the key, where it has one
+pub data Response : Type 0 where
+  Replied : Reply → Response
+  Found : Option (List ℕ) → Response
+
+-- a call, named by its client and the client's number for it
+pub record Call : Type 0 where
+  pub token : Token
+  pub operation : Operation
+
+pub data Happening : Type 0 where
+  Invoke : Call → Happening
+  Respond : Token → Response → Happening
+
+-- the sequential map: what an operation leaves of it, and what it is answered
+abbrev pub left_by : List Pair → Operation → List Pair
+left_by map (Update op) = map_after map op
+left_by map (Get key) = map
+
+abbrev pub response_by : List Pair → Operation → Response
+response_by map (Update op) = Replied (reply_of map op)
+response_by map (Get key) = Found (text_at key map)
+
+-- the map after calls, one after another
+abbrev pub left_by_all : List Pair → List Call → List Pair
+left_by_all map [] = map
+left_by_all map (x ∷ calls) = left_by_all (left_by map x.operation) calls
+
+pub record IsLinearization (history : List Happening) (order : List Call) : Type 0 where
+  -- Each call of the order was invoked, and stands there once.
+  pub invoked : (n : ℕ) (x : Call) → slice_get order n ≡ Some x → Member (Invoke x) history
+  pub once : (m n : ℕ) (x y : Call) → slice_get order m ≡ Some x → slice_get order n ≡ Some y → x.token ≡ y.token → m ≡ n
+  -- Each call with a response has its place, where the map that was empty at first answers so.
+  pub responses : (t : Token) (r : Response) → Member (Respond t r) history
+      → (n : ℕ) × (x : Call) × (slice_get order n ≡ Some x) × (x.token ≡ t) × (r ≡ response_by (left_by_all [] (take n order)) x.operation)
+  -- One whose response comes before another's invocation stands before it.
+  pub real_time : (i j m n : ℕ) (x y : Call) (r : Response)
+      → slice_get history i ≡ Some (Respond x.token r) → slice_get history j ≡ Some (Invoke y) → i < j
+      → slice_get order m ≡ Some x → slice_get order n ≡ Some y → m < n
+
+-- Calls without a response are in the order, completed, or left out.
+abbrev pub IsLinearizable : List Happening → Type 0
+IsLinearizable history = (order : List Call) × IsLinearization history order
