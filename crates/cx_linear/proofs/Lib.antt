@@ -1,2 +1,5 @@
 pub mod Weave
 pub mod Logs
+pub mod Seen
+pub mod Runs
+pub mod Calls
