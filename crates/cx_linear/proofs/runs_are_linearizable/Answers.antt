@@ -5,6 +5,9 @@ use Rattle.cx_linear.proofs.Seen.{one_response}
 use Rattle.cx_linear.proofs.Runs.{heard_then}
 
 use Rattle.cx_linear.proofs.Calls.{call_invoked}
+use Rattle.cx_linear.proofs.Times.{apart}
+use Rattle.cx_linear.proofs.Texts.{reads_have}
+use Rattle.cx_linear.proofs.Orders.{answered_at}
 
 pub returns : goal.returns
 returns g = ?
