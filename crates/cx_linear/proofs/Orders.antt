@@ -2,23 +2,25 @@
 use Rattle.cx_inv_run.proofs.Common.{◌≡◌, ◌⊎◌, ℕ, zero, suc, ◌+◌, ◌<◌, ◌≤◌, true, false, not, ◌&&◌, List, [], ◌∷◌, ◌++◌, length, take, map}
 use Rattle.cx_inv_run.proofs.Common.{Option, Some, inl, inr, ap, sym, subst, ◌∙◌, refl, arith, slice_get, cases_lt, append_assoc, not-true}
 use Rattle.cx_inv_run.proofs.Common.{same_Some, length-append, true≢false, Cluster, Command, Event, Happened, Reply, RoleId, Token, Letter}
-use Rattle.cx_inv_run.proofs.Common.{Pair, Value, letter, command_list, map_behind, was_asked, Stands, Member, Member-at, run, WasRead}
+use Rattle.cx_inv_run.proofs.Common.{Pair, Value, letter, command_list, map_behind, mark_told, was_asked, Stands, Member, Member-at, Member-first, run, WasRead}
 use Rattle.cx_base.specs.declared.event.Event.TheVariants as event
 use Rattle.cx_base.specs.declared.why.Why.TheVariants as why
 use Rattle.cx_base.specs.Fold.{acts, reply_of, text_at, fold}
 use Rattle.cx_letter.specs.declared.message.Msg.TheVariants as msg
 use Rattle.cx_inv_run.proofs.Members.{at-Member}
-use Rattle.cx_inv_list.proofs.Answers.{one_list, commands_were_asked}
+use Rattle.cx_model.specs.Promises.{WantsText}
+use Rattle.cx_inv_list.proofs.Answers.{one_list, commands_were_asked, reads_tell}
+use Rattle.cx_inv_read.proofs.Requests.{was_asked_by}
 use Rattle.cx_linear.specs.Linearizable.{Call, Operation, Response, Happening, IsLinearization, left_by, left_by_all, response_by}
 use Rattle.cx_linear.specs.Linearizable.{Update, Get, Replied, Found, Invoke, Respond}
 use Rattle.cx_linear.specs.History.{seen_as, counts, history_of, IsLinearizableRun}
 use Rattle.cx_linear.proofs.Calls.{IsDelivery, IsReply, IsText, call_invoked, response_delivered, response_sent, same_parts}
 use Rattle.cx_linear.proofs.Logs.{mark_of, split_stands, stands_split, stands_from, stands_below, mark_grows, mark_within, fold_front}
-use Rattle.cx_linear.proofs.Runs.{happens, Moment, cut_run, heard_then}
+use Rattle.cx_linear.proofs.Runs.{happens, Moment, cut_run, heard_then, sent_begins}
 use Rattle.cx_linear.proofs.Seen.{IsSeen, Member-there, cuts, one_response, seen_both, seen_one}
 use Rattle.cx_linear.proofs.Texts.{Text, values, texts, texts_have, text_item, reads, reads_are, reads_get, reads_have, reads_ranked, reads_sorted}
 use Rattle.cx_linear.proofs.Times.{IsTold, apart, command_later, read_asked, read_later}
-use Rattle.cx_linear.proofs.Weave.{Item, IsBefore, HasPlace, Acting, call_by, command_item, left_after, weave, weave_has, weave_sorted}
+use Rattle.cx_linear.proofs.Weave.{Item, IsBefore, HasPlace, Sorted, Acting, call_by, command_item, left_after, weave, weave_has, weave_sorted}
 use Rattle.cx_linear.proofs.Weave.{command_place, read_place, placed_before, placed_same}
 
 -- the calls of items, and what they leave
@@ -56,8 +58,10 @@ answered_at items x map h = (
       ∙ calls_leave [] h.front ∙ h.left,
 )
 
-seen_events : (a b : List Happened) (h : Happened) → a ++ h ∷ b ≡ (a ++ h ∷ []) ++ b
-seen_events a b h = sym (append_assoc a (h ∷ []) b)
+-- which datagram an event delivers
+abbrev number_of : Event → ℕ
+number_of (event.Deliver n cut) = n
+number_of other = 0
 
 module _ (c : Cluster) (es : List Event) where
   abbrev commands : List Command
@@ -69,6 +73,7 @@ module _ (c : Cluster) (es : List Event) where
   abbrev order : List Call
   order = calls_of items
 
+  sorted : Sorted items
   sorted = weave_sorted (reads c es) (reads_sorted c es) (reads_ranked c es) (reads_get c es) commands 0 []
 
   -- which items there are
@@ -132,19 +137,15 @@ module _ (c : Cluster) (es : List Event) where
         counted = subst (λ t. counts (run c es).sent (r.seen).before (Respond t (Found r.found)) ≡ true) e (r.seen).counted;
       }) q.seen
 
-  text_number : (client seq m n : ℕ) (from to other another : RoleId) (found text : Option (List ℕ))
-      → Some (letter from to (msg.ReadAnswer client m found)) ≡ Some (letter other another (msg.ReadAnswer seq n text)) → m ≡ n
-  text_number client seq m n from to other another found text e = cc
+  abbrev number_in : Happened → ℕ
+  number_in h = number_of h.event
 
   same_mark : (r q : Text c es) → (r.seen).now ≡ (q.seen).now → r.n ≡ q.n
   same_mark r q e =
-      let now : happens (event.Deliver r.number r.cut) why.Heard ≡ happens (event.Deliver q.number q.cut) why.Heard =
-      sym r.now_is ∙ e ∙ q.now_is in
-      let number : r.number ≡ q.number = cc in
-      let there : Some (letter r.from r.to (msg.ReadAnswer r.token.seq r.n r.found))
-      ≡ Some (letter q.from q.to (msg.ReadAnswer q.token.seq q.n q.found)) =
-      sym r.there ∙ ap (λ k. slice_get (run c es).sent k) number ∙ q.there in
-      text_number r.token.seq q.token.seq r.n q.n r.from r.to q.from q.to r.found q.found there
+      let number : r.number ≡ q.number = sym (ap number_in r.now_is) ∙ ap number_in e ∙ ap number_in q.now_is in
+      let there = sym r.there ∙ ap (λ k. slice_get (run c es).sent k) number ∙ q.there in
+      ap (λ (d : Letter). mark_told d.msg) (same_Some (letter r.from r.to (msg.ReadAnswer r.token.seq r.n r.found))
+      (letter q.from q.to (msg.ReadAnswer q.token.seq q.n q.found)) there)
 
   abbrev IsSameItem : Item → Item → Type 0
   IsSameItem i j = (i.rank ≡ j.rank) × (i.turn ≡ j.turn)
@@ -240,3 +241,198 @@ module _ (c : Cluster) (es : List Event) where
         | inl p ↦ reply_answered t r p
         | inr p ↦ text_answered t r s p
       ]
+
+  -- REAL TIME
+
+  abbrev marked : ℕ → ℕ
+  marked n = mark_of n (values c es) + mark_of n (values c es)
+
+  -- An item whose response a client had heard by a moment was told of by then, with a number of slots that it stands below. Only of reads
+  -- it may stand right there, and their turns are as their responses.
+  record IsBelow (then : List Event) (turn : ℕ) (i : Item) : Type 0 where
+    at : ℕ
+    told : IsTold (run c then).sent at
+    below : (suc i.rank ≤ marked at) ⊎ ((i.rank ≤ marked at) × (i.turn ≡ turn))
+
+  text_below : (then later : List Event) → es ≡ then ++ later → (i : Item) (k : Text c es) → i ≡ text_item c es k
+      → Member (k.seen).now (run c then).events → IsBelow then (length (k.seen).before) i
+  text_below then later split i k e m =
+      let heard = subst (λ h. Member h (run c then).events) k.now_is m in
+      let there = subst (λ l. slice_get (run c l).sent k.number ≡ Some (letter k.from k.to (msg.ReadAnswer k.token.seq k.n k.found))) split
+      k.there in
+      record {
+        at = k.n;
+        told = inr (k.from, k.to, k.token.seq, k.found, heard_then c then later k.number k.cut _ heard there);
+        below = (let r = ap (λ (x : Item). x.rank) e in inr (omega arith, ap (λ (x : Item). x.turn) e));
+      }
+
+  reply_below : (then later : List Event) → es ≡ then ++ later → (turn : ℕ) (i : Item) (h : IsCommand i) (r : Response)
+      → IsReply (run c then).sent i.call.token r → IsBelow then turn i
+  reply_below then later split turn i h r p =
+      let b = sent_begins c then later in
+      let final : Member (letter p.from p.to (msg.Answer p.seq p.at p.reply)) (run c es).sent =
+      subst (λ l. Member (letter p.from p.to (msg.Answer p.seq p.at p.reply)) (run c l).sent) (sym split)
+      (subst (λ l. Member (letter p.from p.to (msg.Answer p.seq p.at p.reply)) l) (sym b.1) (Member-first _ (run c then).sent b.0 p.sent_it)) in
+      let g = (one_list.answers_are_right c es p.from p.to p.seq p.at p.reply final).0 in
+      let own = ap (λ (x : Item). x.call.token) h.item_is in
+      let once = one_list.none_acts_twice (values c es) g.slot h.slot g.before h.before g.command h.command g.stands h.stands g.acting h.acting
+      (g.client_is ∙ p.client_is ∙ ap (λ (u : Token). u.client) own) (g.seq_is ∙ p.seq_is ∙ ap (λ (u : Token). u.seq) own) in
+      let l = stands_below (values c es) g.slot g.before g.command g.stands in
+      let next : p.at ≡ suc g.slot = g.at_is ∙ (omega arith) in
+      let mark : mark_of p.at (values c es) ≡ mark_of (suc g.slot) (values c es) = ap (λ n. mark_of n (values c es)) next in
+      let same = ap (λ (x : List Command). length x) once.0 in
+      let rank = ap (λ (x : Item). x.rank) h.item_is in
+      record {
+        at = p.at;
+        told = inl (p.from, p.to, p.seq, p.reply, p.sent_it);
+        below = inl (omega arith);
+      }
+
+  heard_below : (then later : List Event) → es ≡ then ++ later → (i : Item) → IsTextItem i ⊎ IsCommand i → (r : Response)
+      (s : IsSeen (run c es).sent (run c es).events (Respond i.call.token r)) → Member s.now (run c then).events
+      → IsBelow then (length s.before) i
+  heard_below then later split i (inl (k, e)) r s m =
+      let own = ap (λ (x : Item). x.call.token) e in
+      let same = one_response (run c es).sent (run c es).events k.token (Found k.found) r k.seen (seen_of k.token own) in
+      subst (λ (l : List Happened). IsBelow then (length l) i) same.0
+      (text_below then later split i k e (subst (λ h. Member h (run c then).events) (sym same.1) m))
+    where
+      seen_of : (t : Token) → i.call.token ≡ t → IsSeen (run c es).sent (run c es).events (Respond t r)
+      seen_of t e = record {
+        before = s.before;
+        now = s.now;
+        later = s.later;
+        split = s.split;
+        seen = subst (λ u. seen_as (run c es).sent s.now.why s.now.event ≡ Some (Respond u r)) e s.seen;
+        counted = subst (λ u. counts (run c es).sent s.before (Respond u r) ≡ true) e s.counted;
+      }
+  heard_below then later split i (inr h) r s m =
+      let d = response_delivered (run c es).sent s.now.why s.now.event i.call.token r s.seen in
+      let now : s.now ≡ happens (event.Deliver d.number d.cut) why.Heard = (λ j. record { event = d.event_is j; why = d.why_is j }) in
+      let there = subst (λ l. slice_get (run c l).sent d.number ≡ Some d.letter_is) split d.there in
+      let sent = heard_then c then later d.number d.cut d.letter_is (subst (λ x. Member x (run c then).events) now m) there in
+      elim (response_sent (run c then).sent d.letter_is.from d.letter_is.to d.letter_is.msg i.call.token r sent d.tells) [
+        | inl p ↦ reply_below then later split (length s.before) i h r p
+        | inr p ↦ absurd (never p.found p.is)
+      ]
+    where
+      never : (found : Option (List ℕ)) → r ≡ Found found → ⊥
+      never found is =
+          let own = subst (λ x. IsSeen (run c es).sent (run c es).events (Respond i.call.token x)) is s in
+          let k = texts_have c es i.call.token found own in
+          let parts = response_parts (k.0).token i.call.token (Found (k.0).found) (Found found)
+          (sym ((k.0).seen).seen ∙ ap (λ (x : Happened). seen_as (run c es).sent x.why x.event) k.3 ∙ own.seen) in
+          apart c es (k.0).token h.command (k.0).key (was_sent i h) (parts.0 ∙ ap (λ (x : Item). x.call.token) h.item_is) (k.0).asked
+
+  wants_asked : (then : List Event) (t : Token) (key : List ℕ) → WantsText (run c then).events t.client t.seq key
+      → was_asked t (run c then).events ≡ true
+  wants_asked then t key (inl r) = read_asked c then t key r
+  wants_asked then t key (inr (floor, replica, m)) =
+      was_asked_by t (run c then) (event.Session t.client t.seq floor replica key) m refl
+
+  -- a read's response isn't before its invocation
+  responds_later : (then later : List Event) → es ≡ then ++ later → (k : Text c es) (x : Call)
+      (u : IsSeen (run c es).sent (run c es).events (Invoke x)) → (run c then).events ≡ u.before
+      → was_asked k.token (run c then).events ≡ false → length u.before ≤ length (k.seen).before
+  responds_later then later split k x u events unasked =
+      elim (cuts u.before u.later (k.seen).before (k.seen).later u.now (k.seen).now (sym u.split ∙ (k.seen).split)) [
+        | inl e ↦ (let l = ap (λ (x : List Happened). length x) e.0 in omega arith)
+        | inr e ↦ elim e [
+          | inl m ↦ (let l = ap (λ (x : List Happened). length x) m.1 in omega (arith, l, length-append u.before (u.now ∷ m.0)))
+          | inr m ↦ absurd (never (subst (λ l. Member (k.seen).now l) (sym (events ∙ m.1)) (Member-there (k.seen).before m.0 (k.seen).now)))
+        ]
+      ]
+    where
+      never : Member (k.seen).now (run c then).events → ⊥
+      never m =
+          let heard = subst (λ h. Member h (run c then).events) k.now_is m in
+          let there = subst (λ l. slice_get (run c l).sent k.number ≡ Some (letter k.from k.to (msg.ReadAnswer k.token.seq k.n k.found))) split
+          k.there in
+          let sent = heard_then c then later k.number k.cut _ heard there in
+          let right = reads_tell c then k.from k.to k.token.seq k.n k.found sent in
+          true≢false (sym (wants_asked then k.token right.key
+          (subst (λ a. WantsText (run c then).events a k.token.seq right.key) k.client_is right.asked)) ∙ unasked)
+
+  below_first : (then later : List Event) → es ≡ then ++ later → (turn : ℕ) (i j : Item) → IsBelow then turn i
+      → IsTextItem j ⊎ IsCommand j → (u : IsSeen (run c es).sent (run c es).events (Invoke j.call)) → (run c then).events ≡ u.before
+      → was_asked j.call.token (run c then).events ≡ false → turn < length u.before → IsBefore i j
+  below_first then later split turn i j b (inr h) u events unasked l =
+      let stands = subst (λ x. Stands (values c x) h.slot h.before h.command) split h.stands in
+      let o = command_later c then later b.at b.told j.call.token unasked h.slot h.before h.command stands
+      (ap (λ (x : Item). x.call.token) h.item_is) in
+      let m = mark_grows (values c es) b.at h.slot o in
+      let f = stands_from (values c es) h.slot h.before h.command h.stands in
+      let r = ap (λ (x : Item). x.rank) h.item_is in
+      inl (least b.below (omega arith))
+    where
+      least : (suc i.rank ≤ marked b.at) ⊎ ((i.rank ≤ marked b.at) × (i.turn ≡ turn)) → marked b.at < j.rank → i.rank < j.rank
+      least (inl p) q = omega arith
+      least (inr p) q = let s = p.0 in omega arith
+  below_first then later split turn i j b (inl (k, e)) u events unasked l =
+      let own = ap (λ (x : Item). x.call.token) e in
+      let unasked_k = subst (λ t. was_asked t (run c then).events ≡ false) own unasked in
+      let asked = subst (λ x. WasRead (run c x).events k.token.client k.token.seq k.key) split k.asked in
+      let there = subst (λ x. Member (letter k.from k.to (msg.ReadAnswer k.token.seq k.n k.found)) (run c x).sent) split
+      (Member-at _ (run c es).sent k.number k.there) in
+      let o = read_later c then later b.at b.told k.token unasked_k k.key asked k.from k.to k.n k.found k.client_is there in
+      let m = mark_grows (values c es) b.at k.n o in
+      let r = ap (λ (x : Item). x.rank) e in
+      let t = ap (λ (x : Item). x.turn) e in
+      let later_turn = responds_later then later split k j.call u events unasked_k in
+      first b.below (omega arith) (omega arith)
+    where
+      first : (suc i.rank ≤ marked b.at) ⊎ ((i.rank ≤ marked b.at) × (i.turn ≡ turn)) → marked b.at ≤ j.rank → turn < j.turn → IsBefore i j
+      first (inl p) q s = inl (omega arith)
+      first (inr p) q s = elim (cases_lt i.rank j.rank) [
+        | inl o ↦ inl o
+        | inr o ↦ (let a = p.0 in let d = p.1 in inr (omega arith, omega arith))
+      ]
+
+  in_order : (i j : Item) → IsTextItem i ⊎ IsCommand i → IsTextItem j ⊎ IsCommand j → (r : Response)
+      (s : IsSeen (run c es).sent (run c es).events (Respond i.call.token r)) (u : IsSeen (run c es).sent (run c es).events (Invoke j.call))
+      → length s.before < length u.before → IsBefore i j
+  in_order i j a b r s u l =
+      let q = cut_run c es u.before (u.now ∷ u.later) u.split in
+      let none : was_asked j.call.token u.before ≡ false = not-true (was_asked j.call.token u.before) u.counted in
+      let unasked = subst (λ x. was_asked j.call.token x ≡ false) (sym q.events_are) none in
+      let member = subst (λ x. Member s.now x) (sym q.events_are)
+      (earlier (cuts s.before s.later u.before u.later s.now u.now (sym s.split ∙ u.split))) in
+      below_first q.then q.later q.split (length s.before) i j (heard_below q.then q.later q.split i a r s member) b u q.events_are unasked l
+    where
+      earlier : ((s.before ≡ u.before) × (s.now ≡ u.now)) ⊎ (((m : List Happened) × (u.before ≡ s.before ++ s.now ∷ m))
+          ⊎ ((m : List Happened) × (s.before ≡ u.before ++ u.now ∷ m))) → Member s.now u.before
+      earlier (inl e) = let k = ap (λ (x : List Happened). length x) e.0 in absurd (omega arith)
+      earlier (inr (inl m)) = subst (λ x. Member s.now x) (sym m.1) (Member-there s.before m.0 s.now)
+      earlier (inr (inr m)) =
+          let k = ap (λ (x : List Happened). length x) m.1 in absurd (omega (arith, k, l, length-append u.before (u.now ∷ m.0)))
+
+  real_time : (i j m n : ℕ) (x y : Call) (r : Response)
+      → slice_get (history_of (run c es)) i ≡ Some (Respond x.token r) → slice_get (history_of (run c es)) j ≡ Some (Invoke y) → i < j
+      → slice_get order m ≡ Some x → slice_get order n ≡ Some y → m < n
+  real_time i j m n x y r g h l p q =
+      let a = item_at m x p in
+      let b = item_at n y q in
+      let there = subst (λ (z : Call). slice_get (history_of (run c es)) i ≡ Some (Respond z.token r)) (sym a.2) g in
+      let asked = subst (λ z. slice_get (history_of (run c es)) j ≡ Some (Invoke z)) (sym b.2) h in
+      let both = seen_both (run c es).sent (run c es).events (run c es).events [] refl i j (Respond (a.0).call.token r) (Invoke (b.0).call)
+      there asked l in
+      placed_before items sorted m n a.0 b.0 a.1 b.1 (in_order a.0 b.0 a.3 b.3 r both.0 both.1 both.2)
+
+  once : (m n : ℕ) (x y : Call) → slice_get order m ≡ Some x → slice_get order n ≡ Some y → x.token ≡ y.token → m ≡ n
+  once m n x y p q t =
+      let a = item_at m x p in
+      let b = item_at n y q in
+      let same = same_item a.0 b.0 a.3 b.3 (ap (λ (z : Call). z.token) a.2 ∙ t ∙ sym (ap (λ (z : Call). z.token) b.2)) in
+      placed_same items sorted m n a.0 b.0 a.1 b.1 same.0 same.1
+
+  pub linearizable : IsLinearizableRun c es
+  linearizable = (
+    order,
+    record {
+      invoked = λ n x p. let a = item_at n x p in
+          subst (λ z. Member (Invoke z) (history_of (run c es))) a.2 (item_invoked a.0 a.3);
+      once = once;
+      responses = responses;
+      real_time = real_time;
+    },
+  )
