@@ -12,7 +12,7 @@ use Rattle.cx_model.specs.Promises.{WasSent}
 use Rattle.cx_model.specs.Request.{is_sent}
 use Rattle.cx_inv_list.proofs.Requests.{requests_are_once}
 use Rattle.cx_inv_read.proofs.Requests.{WentOut, was_asked_by}
-use Rattle.cx_linear.specs.Linearizable.{Call, Operation, Response, Happening}
+use Rattle.cx_linear.specs.Linearizable.{Call, Operation, Response, CallEvent}
 use Rattle.cx_linear.specs.Linearizable.{Update, Get, Replied, Found, Invoke, Respond}
 use Rattle.cx_linear.specs.History.{call, told_by, told_in, seen_as, counts, history_from, history_of}
 use Rattle.cx_linear.proofs.Runs.{happens}
@@ -149,7 +149,7 @@ response_sent sent from to (msg.ReadAnswer seq n found) t r m h = inr (record {
 response_sent sent from to other t r m h = cc
 
 -- a response is the delivery of a datagram
-pub record IsDelivery (sent : List Letter) (w : Why) (e : Event) (x : Happening) : Type 0 where
+pub record IsDelivery (sent : List Letter) (w : Why) (e : Event) (x : CallEvent) : Type 0 where
   pub number : ℕ
   pub cut : Cut
   pub letter_is : Letter
@@ -158,7 +158,7 @@ pub record IsDelivery (sent : List Letter) (w : Why) (e : Event) (x : Happening)
   pub there : slice_get sent number ≡ Some letter_is
   pub tells : told_by letter_is.to.index letter_is.msg ≡ Some x
 
-delivered : (sent : List Letter) (number : ℕ) (cut : Cut) (x : Happening) (o : Option Letter) → slice_get sent number ≡ o
+delivered : (sent : List Letter) (number : ℕ) (cut : Cut) (x : CallEvent) (o : Option Letter) → slice_get sent number ≡ o
     → told_in o ≡ Some x → IsDelivery sent why.Heard (event.Deliver number cut) x
 delivered sent number cut x None e h = cc
 delivered sent number cut x (Some d) e h =

@@ -6,3 +6,4 @@ pub mod Calls
 pub mod Times
 pub mod Texts
 pub mod Orders
+pub mod Judged

@@ -11,7 +11,7 @@ use Rattle.cx_inv_run.proofs.Members.{at-Member}
 use Rattle.cx_model.specs.Promises.{WantsText}
 use Rattle.cx_inv_list.proofs.Answers.{one_list, commands_were_asked, reads_tell}
 use Rattle.cx_inv_read.proofs.Requests.{was_asked_by}
-use Rattle.cx_linear.specs.Linearizable.{Call, Operation, Response, Happening, IsLinearization, left_by, left_by_all, response_by}
+use Rattle.cx_linear.specs.Linearizable.{Call, Operation, Response, CallEvent, IsLinearization, left_by, left_by_all, response_by}
 use Rattle.cx_linear.specs.Linearizable.{Update, Get, Replied, Found, Invoke, Respond}
 use Rattle.cx_linear.specs.History.{seen_as, counts, history_of, IsLinearizableRun}
 use Rattle.cx_linear.proofs.Calls.{IsDelivery, IsReply, IsText, call_invoked, response_delivered, response_sent, same_parts}

@@ -3,7 +3,7 @@ use Rattle.cx_inv_run.proofs.Common.{◌≡◌, ◌⊎◌, ℕ, zero, suc, ◌+�
 use Rattle.cx_inv_run.proofs.Common.{None, Some, inl, inr, ap, sym, subst, ◌∙◌, refl, arith, slice_get, append_assoc, append-nil, same_Some}
 use Rattle.cx_inv_run.proofs.Common.{length-append, and_parts, and_from, not-true, both_ways, number_itself, Happened, Token, Letter, Member}
 use Rattle.cx_inv_run.proofs.Common.{Member-first, Member-second, Member-any}
-use Rattle.cx_linear.specs.Linearizable.{Response, Happening}
+use Rattle.cx_linear.specs.Linearizable.{Response, CallEvent}
 use Rattle.cx_linear.specs.Linearizable.{Invoke, Respond}
 use Rattle.cx_linear.specs.History.{seen_as, is_response_to, was_session, was_answered, counts, counted, history_from}
 
@@ -29,7 +29,7 @@ Member-there a b h = Member-second h a (h ∷ b) (inl refl)
 
 module _ (sent : List Letter) where
   -- an event that the history has as this
-  pub record IsSeen (events : List Happened) (x : Happening) : Type 0 where
+  pub record IsSeen (events : List Happened) (x : CallEvent) : Type 0 where
     pub before : List Happened
     pub now : Happened
     pub later : List Happened
@@ -37,13 +37,13 @@ module _ (sent : List Letter) where
     pub seen : seen_as sent now.why now.event ≡ Some x
     pub counted : counts sent before x ≡ true
 
-  counted_if : (done : List Happened) (z : Happening) (b : Bool) → counts sent done z ≡ b
+  counted_if : (done : List Happened) (z : CallEvent) (b : Bool) → counts sent done z ≡ b
       → (counted sent done (Some z) ≡ []) ⊎ ((counts sent done z ≡ true) × (counted sent done (Some z) ≡ z ∷ []))
   counted_if done z true e = inr (e, rw e refl)
   counted_if done z false e = inl (rw e refl)
 
-  counted_cases : (done : List Happened) (o : Option Happening) → (counted sent done o ≡ [])
-      ⊎ ((z : Happening) × (o ≡ Some z) × (counts sent done z ≡ true) × (counted sent done o ≡ z ∷ []))
+  counted_cases : (done : List Happened) (o : Option CallEvent) → (counted sent done o ≡ [])
+      ⊎ ((z : CallEvent) × (o ≡ Some z) × (counts sent done z ≡ true) × (counted sent done o ≡ z ∷ []))
   counted_cases done None = inl refl
   counted_cases done (Some z) = elim (counted_if done z (counts sent done z) refl) [
     | inl e ↦ inl e
@@ -54,7 +54,7 @@ module _ (sent : List Letter) where
     next_split : (done rest : List Happened) (h : Happened) → all ≡ done ++ h ∷ rest → all ≡ (done ++ h ∷ []) ++ rest
     next_split done rest h e = e ∙ sym (append_assoc done (h ∷ []) rest)
 
-    seen_here : (done rest : List Happened) (h : Happened) (x z : Happening) → all ≡ done ++ h ∷ rest → seen_as sent h.why h.event ≡ Some z
+    seen_here : (done rest : List Happened) (h : Happened) (x z : CallEvent) → all ≡ done ++ h ∷ rest → seen_as sent h.why h.event ≡ Some z
         → counts sent done z ≡ true → z ≡ x → (s : IsSeen all x) × (length s.before ≡ length done)
     seen_here done rest h x z e q t p = (
       record {
@@ -68,27 +68,27 @@ module _ (sent : List Letter) where
       refl,
     )
 
-    abbrev IsFrom : ℕ → Happening → Type 0
+    abbrev IsFrom : ℕ → CallEvent → Type 0
     IsFrom n x = (s : IsSeen all x) × (n ≤ length s.before)
 
-    from_next : (done : List Happened) (h : Happened) (x : Happening) → IsFrom (length (done ++ h ∷ [])) x → IsFrom (suc (length done)) x
+    from_next : (done : List Happened) (h : Happened) (x : CallEvent) → IsFrom (length (done ++ h ∷ [])) x → IsFrom (suc (length done)) x
     from_next done h x r = let l = r.1 in (r.0, omega (arith, l, length-append done (h ∷ [])))
 
-    abbrev rests : List Happened → Happened → List Happened → List Happening
+    abbrev rests : List Happened → Happened → List Happened → List CallEvent
     rests done h rest = history_from sent (done ++ h ∷ []) rest
 
-    weaker : (done : List Happened) (h : Happened) (x : Happening) → IsFrom (length (done ++ h ∷ [])) x → IsFrom (length done) x
+    weaker : (done : List Happened) (h : Happened) (x : CallEvent) → IsFrom (length (done ++ h ∷ [])) x → IsFrom (length done) x
     weaker done h x r = let p = from_next done h x r in let l = p.1 in (p.0, omega arith)
 
-    at_here : (done rest : List Happened) (h : Happened) (x : Happening) → all ≡ done ++ h ∷ rest
-        → ((i : ℕ) → slice_get (rests done h rest) i ≡ Some x → IsFrom (length (done ++ h ∷ [])) x) → (k : ℕ) (z : Happening)
+    at_here : (done rest : List Happened) (h : Happened) (x : CallEvent) → all ≡ done ++ h ∷ rest
+        → ((i : ℕ) → slice_get (rests done h rest) i ≡ Some x → IsFrom (length (done ++ h ∷ [])) x) → (k : ℕ) (z : CallEvent)
         → seen_as sent h.why h.event ≡ Some z → counts sent done z ≡ true → slice_get (z ∷ rests done h rest) k ≡ Some x
         → IsFrom (length done) x
     at_here done rest h x e next zero z q t p =
         let r = seen_here done rest h x z e q t (same_Some z x p) in let l = r.1 in (r.0, omega arith)
     at_here done rest h x e next (suc k) z q t p = weaker done h x (next k p)
 
-    seen_at : (rest done : List Happened) → all ≡ done ++ rest → (i : ℕ) (x : Happening)
+    seen_at : (rest done : List Happened) → all ≡ done ++ rest → (i : ℕ) (x : CallEvent)
         → slice_get (history_from sent done rest) i ≡ Some x → IsFrom (length done) x
     seen_at [] done e i x g = cc
     seen_at (h ∷ rest) done e i x g = elim (counted_cases done (seen_as sent h.why h.event)) [
@@ -99,12 +99,12 @@ module _ (sent : List Letter) where
     ]
 
     -- two of the history, in their order
-    abbrev InOrder : Happening → Happening → Type 0
+    abbrev InOrder : CallEvent → CallEvent → Type 0
     InOrder x y = (s : IsSeen all x) × (t : IsSeen all y) × (length s.before < length t.before)
 
-    both_here : (done rest : List Happened) (h : Happened) (x y : Happening) → all ≡ done ++ h ∷ rest
+    both_here : (done rest : List Happened) (h : Happened) (x y : CallEvent) → all ≡ done ++ h ∷ rest
         → ((i j : ℕ) → slice_get (rests done h rest) i ≡ Some x → slice_get (rests done h rest) j ≡ Some y → i < j → InOrder x y)
-        → (m n : ℕ) (z : Happening) → seen_as sent h.why h.event ≡ Some z → counts sent done z ≡ true
+        → (m n : ℕ) (z : CallEvent) → seen_as sent h.why h.event ≡ Some z → counts sent done z ≡ true
         → slice_get (z ∷ rests done h rest) m ≡ Some x → slice_get (z ∷ rests done h rest) n ≡ Some y → m < n → InOrder x y
     both_here done rest h x y e next m zero z q t p k b = absurd (omega arith)
     both_here done rest h x y e next zero (suc n) z q t p k b =
@@ -115,7 +115,7 @@ module _ (sent : List Letter) where
         (now.0, later.0, omega arith)
     both_here done rest h x y e next (suc m) (suc n) z q t p k b = next m n p k (omega arith)
 
-    pub seen_both : (rest done : List Happened) → all ≡ done ++ rest → (i j : ℕ) (x y : Happening)
+    pub seen_both : (rest done : List Happened) → all ≡ done ++ rest → (i j : ℕ) (x y : CallEvent)
         → slice_get (history_from sent done rest) i ≡ Some x → slice_get (history_from sent done rest) j ≡ Some y → i < j → InOrder x y
     seen_both [] done e i j x y g k l = cc
     seen_both (h ∷ rest) done e i j x y g k l = elim (counted_cases done (seen_as sent h.why h.event)) [
@@ -126,11 +126,11 @@ module _ (sent : List Letter) where
           (subst (λ l. slice_get (l ++ rests done h rest) i ≡ Some x) r.3 g) (subst (λ l. slice_get (l ++ rests done h rest) j ≡ Some y) r.3 k) l
     ]
 
-    pub seen_one : (i : ℕ) (x : Happening) → slice_get (history_from sent [] all) i ≡ Some x → IsSeen all x
+    pub seen_one : (i : ℕ) (x : CallEvent) → slice_get (history_from sent [] all) i ≡ Some x → IsSeen all x
     seen_one i x g = (seen_at all [] refl i x g).0
 
   -- what is seen and counts stands there
-  pub seen_stands : (a : List Happened) (h : Happened) (b done : List Happened) (x : Happening) → seen_as sent h.why h.event ≡ Some x
+  pub seen_stands : (a : List Happened) (h : Happened) (b done : List Happened) (x : CallEvent) → seen_as sent h.why h.event ≡ Some x
       → counts sent (done ++ a) x ≡ true → Member x (history_from sent done (a ++ h ∷ b))
   seen_stands [] h b done x q t =
       Member-first x (counted sent done (seen_as sent h.why h.event)) (history_from sent (done ++ h ∷ []) b)

@@ -9,7 +9,7 @@ use Rattle.cx_base.specs.declared.event.Event.TheVariants as event
 use Rattle.cx_base.specs.declared.why.Why.TheVariants as why
 use Rattle.cx_letter.specs.declared.message.Msg.TheVariants as msg
 use Rattle.cx_inv_list.proofs.Answers.{reads_tell}
-use Rattle.cx_linear.specs.Linearizable.{Happening}
+use Rattle.cx_linear.specs.Linearizable.{CallEvent}
 use Rattle.cx_linear.specs.Linearizable.{Get, Replied, Found, Invoke, Respond}
 use Rattle.cx_linear.specs.History.{told_by, seen_as, is_session_of, was_session, was_answered, counts}
 use Rattle.cx_linear.proofs.Calls.{IsDelivery, response_delivered}
@@ -33,7 +33,7 @@ module _ (c : Cluster) (es : List Event) where
   abbrev pub values : List Value
   values = chosen_prefix (run c es).kept
 
-  abbrev pub IsSeenHere : Happening → Type 0
+  abbrev pub IsSeenHere : CallEvent → Type 0
   IsSeenHere x = IsSeen (run c es).sent (run c es).events x
 
   pub record Text : Type 0 where
@@ -139,11 +139,11 @@ module _ (c : Cluster) (es : List Event) where
   pick_counted a h b e t found q false k =
       inr (λ u other p l. both_ways _ k (subst (λ o. counted_as o ≡ true) (sym p ∙ q) l))
     where
-      counted_as : Option Happening → Bool
+      counted_as : Option CallEvent → Bool
       counted_as None = false
       counted_as (Some x) = counts (run c es).sent a x
 
-  pick_seen : (a : List Happened) (h : Happened) (b : List Happened) → (run c es).events ≡ a ++ h ∷ b → (o : Option Happening)
+  pick_seen : (a : List Happened) (h : Happened) (b : List Happened) → (run c es).events ≡ a ++ h ∷ b → (o : Option CallEvent)
       → seen_as (run c es).sent h.why h.event ≡ o → IsPick a h
   pick_seen a h b e None q = inr (λ t found p k. let never : None ≡ Some (Respond t (Found found)) = sym q ∙ p in cc)
   pick_seen a h b e (Some (Invoke x)) q =

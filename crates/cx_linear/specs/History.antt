@@ -7,29 +7,27 @@ use Rattle.cx_letter.specs.declared.message.Msg.{Msg}
 use Rattle.cx_letter.specs.declared.message.Msg.TheVariants as msg
 use Rattle.cx_model.specs.History.{was_asked}
 use Rattle.cx_model.specs.Promises.{OfEveryRun}
+use Rattle.cx_model.specs.Reader.{make_token}
 use Rattle.cx_model.specs.Request.{same_read}
 use Rattle.cx_model.specs.World.{World, run}
-use Rattle.cx_linear.specs.Linearizable.{Operation, Response, Call, Happening, IsLinearizable}
+use Rattle.cx_linear.specs.Linearizable.{Operation, Response, Call, CallEvent, IsLinearizable}
 use Rattle.cx_linear.specs.Linearizable.{Update, Get, Replied, Found, Invoke, Respond}
 
 abbrev pub call : ℕ → ℕ → Operation → Call
-call client seq operation = record { token = record { client = client; seq = seq }; operation = operation }
-
-abbrev pub respond : ℕ → ℕ → Response → Happening
-respond client seq r = Respond (record { client = client; seq = seq }) r
+call client seq operation = record { token = make_token client seq; operation = operation }
 
 -- what a message tells a client of its number
-abbrev pub told_by : ℕ → Msg → Option Happening
-told_by client (msg.Answer seq at reply) = Some (respond client seq (Replied reply))
-told_by client (msg.ReadAnswer seq n found) = Some (respond client seq (Found found))
+abbrev pub told_by : ℕ → Msg → Option CallEvent
+told_by client (msg.Answer seq at reply) = Some (Respond (make_token client seq) (Replied reply))
+told_by client (msg.ReadAnswer seq n found) = Some (Respond (make_token client seq) (Found found))
 told_by client other = None
 
-abbrev pub told_in : Option Letter → Option Happening
+abbrev pub told_in : Option Letter → Option CallEvent
 told_in None = None
 told_in (Some d) = told_by d.to.index d.msg
 
 -- What an event is to the clients: a request that was sent invokes its call, a delivery that a client heard is a response.
-abbrev pub seen_as : List Letter → Why → Event → Option Happening
+abbrev pub seen_as : List Letter → Why → Event → Option CallEvent
 seen_as sent why.Sent (event.Write command batcher) = Some (Invoke (call command.client command.seq (Update command.op)))
 seen_as sent why.Sent (event.Read client seq floor reader replica key) = Some (Invoke (call client seq (Get key)))
 seen_as sent why.Heard (event.Deliver n cut) = told_in (slice_get sent n)
@@ -37,13 +35,13 @@ seen_as sent other e = None
 
 -- whether an event of these asked in a session, with this token
 abbrev pub is_session_of : Token → Why → Event → Bool
-is_session_of t why.Sent (event.Session client seq floor replica key) = same_read t (record { client = client; seq = seq })
+is_session_of t why.Sent (event.Session client seq floor replica key) = same_read t (make_token client seq)
 is_session_of t other e = false
 
 abbrev pub was_session : Token → List Happened → Bool
 was_session t events = list_any (λ (h : Happened). is_session_of t h.why h.event) events
 
-abbrev pub is_response_to : Token → Option Happening → Bool
+abbrev pub is_response_to : Token → Option CallEvent → Bool
 is_response_to t (Some (Respond u r)) = same_read t u
 is_response_to t other = false
 
@@ -53,20 +51,20 @@ was_answered sent t events = list_any (λ (h : Happened). is_response_to t (seen
 
 -- Whether it counts after these events: a request that is sent again is the same call, of its responses the first one counts, and none of
 -- a session's.
-abbrev pub counts : List Letter → List Happened → Happening → Bool
+abbrev pub counts : List Letter → List Happened → CallEvent → Bool
 counts sent before (Invoke x) = not (was_asked x.token before)
 counts sent before (Respond t r) = not (was_session t before) && not (was_answered sent t before)
 
-abbrev pub counted : List Letter → List Happened → Option Happening → List Happening
+abbrev pub counted : List Letter → List Happened → Option CallEvent → List CallEvent
 counted sent before None = []
 counted sent before (Some x) = if counts sent before x then x ∷ [] else []
 
-abbrev pub history_from : List Letter → List Happened → List Happened → List Happening
+abbrev pub history_from : List Letter → List Happened → List Happened → List CallEvent
 history_from sent before [] = []
 history_from sent before (h ∷ later) =
     counted sent before (seen_as sent h.why h.event) ++ history_from sent (before ++ h ∷ []) later
 
-abbrev pub history_of : World → List Happening
+abbrev pub history_of : World → List CallEvent
 history_of w = history_from w.sent [] w.events
 
 -- what clients see of a run is linearizable

@@ -18,9 +18,9 @@ pub record Call : Type 0 where
   pub token : Token
   pub operation : Operation
 
-pub data Happening : Type 0 where
-  Invoke : Call → Happening
-  Respond : Token → Response → Happening
+pub data CallEvent : Type 0 where
+  Invoke : Call → CallEvent
+  Respond : Token → Response → CallEvent
 
 -- the sequential map: what an operation leaves of it, and what it is answered
 abbrev pub left_by : List Pair → Operation → List Pair
@@ -36,7 +36,7 @@ abbrev pub left_by_all : List Pair → List Call → List Pair
 left_by_all map [] = map
 left_by_all map (x ∷ calls) = left_by_all (left_by map x.operation) calls
 
-pub record IsLinearization (history : List Happening) (order : List Call) : Type 0 where
+pub record IsLinearization (history : List CallEvent) (order : List Call) : Type 0 where
   -- Each call of the order was invoked, and stands there once.
   pub invoked : (n : ℕ) (x : Call) → slice_get order n ≡ Some x → Member (Invoke x) history
   pub once : (m n : ℕ) (x y : Call) → slice_get order m ≡ Some x → slice_get order n ≡ Some y → x.token ≡ y.token → m ≡ n
@@ -49,5 +49,5 @@ pub record IsLinearization (history : List Happening) (order : List Call) : Type
       → slice_get order m ≡ Some x → slice_get order n ≡ Some y → m < n
 
 -- Calls without a response are in the order, completed, or left out.
-abbrev pub IsLinearizable : List Happening → Type 0
+abbrev pub IsLinearizable : List CallEvent → Type 0
 IsLinearizable history = (order : List Call) × IsLinearization history order

@@ -5,9 +5,16 @@
 #![tactic(auto)]
 
 ghost use Rattle.cx_model.specs.Promises.{OfEveryRun};
+ghost use Rattle.cx_linear.specs.Examples.{HistoriesAreJudged};
 ghost use Rattle.cx_linear.specs.History.{IsLinearizableRun};
 
 /// The history of every run is linearizable.
 pub fn runs_are_linearizable()
     ensures { OfEveryRun IsLinearizableRun }
+{}
+
+/// What the definition takes and refuses: a stale read, an append that acts twice and appends in a turned order are no
+/// linearizable histories, nor is a response to nothing.
+pub fn histories_are_judged()
+    ensures { HistoriesAreJudged }
 {}
