@@ -1,23 +1,23 @@
 -- The calls of a run are in its history, and what responses there are was sent.
 use Rattle.std.proofs.lemmas.Slice.Eq.{bytes_eq-Decides}
-use Rattle.cx_inv_run.proofs.Common.{◌≡◌, ◌⊎◌, ℕ, Bool, true, false, not, ◌&&◌, ◌==◌, List, [], ◌∷◌, ◌++◌, Option, None, Some, inl, inr, ap, sym}
-use Rattle.cx_inv_run.proofs.Common.{subst, ◌∙◌, refl, slice_get, list_any, bytes_eq, and_parts, not-false, not-true, same_Some, cases_Bool}
-use Rattle.cx_inv_run.proofs.Common.{same_number, true≢false, Cluster, Command, Cut, Event, Happened, Reply, RoleId, Why, Token, Letter, Msg}
-use Rattle.cx_inv_run.proofs.Common.{letter, make_token, Member, World, run, token_of, same_request, same_token, was_sent, was_asked, WasRead}
+use Rattle.cx_inv_run.proofs.Common.{◌≡◌, ◌⊎◌, ℕ, Bool, true, false, not, ◌&&◌, ◌==◌, List, [], ◌∷◌, ◌++◌}
+use Rattle.cx_inv_run.proofs.Common.{Option, None, Some, inl, inr, ap, sym}
+use Rattle.cx_inv_run.proofs.Common.{subst, ◌∙◌, refl, slice_get, list_any, and_parts, same_Some, cases_Bool}
+use Rattle.cx_inv_run.proofs.Common.{same_number, true≢false, Cluster, Cut, Event, Happened, Reply, RoleId, Why, Token, Letter, Msg}
+use Rattle.cx_inv_run.proofs.Common.{letter, make_token, Member, run, token_of, same_request, same_token, was_sent}
 use Rattle.cx_base.specs.declared.event.Event.TheVariants as event
 use Rattle.cx_base.specs.declared.why.Why.TheVariants as why
 use Rattle.cx_letter.specs.declared.message.Msg.TheVariants as msg
 use Rattle.cx_base.proofs.SameLaws.{same_op-true}
-use Rattle.cx_model.specs.Promises.{WasSent}
 use Rattle.cx_model.specs.Request.{is_sent}
 use Rattle.cx_inv_list.proofs.Requests.{requests_are_once}
 use Rattle.cx_inv_read.proofs.Requests.{WentOut, was_asked_by}
-use Rattle.cx_linear.specs.Linearizable.{Call, Operation, Response, CallEvent}
+use Rattle.cx_linear.specs.Linearizable.{ClientCall, Operation, Response, CallEvent}
 use Rattle.cx_linear.specs.Linearizable.{Update, Get, Replied, Found, Invoke, Respond}
-use Rattle.cx_linear.specs.History.{call, told_by, told_in, seen_as, counts, history_from, history_of}
+use Rattle.cx_linear.specs.History.{call, told_by, told_in, seen_as, history_from, history_of}
 use Rattle.cx_linear.proofs.Runs.{happens}
-use Rattle.cx_linear.proofs.Seen.{Member-there, seen_stands}
-use Rattle.cx_linear.proofs.Weave.{call_by}
+use Rattle.cx_inv_list.proofs.Once.{Member-in}
+use Rattle.cx_linear.proofs.Seen.{seen_stands}
 
 -- the first of a list that passes a test
 record IsFirst {X : Type 0} (p : X → Bool) (xs : List X) : Type 0 where
@@ -33,14 +33,14 @@ first_of p [] h = absurd (true≢false (sym h))
 first_of p (x ∷ xs) h = elim (cases_Bool (p x)) [
   | inl t ↦ record { before = []; first = x; later = xs; split = refl; none = refl; passes = t }
   | inr f ↦ (let r = first_of p xs (rw f at h) in
-    record {
-      before = x ∷ r.before;
-      first = r.first;
-      later = r.later;
-      split = ap (λ l. x ∷ l) r.split;
-      none = rw f r.none;
-      passes = r.passes;
-    })
+      record {
+        before = x ∷ r.before;
+        first = r.first;
+        later = r.later;
+        split = ap (λ l. x ∷ l) r.split;
+        none = rw f r.none;
+        passes = r.passes;
+      })
 ]
 
 sent_is : (w : Why) → is_sent w ≡ true → w ≡ why.Sent
@@ -70,17 +70,18 @@ same_seen sent (event.Write k b) (event.Write l d) h t =
     ap (λ x. Some (Invoke x)) (same_call l.client l.seq k.client k.seq (Update l.op) (Update k.op) t (ap (λ o. Update o)
     (sym (same_op-true k.op l.op h))))
 same_seen sent (event.Read client seq f r p key) (event.Read other number g s q last) h t =
-    ap (λ x. Some (Invoke x)) (same_call other number client seq (Get last) (Get key) t (ap (λ o. Get o) (sym ((bytes_eq-Decides key last).0 h))))
+    ap (λ x. Some (Invoke x)) (same_call other number client seq (Get last) (Get key) t
+    (ap (λ o. Get o) (sym ((bytes_eq-Decides key last).0 h))))
 same_seen sent (event.Session client seq f p key) (event.Session other number g q last) h t = refl
 same_seen sent e f h t = cc
 
-seen_token : (sent : List Letter) (e : Event) (x : Call) → seen_as sent why.Sent e ≡ Some (Invoke x) → token_of e ≡ Some x.token
+seen_token : (sent : List Letter) (e : Event) (x : ClientCall) → seen_as sent why.Sent e ≡ Some (Invoke x) → token_of e ≡ Some x.token
 seen_token sent (event.Write k b) x h = cc
 seen_token sent (event.Read client seq f r p key) x h = cc
 seen_token sent e x h = cc
 
 -- each call is in the history
-pub call_invoked : (c : Cluster) (es : List Event) (e : Event) (x : Call) → WentOut (run c es) e
+pub call_invoked : (c : Cluster) (es : List Event) (e : Event) (x : ClientCall) → WentOut (run c es) e
     → seen_as (run c es).sent why.Sent e ≡ Some (Invoke x) → Member (Invoke x) (history_of (run c es))
 call_invoked c es e x m q =
     let w = run c es in
@@ -89,7 +90,7 @@ call_invoked c es e x m q =
     let p = and_parts (was_sent f.first) (same_token x.token (token_of f.first.event)) f.passes in
     let t = token_is x.token (token_of f.first.event) p.1 in
     let s = sent_is f.first.why p.0 in
-    let there : Member f.first w.events = subst (λ l. Member f.first l) (sym f.split) (Member-there f.before f.later f.first) in
+    let there : Member f.first w.events = subst (λ l. Member f.first l) (sym f.split) (Member-in f.first f.before f.later) in
     let out : WentOut w f.first.event = subst (λ y. Member (happens f.first.event y) w.events) s there in
     let same = requests_are_once c es x.token e f.first.event m out own t in
     let seen : seen_as w.sent f.first.why f.first.event ≡ Some (Invoke x) =

@@ -1,6 +1,6 @@
 -- Where commands stand among all of a list of values, and how many stand in its first slots.
-use Rattle.cx_inv_run.proofs.Common.{◌≡◌, ◌⊎◌, ℕ, zero, suc, ◌+◌, ◌<◌, ◌≤◌, List, [], ◌∷◌, ◌++◌, take, length, inl, inr, ap, sym, subst, ◌∙◌}
-use Rattle.cx_inv_run.proofs.Common.{refl, arith, slice_get, Some, append_assoc, append-nil, length-append, Command, Value, commands_of}
+use Rattle.cx_inv_run.proofs.Common.{◌≡◌, ◌⊎◌, ℕ, zero, suc, ◌<◌, ◌≤◌, List, [], ◌∷◌, ◌++◌, take, length, inl, inr, ap, sym, ◌∙◌}
+use Rattle.cx_inv_run.proofs.Common.{refl, arith, append_assoc, length-append, Command, Value, commands_of}
 use Rattle.cx_inv_run.proofs.Common.{command_list, fold, map_behind, Stands}
 use Rattle.cx_inv_list.proofs.Right.{list_more}
 
@@ -52,8 +52,7 @@ front_and_more (suc n) (v ∷ values) =
 pub stands_split : (values : List Value) (s : ℕ) (before : List Command) (c : Command) → Stands values s before c
     → (later : List Command) × (command_list values ≡ before ++ c ∷ later)
 stands_split values s before c h =
-    let r = front_and_more (suc s) values in
-    (
+    let r = front_and_more (suc s) values in (
       h.later ++ r.0,
       r.1 ∙ ap (λ d. d ++ r.0) (list_more values s h.value h.has ∙ ap (λ d. command_list (take s values) ++ d) h.place
           ∙ sym (append_assoc (command_list (take s values)) h.earlier (c ∷ h.later)) ∙ ap (λ d. d ++ c ∷ h.later) (sym h.before_is))
@@ -73,8 +72,15 @@ stands_below values s before c h =
     let e = ap (λ (l : List Command). length l) h.before_is in
     let m = ap (λ (l : List Command). length l) (list_more values s h.value h.has) in
     let p = ap (λ (l : List Command). length l) h.place in
-    omega (arith, e, m, p, length-append (command_list (take s values)) h.earlier,
-    length-append (command_list (take s values)) (commands_of h.value), length-append h.earlier (c ∷ h.later))
+    omega (
+      arith,
+      e,
+      m,
+      p,
+      length-append (command_list (take s values)) h.earlier,
+      length-append (command_list (take s values)) (commands_of h.value),
+      length-append h.earlier (c ∷ h.later),
+    )
 
 pub mark_grows : (values : List Value) (m n : ℕ) → m ≤ n → mark_of m values ≤ mark_of n values
 mark_grows values zero n l = omega arith
@@ -82,7 +88,8 @@ mark_grows [] (suc m) n l = omega arith
 mark_grows (v ∷ values) (suc m) zero l = absurd (omega arith)
 mark_grows (v ∷ values) (suc m) (suc n) l =
     let r = mark_grows values m n (omega arith) in
-    omega (arith, r, length-append (commands_of v) (command_list (take m values)), length-append (commands_of v) (command_list (take n values)))
+    omega (arith, r, length-append (commands_of v) (command_list (take m values)),
+    length-append (commands_of v) (command_list (take n values)))
 
 pub mark_within : (values : List Value) (n : ℕ) → mark_of n values ≤ length (command_list values)
 mark_within values n =

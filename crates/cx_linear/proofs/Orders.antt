@@ -1,34 +1,36 @@
 -- The order of the calls of a run: its command list, woven with the reads that were answered.
-use Rattle.cx_inv_run.proofs.Common.{◌≡◌, ◌⊎◌, ℕ, zero, suc, ◌+◌, ◌<◌, ◌≤◌, true, false, not, ◌&&◌, List, [], ◌∷◌, ◌++◌, length, take, map}
-use Rattle.cx_inv_run.proofs.Common.{Option, Some, inl, inr, ap, sym, subst, ◌∙◌, refl, arith, slice_get, cases_lt, append_assoc, not-true}
-use Rattle.cx_inv_run.proofs.Common.{same_Some, length-append, true≢false, Cluster, Command, Event, Happened, Reply, RoleId, Token, Letter}
-use Rattle.cx_inv_run.proofs.Common.{Pair, Value, letter, command_list, map_behind, mark_told, was_asked, Stands, Member, Member-at, Member-first, run, WasRead}
+use Rattle.cx_inv_run.proofs.Common.{◌≡◌, ◌⊎◌, ℕ, zero, suc, ◌+◌, ◌<◌, ◌≤◌, true, false, List, [], ◌∷◌, ◌++◌, length, take, map}
+use Rattle.cx_inv_run.proofs.Common.{Option, Some, inl, inr, ap, sym, subst, ◌∙◌, refl, arith, slice_get, cases_lt, not-true}
+use Rattle.cx_inv_run.proofs.Common.{same_Some, length-append, true≢false, Cluster, Command, Event, Happened, Token, Letter}
+use Rattle.cx_inv_run.proofs.Common.{Pair, letter, command_list, map_behind, mark_told, was_asked, Stands, Member}
+use Rattle.cx_inv_run.proofs.Common.{Member-at, Member-first, run, WasRead}
 use Rattle.cx_base.specs.declared.event.Event.TheVariants as event
 use Rattle.cx_base.specs.declared.why.Why.TheVariants as why
-use Rattle.cx_base.specs.Fold.{acts, reply_of, text_at, fold}
+use Rattle.cx_base.specs.Fold.{acts, text_at}
 use Rattle.cx_letter.specs.declared.message.Msg.TheVariants as msg
 use Rattle.cx_inv_run.proofs.Members.{at-Member}
 use Rattle.cx_model.specs.Promises.{WantsText}
 use Rattle.cx_inv_list.proofs.Answers.{one_list, commands_were_asked, reads_tell}
 use Rattle.cx_inv_read.proofs.Requests.{was_asked_by}
-use Rattle.cx_linear.specs.Linearizable.{Call, Operation, Response, CallEvent, IsLinearization, left_by, left_by_all, response_by}
-use Rattle.cx_linear.specs.Linearizable.{Update, Get, Replied, Found, Invoke, Respond}
+use Rattle.cx_linear.specs.Linearizable.{ClientCall, Response, left_by, left_by_all, response_by}
+use Rattle.cx_linear.specs.Linearizable.{Replied, Found, Invoke, Respond}
 use Rattle.cx_linear.specs.History.{seen_as, counts, history_of, IsLinearizableRun}
-use Rattle.cx_linear.proofs.Calls.{IsDelivery, IsReply, IsText, call_invoked, response_delivered, response_sent, same_parts}
+use Rattle.cx_linear.proofs.Calls.{IsReply, IsText, call_invoked, response_delivered, response_sent, same_parts}
 use Rattle.cx_linear.proofs.Logs.{mark_of, split_stands, stands_split, stands_from, stands_below, mark_grows, mark_within, fold_front}
-use Rattle.cx_linear.proofs.Runs.{happens, Moment, cut_run, heard_then, sent_begins}
-use Rattle.cx_linear.proofs.Seen.{IsSeen, Member-there, cuts, one_response, seen_both, seen_one}
-use Rattle.cx_linear.proofs.Texts.{Text, values, texts, texts_have, text_item, reads, reads_are, reads_get, reads_have, reads_ranked, reads_sorted}
+use Rattle.cx_linear.proofs.Runs.{happens, cut_run, heard_then, sent_begins}
+use Rattle.cx_inv_list.proofs.Once.{Member-in}
+use Rattle.cx_linear.proofs.Seen.{IsSeen, cuts, one_response, seen_both, seen_one}
+use Rattle.cx_linear.proofs.Texts.{Text, values, texts_have, text_item, reads, reads_are, reads_get, reads_have, reads_ranked, reads_sorted}
 use Rattle.cx_linear.proofs.Times.{IsTold, apart, command_later, read_asked, read_later}
-use Rattle.cx_linear.proofs.Weave.{Item, IsBefore, HasPlace, Sorted, Acting, call_by, command_item, left_after, weave, weave_has, weave_sorted}
+use Rattle.cx_linear.proofs.Weave.{Item, IsBefore, HasPlace, Sorted, call_by, command_item, left_after, weave, weave_has, weave_sorted}
 use Rattle.cx_linear.proofs.Weave.{command_place, read_place, placed_before, placed_same}
 
 -- the calls of items, and what they leave
 
-abbrev calls_of : List Item → List Call
+abbrev calls_of : List Item → List ClientCall
 calls_of items = map (λ (x : Item). x.call) items
 
-calls_at : (items : List Item) (n : ℕ) (x : Call) → slice_get (calls_of items) n ≡ Some x
+calls_at : (items : List Item) (n : ℕ) (x : ClientCall) → slice_get (calls_of items) n ≡ Some x
     → (i : Item) × (slice_get items n ≡ Some i) × (i.call ≡ x)
 calls_at [] n x h = cc
 calls_at (i ∷ items) zero x h = (i, refl, same_Some i.call x h)
@@ -47,7 +49,7 @@ split_front [] rest x = refl
 split_front (i ∷ front) rest x = ap (λ l. i.call ∷ l) (split_front front rest x)
 
 -- an item with its place answers so
-abbrev IsAnsweredAt : List Call → Call → List Pair → Type 0
+abbrev IsAnsweredAt : List ClientCall → ClientCall → List Pair → Type 0
 IsAnsweredAt order x map = (n : ℕ) × (slice_get order n ≡ Some x) × (left_by_all [] (take n order) ≡ map)
 
 answered_at : (items : List Item) (x : Item) (map : List Pair) → HasPlace items x [] map → IsAnsweredAt (calls_of items) x.call map
@@ -70,7 +72,7 @@ module _ (c : Cluster) (es : List Event) where
   abbrev items : List Item
   items = weave (reads c es) (reads_sorted c es) (reads_ranked c es) (reads_get c es) 0 [] commands
 
-  abbrev order : List Call
+  abbrev order : List ClientCall
   order = calls_of items
 
   sorted : Sorted items
@@ -93,20 +95,20 @@ module _ (c : Cluster) (es : List Event) where
   kinds x m = elim (weave_has (reads c es) (reads_sorted c es) (reads_ranked c es) (reads_get c es) commands 0 [] x m) [
     | inl r ↦ (let q = reads_are c es (0 + r.0) x r.2 in inl (q.0, q.2))
     | inr a ↦ (let s = split_stands (values c es) a.earlier a.later a.command a.split in
-      inr (record {
-        slot = s.0;
-        before = a.earlier;
-        command = a.command;
-        stands = s.1;
-        acting = a.acts_here;
-        item_is = a.item_is ∙ ap (λ n. command_item n a.command) (omega arith);
-      }))
+        inr (record {
+          slot = s.0;
+          before = a.earlier;
+          command = a.command;
+          stands = s.1;
+          acting = a.acts_here;
+          item_is = a.item_is ∙ ap (λ n. command_item n a.command) (omega arith);
+        }))
   ]
 
-  abbrev IsItemAt : ℕ → Call → Type 0
+  abbrev IsItemAt : ℕ → ClientCall → Type 0
   IsItemAt n x = (i : Item) × (slice_get items n ≡ Some i) × (i.call ≡ x) × (IsTextItem i ⊎ IsCommand i)
 
-  item_at : (n : ℕ) (x : Call) → slice_get order n ≡ Some x → IsItemAt n x
+  item_at : (n : ℕ) (x : ClientCall) → slice_get order n ≡ Some x → IsItemAt n x
   item_at n x h = let i = calls_at items n x h in (i.0, i.1, i.2, kinds i.0 (Member-at i.0 items n i.1))
 
   was_sent : (x : Item) (h : IsCommand x) → (b : ℕ)
@@ -116,7 +118,8 @@ module _ (c : Cluster) (es : List Event) where
   item_invoked : (i : Item) → IsTextItem i ⊎ IsCommand i → Member (Invoke i.call) (history_of (run c es))
   item_invoked i (inl (r, e)) =
       let a = r.asked in
-      call_invoked c es (event.Read r.token.client r.token.seq a.0 a.1 a.2 r.key) i.call a.3 (ap (λ (x : Item). Some (Invoke x.call)) (sym e))
+      call_invoked c es (event.Read r.token.client r.token.seq a.0 a.1 a.2 r.key) i.call a.3
+      (ap (λ (x : Item). Some (Invoke x.call)) (sym e))
   item_invoked i (inr h) =
       let a = was_sent i h in
       call_invoked c es (event.Write h.command a.0) i.call a.1 (ap (λ (x : Item). Some (Invoke x.call)) (sym h.item_is))
@@ -159,8 +162,7 @@ module _ (c : Cluster) (es : List Event) where
   same_item i j (inl (r, e)) (inl (q, f)) t =
       let own : r.token ≡ q.token = sym (ap (λ (x : Item). x.call.token) e) ∙ t ∙ ap (λ (x : Item). x.call.token) f in
       let s = same_text r q own in
-      let n = same_mark r q s.1 in
-      (
+      let n = same_mark r q s.1 in (
         ap (λ (x : Item). x.rank) e ∙ ap (λ k. mark_of k (values c es) + mark_of k (values c es)) n ∙ sym (ap (λ (x : Item). x.rank) f),
         ap (λ (x : Item). x.turn) e ∙ ap (λ (l : List Happened). length l) s.0 ∙ sym (ap (λ (x : Item). x.turn) f),
       )
@@ -168,9 +170,9 @@ module _ (c : Cluster) (es : List Event) where
   same_item i j (inr h) (inl (r, e)) t = absurd (token_apart j i r e h t)
   same_item i j (inr g) (inr h) t =
       let own = sym (ap (λ (x : Item). x.call.token) g.item_is) ∙ t ∙ ap (λ (x : Item). x.call.token) h.item_is in
-      let once = one_list.none_acts_twice (values c es) g.slot h.slot g.before h.before g.command h.command g.stands h.stands g.acting h.acting
-      (ap (λ (u : Token). u.client) own) (ap (λ (u : Token). u.seq) own) in
-      (
+      let once = one_list.none_acts_twice (values c es) g.slot h.slot g.before h.before g.command h.command g.stands h.stands
+      g.acting h.acting
+      (ap (λ (u : Token). u.client) own) (ap (λ (u : Token). u.seq) own) in (
         ap (λ (x : Item). x.rank) g.item_is ∙ ap (λ (l : List Command). suc (length l + length l)) once.0
             ∙ sym (ap (λ (x : Item). x.rank) h.item_is),
         ap (λ (x : Item). x.turn) g.item_is ∙ sym (ap (λ (x : Item). x.turn) h.item_is),
@@ -179,10 +181,10 @@ module _ (c : Cluster) (es : List Event) where
   -- RESPONSES
 
   abbrev IsAnswered : Token → Response → Type 0
-  IsAnswered t r = (n : ℕ) × (x : Call) × (slice_get order n ≡ Some x) × (x.token ≡ t)
+  IsAnswered t r = (n : ℕ) × (x : ClientCall) × (slice_get order n ≡ Some x) × (x.token ≡ t)
       × (r ≡ response_by (left_by_all [] (take n order)) x.operation)
 
-  answered : (t : Token) (r : Response) (x : Call) (map : List Pair) → x.token ≡ t → r ≡ response_by map x.operation
+  answered : (t : Token) (r : Response) (x : ClientCall) (map : List Pair) → x.token ≡ t → r ≡ response_by map x.operation
       → IsAnsweredAt order x map → IsAnswered t r
   answered t r x map e q a = (a.0, x, a.1, e, q ∙ ap (λ m. response_by m x.operation) (sym a.2))
 
@@ -190,7 +192,8 @@ module _ (c : Cluster) (es : List Event) where
   reply_answered t r p =
       let h = (one_list.answers_are_right c es p.from p.to p.seq p.at p.reply p.sent_it).0 in
       let s = stands_split (values c es) h.slot h.before h.command h.stands in
-      let place = command_place (reads c es) (reads_sorted c es) (reads_ranked c es) (reads_get c es) h.before h.command s.0 [] 0 [] h.acting in
+      let place = command_place (reads c es) (reads_sorted c es) (reads_ranked c es) (reads_get c es)
+      h.before h.command s.0 [] 0 [] h.acting in
       let here : HasPlace items (command_item (0 + length h.before) h.command) [] (map_behind [] [] h.before) =
       subst (λ l. HasPlace (weave (reads c es) (reads_sorted c es) (reads_ranked c es) (reads_get c es) 0 [] l)
       (command_item (0 + length h.before) h.command) [] (map_behind [] [] h.before)) (sym s.1) place in
@@ -237,7 +240,7 @@ module _ (c : Cluster) (es : List Event) where
       let s = seen_one (run c es).sent (run c es).events at.0 (Respond t r) at.1 in
       let d = response_delivered (run c es).sent s.now.why s.now.event t r s.seen in
       elim (response_sent (run c es).sent d.letter_is.from d.letter_is.to d.letter_is.msg t r
-          (Member-at d.letter_is (run c es).sent d.number d.there) d.tells) [
+      (Member-at d.letter_is (run c es).sent d.number d.there) d.tells) [
         | inl p ↦ reply_answered t r p
         | inr p ↦ text_answered t r s p
       ]
@@ -272,10 +275,12 @@ module _ (c : Cluster) (es : List Event) where
       let b = sent_begins c then later in
       let final : Member (letter p.from p.to (msg.Answer p.seq p.at p.reply)) (run c es).sent =
       subst (λ l. Member (letter p.from p.to (msg.Answer p.seq p.at p.reply)) (run c l).sent) (sym split)
-      (subst (λ l. Member (letter p.from p.to (msg.Answer p.seq p.at p.reply)) l) (sym b.1) (Member-first _ (run c then).sent b.0 p.sent_it)) in
+      (subst (λ l. Member (letter p.from p.to (msg.Answer p.seq p.at p.reply)) l) (sym b.1)
+      (Member-first _ (run c then).sent b.0 p.sent_it)) in
       let g = (one_list.answers_are_right c es p.from p.to p.seq p.at p.reply final).0 in
       let own = ap (λ (x : Item). x.call.token) h.item_is in
-      let once = one_list.none_acts_twice (values c es) g.slot h.slot g.before h.before g.command h.command g.stands h.stands g.acting h.acting
+      let once = one_list.none_acts_twice (values c es) g.slot h.slot g.before h.before g.command h.command g.stands h.stands
+      g.acting h.acting
       (g.client_is ∙ p.client_is ∙ ap (λ (u : Token). u.client) own) (g.seq_is ∙ p.seq_is ∙ ap (λ (u : Token). u.seq) own) in
       let l = stands_below (values c es) g.slot g.before g.command g.stands in
       let next : p.at ≡ suc g.slot = g.at_is ∙ (omega arith) in
@@ -331,7 +336,7 @@ module _ (c : Cluster) (es : List Event) where
       was_asked_by t (run c then) (event.Session t.client t.seq floor replica key) m refl
 
   -- a read's response isn't before its invocation
-  responds_later : (then later : List Event) → es ≡ then ++ later → (k : Text c es) (x : Call)
+  responds_later : (then later : List Event) → es ≡ then ++ later → (k : Text c es) (x : ClientCall)
       (u : IsSeen (run c es).sent (run c es).events (Invoke x)) → (run c then).events ≡ u.before
       → was_asked k.token (run c then).events ≡ false → length u.before ≤ length (k.seen).before
   responds_later then later split k x u events unasked =
@@ -339,14 +344,15 @@ module _ (c : Cluster) (es : List Event) where
         | inl e ↦ (let l = ap (λ (x : List Happened). length x) e.0 in omega arith)
         | inr e ↦ elim e [
           | inl m ↦ (let l = ap (λ (x : List Happened). length x) m.1 in omega (arith, l, length-append u.before (u.now ∷ m.0)))
-          | inr m ↦ absurd (never (subst (λ l. Member (k.seen).now l) (sym (events ∙ m.1)) (Member-there (k.seen).before m.0 (k.seen).now)))
+          | inr m ↦ absurd (never (subst (λ l. Member (k.seen).now l) (sym (events ∙ m.1)) (Member-in (k.seen).now (k.seen).before m.0)))
         ]
       ]
     where
       never : Member (k.seen).now (run c then).events → ⊥
       never m =
           let heard = subst (λ h. Member h (run c then).events) k.now_is m in
-          let there = subst (λ l. slice_get (run c l).sent k.number ≡ Some (letter k.from k.to (msg.ReadAnswer k.token.seq k.n k.found))) split
+          let there = subst (λ l. slice_get (run c l).sent k.number ≡ Some (letter k.from k.to (msg.ReadAnswer k.token.seq k.n k.found)))
+          split
           k.there in
           let sent = heard_then c then later k.number k.cut _ heard there in
           let right = reads_tell c then k.from k.to k.token.seq k.n k.found sent in
@@ -397,32 +403,33 @@ module _ (c : Cluster) (es : List Event) where
       let unasked = subst (λ x. was_asked j.call.token x ≡ false) (sym q.events_are) none in
       let member = subst (λ x. Member s.now x) (sym q.events_are)
       (earlier (cuts s.before s.later u.before u.later s.now u.now (sym s.split ∙ u.split))) in
-      below_first q.then q.later q.split (length s.before) i j (heard_below q.then q.later q.split i a r s member) b u q.events_are unasked l
+      below_first q.then q.later q.split (length s.before) i j (heard_below q.then q.later q.split i a r s member) b
+      u q.events_are unasked l
     where
       earlier : ((s.before ≡ u.before) × (s.now ≡ u.now)) ⊎ (((m : List Happened) × (u.before ≡ s.before ++ s.now ∷ m))
           ⊎ ((m : List Happened) × (s.before ≡ u.before ++ u.now ∷ m))) → Member s.now u.before
       earlier (inl e) = let k = ap (λ (x : List Happened). length x) e.0 in absurd (omega arith)
-      earlier (inr (inl m)) = subst (λ x. Member s.now x) (sym m.1) (Member-there s.before m.0 s.now)
+      earlier (inr (inl m)) = subst (λ x. Member s.now x) (sym m.1) (Member-in s.now s.before m.0)
       earlier (inr (inr m)) =
           let k = ap (λ (x : List Happened). length x) m.1 in absurd (omega (arith, k, l, length-append u.before (u.now ∷ m.0)))
 
-  real_time : (i j m n : ℕ) (x y : Call) (r : Response)
+  real_time : (i j m n : ℕ) (x y : ClientCall) (r : Response)
       → slice_get (history_of (run c es)) i ≡ Some (Respond x.token r) → slice_get (history_of (run c es)) j ≡ Some (Invoke y) → i < j
       → slice_get order m ≡ Some x → slice_get order n ≡ Some y → m < n
   real_time i j m n x y r g h l p q =
       let a = item_at m x p in
       let b = item_at n y q in
-      let there = subst (λ (z : Call). slice_get (history_of (run c es)) i ≡ Some (Respond z.token r)) (sym a.2) g in
+      let there = subst (λ (z : ClientCall). slice_get (history_of (run c es)) i ≡ Some (Respond z.token r)) (sym a.2) g in
       let asked = subst (λ z. slice_get (history_of (run c es)) j ≡ Some (Invoke z)) (sym b.2) h in
       let both = seen_both (run c es).sent (run c es).events (run c es).events [] refl i j (Respond (a.0).call.token r) (Invoke (b.0).call)
       there asked l in
       placed_before items sorted m n a.0 b.0 a.1 b.1 (in_order a.0 b.0 a.3 b.3 r both.0 both.1 both.2)
 
-  once : (m n : ℕ) (x y : Call) → slice_get order m ≡ Some x → slice_get order n ≡ Some y → x.token ≡ y.token → m ≡ n
+  once : (m n : ℕ) (x y : ClientCall) → slice_get order m ≡ Some x → slice_get order n ≡ Some y → x.token ≡ y.token → m ≡ n
   once m n x y p q t =
       let a = item_at m x p in
       let b = item_at n y q in
-      let same = same_item a.0 b.0 a.3 b.3 (ap (λ (z : Call). z.token) a.2 ∙ t ∙ sym (ap (λ (z : Call). z.token) b.2)) in
+      let same = same_item a.0 b.0 a.3 b.3 (ap (λ (z : ClientCall). z.token) a.2 ∙ t ∙ sym (ap (λ (z : ClientCall). z.token) b.2)) in
       placed_same items sorted m n a.0 b.0 a.1 b.1 same.0 same.1
 
   pub linearizable : IsLinearizableRun c es

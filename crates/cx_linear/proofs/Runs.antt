@@ -1,6 +1,7 @@
 -- The moments of a run: a beginning of its events is that of a run, and what a client heard was sent before.
-use Rattle.cx_inv_run.proofs.Common.{◌≡◌, ◌⊎◌, ℕ, zero, suc, Bool, true, false, List, [], ◌∷◌, ◌++◌, Option, None, Some, inl, inr, ap, sym}
-use Rattle.cx_inv_run.proofs.Common.{subst, ◌∙◌, refl, slice_get, append_assoc, append-nil, Cluster, Cut, Event, Happened, Why, Letter, Member}
+use Rattle.cx_inv_run.proofs.Common.{◌≡◌, ℕ, List, [], ◌∷◌, ◌++◌, Option, None, Some, inl, inr, ap, sym}
+use Rattle.cx_inv_run.proofs.Common.{subst, ◌∙◌, refl, slice_get, append_assoc, append-nil, Cluster, Cut}
+use Rattle.cx_inv_run.proofs.Common.{Event, Happened, Why, Letter, Member}
 use Rattle.cx_inv_run.proofs.Common.{Begins, World, change, come, run, run_from, start, run_append, Member-cases, Member-at}
 use Rattle.cx_base.specs.declared.event.Event.TheVariants as event
 use Rattle.cx_base.specs.declared.why.Why.TheVariants as why
@@ -97,6 +98,7 @@ pub heard_then : (c : Cluster) (then later : List Event) (n : ℕ) (cut : Cut) (
 heard_then c then later n cut d m g =
     let r = all_heard c then n cut m in
     let b = sent_begins c then later in
-    let there : slice_get (run c (then ++ later)).sent n ≡ Some r.0 = ap (λ l. slice_get l n) b.1 ∙ get_front (run c then).sent b.0 n r.0 r.1 in
+    let there : slice_get (run c (then ++ later)).sent n ≡ Some r.0 =
+    ap (λ l. slice_get l n) b.1 ∙ get_front (run c then).sent b.0 n r.0 r.1 in
     let same : Some r.0 ≡ Some d = sym there ∙ g in
     Member-at d (run c then).sent n (r.1 ∙ same)

@@ -1,11 +1,13 @@
 -- What stands in the history of a list of events: which event it is, after which others.
-use Rattle.cx_inv_run.proofs.Common.{◌≡◌, ◌⊎◌, ℕ, zero, suc, ◌+◌, ◌<◌, ◌≤◌, Bool, true, false, not, ◌&&◌, List, [], ◌∷◌, ◌++◌, length, Option}
+use Rattle.cx_inv_run.proofs.Common.{◌≡◌, ◌⊎◌, ℕ, zero, suc, ◌<◌, ◌≤◌, Bool, true, false, not, List, [], ◌∷◌, ◌++◌, length, Option}
 use Rattle.cx_inv_run.proofs.Common.{None, Some, inl, inr, ap, sym, subst, ◌∙◌, refl, arith, slice_get, append_assoc, append-nil, same_Some}
-use Rattle.cx_inv_run.proofs.Common.{length-append, and_parts, and_from, not-true, both_ways, number_itself, Happened, Token, Letter, Member}
+use Rattle.cx_inv_run.proofs.Common.{length-append, and_parts, and_from, not-true, both_ways, number_itself}
+use Rattle.cx_inv_run.proofs.Common.{Happened, Token, Letter, Member}
 use Rattle.cx_inv_run.proofs.Common.{Member-first, Member-second, Member-any}
+use Rattle.cx_inv_list.proofs.Once.{Member-in}
 use Rattle.cx_linear.specs.Linearizable.{Response, CallEvent}
-use Rattle.cx_linear.specs.Linearizable.{Invoke, Respond}
-use Rattle.cx_linear.specs.History.{seen_as, is_response_to, was_session, was_answered, counts, counted, history_from}
+use Rattle.cx_linear.specs.Linearizable.{Respond}
+use Rattle.cx_linear.specs.History.{seen_as, is_response_to, was_session, was_answered, counts, if_counts, history_from}
 
 -- one list cut at two of its elements
 pub cuts : {X : Type 0} (a b c d : List X) (h g : X) → a ++ h ∷ b ≡ c ++ g ∷ d
@@ -24,9 +26,6 @@ cuts (y ∷ a) b (z ∷ c) d h g e =
       ]
     ]
 
-pub Member-there : {X : Type 0} (a b : List X) (h : X) → Member h (a ++ h ∷ b)
-Member-there a b h = Member-second h a (h ∷ b) (inl refl)
-
 module _ (sent : List Letter) where
   -- an event that the history has as this
   pub record IsSeen (events : List Happened) (x : CallEvent) : Type 0 where
@@ -38,12 +37,12 @@ module _ (sent : List Letter) where
     pub counted : counts sent before x ≡ true
 
   counted_if : (done : List Happened) (z : CallEvent) (b : Bool) → counts sent done z ≡ b
-      → (counted sent done (Some z) ≡ []) ⊎ ((counts sent done z ≡ true) × (counted sent done (Some z) ≡ z ∷ []))
+      → (if_counts sent done (Some z) ≡ []) ⊎ ((counts sent done z ≡ true) × (if_counts sent done (Some z) ≡ z ∷ []))
   counted_if done z true e = inr (e, rw e refl)
   counted_if done z false e = inl (rw e refl)
 
-  counted_cases : (done : List Happened) (o : Option CallEvent) → (counted sent done o ≡ [])
-      ⊎ ((z : CallEvent) × (o ≡ Some z) × (counts sent done z ≡ true) × (counted sent done o ≡ z ∷ []))
+  counted_cases : (done : List Happened) (o : Option CallEvent) → (if_counts sent done o ≡ [])
+      ⊎ ((z : CallEvent) × (o ≡ Some z) × (counts sent done z ≡ true) × (if_counts sent done o ≡ z ∷ []))
   counted_cases done None = inl refl
   counted_cases done (Some z) = elim (counted_if done z (counts sent done z) refl) [
     | inl e ↦ inl e
@@ -120,10 +119,12 @@ module _ (sent : List Letter) where
     seen_both [] done e i j x y g k l = cc
     seen_both (h ∷ rest) done e i j x y g k l = elim (counted_cases done (seen_as sent h.why h.event)) [
       | inl q ↦ seen_both rest (done ++ h ∷ []) (next_split done rest h e) i j x y
-          (subst (λ l. slice_get (l ++ rests done h rest) i ≡ Some x) q g) (subst (λ l. slice_get (l ++ rests done h rest) j ≡ Some y) q k) l
+          (subst (λ l. slice_get (l ++ rests done h rest) i ≡ Some x) q g)
+          (subst (λ l. slice_get (l ++ rests done h rest) j ≡ Some y) q k) l
       | inr r ↦ both_here done rest h x y e
           (λ m n p o b. seen_both rest (done ++ h ∷ []) (next_split done rest h e) m n x y p o b) i j r.0 r.1 r.2
-          (subst (λ l. slice_get (l ++ rests done h rest) i ≡ Some x) r.3 g) (subst (λ l. slice_get (l ++ rests done h rest) j ≡ Some y) r.3 k) l
+          (subst (λ l. slice_get (l ++ rests done h rest) i ≡ Some x) r.3 g)
+          (subst (λ l. slice_get (l ++ rests done h rest) j ≡ Some y) r.3 k) l
     ]
 
     pub seen_one : (i : ℕ) (x : CallEvent) → slice_get (history_from sent [] all) i ≡ Some x → IsSeen all x
@@ -133,11 +134,11 @@ module _ (sent : List Letter) where
   pub seen_stands : (a : List Happened) (h : Happened) (b done : List Happened) (x : CallEvent) → seen_as sent h.why h.event ≡ Some x
       → counts sent (done ++ a) x ≡ true → Member x (history_from sent done (a ++ h ∷ b))
   seen_stands [] h b done x q t =
-      Member-first x (counted sent done (seen_as sent h.why h.event)) (history_from sent (done ++ h ∷ []) b)
+      Member-first x (if_counts sent done (seen_as sent h.why h.event)) (history_from sent (done ++ h ∷ []) b)
       (let e : counts sent done x ≡ true = ap (λ l. counts sent l x) (sym (append-nil done)) ∙ t in
-      subst (λ o. Member x (counted sent done o)) (sym q) (rw e (inl refl)))
+      subst (λ o. Member x (if_counts sent done o)) (sym q) (rw e (inl refl)))
   seen_stands (z ∷ a) h b done x q t =
-      Member-second x (counted sent done (seen_as sent z.why z.event)) (history_from sent (done ++ z ∷ []) (a ++ h ∷ b))
+      Member-second x (if_counts sent done (seen_as sent z.why z.event)) (history_from sent (done ++ z ∷ []) (a ++ h ∷ b))
       (seen_stands a h b (done ++ z ∷ []) x q (ap (λ l. counts sent l x) (append_assoc done (z ∷ []) a) ∙ t))
 
   response_true : (t : Token) (r : Response) (h : Happened) → seen_as sent h.why h.event ≡ Some (Respond t r)
@@ -152,10 +153,11 @@ module _ (sent : List Letter) where
       let all = before ++ h ∷ m in
       both_ways (was_answered sent t all)
       (not-true (was_answered sent t all) (and_parts (not (was_session t all)) (not (was_answered sent t all)) k).1)
-      (Member-any (λ (x : Happened). is_response_to t (seen_as sent x.why x.event)) h all (Member-there before m h) (response_true t q h e))
+      (Member-any (λ (x : Happened). is_response_to t (seen_as sent x.why x.event)) h all (Member-in h before m) (response_true t q h e))
 
   -- so a call has one response
-  pub one_response : (events : List Happened) (t : Token) (r q : Response) (s : IsSeen events (Respond t r)) (u : IsSeen events (Respond t q))
+  pub one_response : (events : List Happened) (t : Token) (r q : Response) (s : IsSeen events (Respond t r))
+      (u : IsSeen events (Respond t q))
       → (s.before ≡ u.before) × (s.now ≡ u.now)
   one_response events t r q s u = elim (cuts s.before s.later u.before u.later s.now u.now (sym s.split ∙ u.split)) [
     | inl e ↦ e

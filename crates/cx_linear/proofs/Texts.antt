@@ -1,8 +1,9 @@
 -- The reads of a run that were answered, in the order of their first answers.
-use Rattle.cx_inv_run.proofs.Common.{◌≡◌, ◌⊎◌, ℕ, suc, ◌+◌, ◌<◌, ◌≤◌, Bool, true, false, not, ◌&&◌, ◌==◌, List, [], ◌∷◌, ◌++◌, length, take}
+use Rattle.cx_inv_run.proofs.Common.{◌≡◌, ◌⊎◌, ℕ, ◌+◌, ◌<◌, ◌≤◌, Bool, true, false, not, ◌&&◌, ◌==◌, List, [], ◌∷◌, ◌++◌, length, take}
 use Rattle.cx_inv_run.proofs.Common.{Option, None, Some, inl, inr, ap, sym, subst, ◌∙◌, refl, arith, slice_get, if◌then◌else◌, append_assoc}
-use Rattle.cx_inv_run.proofs.Common.{append-nil, length-append, and_parts, and_from, not-true, both_ways, cases_Bool, number_itself}
-use Rattle.cx_inv_run.proofs.Common.{same_number, Cluster, Cut, Event, Happened, RoleId, Token, Value, Msg, letter, fold, text_at, chosen_prefix}
+use Rattle.cx_inv_run.proofs.Common.{append-nil, length-append, and_parts, and_from, not-true, both_ways, number_itself}
+use Rattle.cx_inv_run.proofs.Common.{same_number, Cluster, Cut, Event, Happened, RoleId, Token, Value}
+use Rattle.cx_inv_run.proofs.Common.{Msg, letter, fold, text_at, chosen_prefix}
 use Rattle.cx_inv_run.proofs.Common.{make_token}
 use Rattle.cx_inv_run.proofs.Common.{Member, Member-any, Member-at, Member-cases, Member-first, by_test, run, WasRead, WasSession}
 use Rattle.cx_base.specs.declared.event.Event.TheVariants as event
@@ -11,12 +12,13 @@ use Rattle.cx_letter.specs.declared.message.Msg.TheVariants as msg
 use Rattle.cx_inv_list.proofs.Answers.{reads_tell}
 use Rattle.cx_linear.specs.Linearizable.{CallEvent}
 use Rattle.cx_linear.specs.Linearizable.{Get, Replied, Found, Invoke, Respond}
-use Rattle.cx_linear.specs.History.{told_by, seen_as, is_session_of, was_session, was_answered, counts}
-use Rattle.cx_linear.proofs.Calls.{IsDelivery, response_delivered}
+use Rattle.cx_linear.specs.History.{told_by, seen_as, is_session_of, was_session, counts}
+use Rattle.cx_linear.proofs.Calls.{response_delivered}
 use Rattle.cx_linear.proofs.Logs.{mark_of}
-use Rattle.cx_linear.proofs.Runs.{happens, Moment, cut_run, heard_then}
-use Rattle.cx_linear.proofs.Seen.{IsSeen, Member-there}
-use Rattle.cx_linear.proofs.Weave.{Item, IsBefore, IsGet, Sorted}
+use Rattle.cx_linear.proofs.Runs.{happens, cut_run, heard_then}
+use Rattle.cx_inv_list.proofs.Once.{Member-in}
+use Rattle.cx_linear.proofs.Seen.{IsSeen}
+use Rattle.cx_linear.proofs.Weave.{Item, IsGet, Sorted}
 
 found_parts : (t u : Token) (x y : Option (List ℕ)) → Some (Respond t (Found x)) ≡ Some (Respond u (Found y)) → (t ≡ u) × (x ≡ y)
 found_parts t u x y e = (cc, cc)
@@ -89,7 +91,7 @@ module _ (c : Cluster) (es : List Event) where
       ≡ Some (letter d.letter_is.from d.letter_is.to (msg.ReadAnswer t.seq m.0 found))) q.split there in
       let heard : Member (happens (event.Deliver d.number d.cut) why.Heard) (run c q.then).events =
       subst (λ l. Member (happens (event.Deliver d.number d.cut) why.Heard) l) (sym q.events_are)
-      (subst (λ h. Member h (s.before ++ s.now ∷ [])) now (Member-there s.before [] s.now)) in
+      (subst (λ h. Member h (s.before ++ s.now ∷ [])) now (Member-in s.now s.before [])) in
       let sent_then = heard_then c q.then q.later d.number d.cut _ heard there_then in
       let first = reads_tell c q.then d.letter_is.from d.letter_is.to t.seq m.0 found sent_then in
       let right = reads_tell c es d.letter_is.from d.letter_is.to t.seq m.0 found (Member-at _ w.sent d.number there) in
@@ -100,8 +102,7 @@ module _ (c : Cluster) (es : List Event) where
         | inr r ↦ absurd (no_session s.before s.now t _ first.key d.why_is s.counted r)
       ] in
       let key_is : first.key ≡ right.key =
-      right.one_key first.key (inl (subst (λ k. WasRead w.events k t.seq first.key) (sym m.2) asked)) in
-      (
+      right.one_key first.key (inl (subst (λ k. WasRead w.events k t.seq first.key) (sym m.2) asked)) in (
         record {
           token = t;
           found = found;
@@ -174,9 +175,10 @@ module _ (c : Cluster) (es : List Event) where
   picked_has a h (inl r) rs some = (r.0, inl refl, r.1, r.2)
   picked_has a h (inr n) rs some = absurd (some n)
 
-  picked_more : (a : List Happened) (h : Happened) (o : IsPick a h) (rs : List Text) (r : Text) → Member r rs → Member r (picked a h o rs)
-  picked_more a h (inl q) rs r m = inr m
-  picked_more a h (inr n) rs r m = m
+  picked_had : (a : List Happened) (h : Happened) (o : IsPick a h) (rs : List Text) (b : List Happened) (g : Happened)
+      → HasText b g rs → HasText b g (picked a h o rs)
+  picked_had a h (inl q) rs b g r = (r.0, inr r.1, r.2, r.3)
+  picked_had a h (inr n) rs b g r = r
 
   from_has : (rest a : List Happened) (e : (run c es).events ≡ a ++ rest) (d : List Happened) (h : Happened) (b : List Happened)
       → rest ≡ d ++ h ∷ b → (NoText (a ++ d) h → ⊥) → HasText (a ++ d) h (texts_from rest a e)
@@ -193,14 +195,10 @@ module _ (c : Cluster) (es : List Event) where
       let p : z ≡ y = cc in
       let k : rest ≡ d ++ h ∷ b = cc in
       let l : (a ++ z ∷ []) ++ d ≡ a ++ y ∷ d = append_assoc a (z ∷ []) d ∙ ap (λ u. a ++ u ∷ d) p in
-      let r = from_has rest (a ++ z ∷ []) (next_split a rest z e) d h b k (λ n. some (subst (λ x. NoText x h) l n)) in
-      (
-        r.0,
-        picked_more a z (pick_seen a z rest e (seen_as (run c es).sent z.why z.event) refl)
-            (texts_from rest (a ++ z ∷ []) (next_split a rest z e)) r.0 r.1,
-        r.2 ∙ l,
-        r.3,
-      )
+      subst (λ x. HasText x h (texts_from (z ∷ rest) a e)) l
+      (picked_had a z (pick_seen a z rest e (seen_as (run c es).sent z.why z.event) refl)
+      (texts_from rest (a ++ z ∷ []) (next_split a rest z e)) ((a ++ z ∷ []) ++ d) h
+      (from_has rest (a ++ z ∷ []) (next_split a rest z e) d h b k (λ n. some (subst (λ x. NoText x h) l n))))
 
   -- each read that was answered is one
   pub texts_have : (t : Token) (found : Option (List ℕ)) (s : IsSeenHere (Respond t (Found found)))
@@ -222,7 +220,8 @@ module _ (c : Cluster) (es : List Event) where
   picked_least a h (inl r) rs least q (inr m) = let l = least q m in omega arith
   picked_least a h (inr n) rs least q m = let l = least q m in omega arith
 
-  from_least : (rest a : List Happened) (e : (run c es).events ≡ a ++ rest) (q : Text) → Member q (texts_from rest a e) → length a ≤ turn_of q
+  from_least : (rest a : List Happened) (e : (run c es).events ≡ a ++ rest) (q : Text) → Member q (texts_from rest a e)
+      → length a ≤ turn_of q
   unfolding texts_from
   from_least [] a e q m = absurd m
   from_least (h ∷ rest) a e q m =
@@ -280,13 +279,15 @@ module _ (c : Cluster) (es : List Event) where
   mark_sorted : (k : ℕ) (rs : List Text) → Rising rs → Sorted (at_mark k rs)
   mark_sorted k [] s = tt
   mark_sorted k (r ∷ rs) s = by_test (λ l. Sorted l) (mark_of r.n values == k) (text_item r ∷ at_mark k rs) (at_mark k rs)
-      (λ t. (λ y m.
-      let q = mark_has k rs y m in
-      let l = s.0 q.0 q.1 in
-      let e = same_number (mark_of r.n values) k t in
-      let f = q.3 in
-      inr (subst (λ (z : Item). ((text_item r).rank ≡ z.rank) × ((text_item r).turn < z.turn)) (sym q.2) (omega arith, l)),
-      mark_sorted k rs s.1)) (λ t. mark_sorted k rs s.1)
+      (λ t. (
+        λ y m.
+            let q = mark_has k rs y m in
+            let l = s.0 q.0 q.1 in
+            let e = same_number (mark_of r.n values) k t in
+            let f = q.3 in
+            inr (subst (λ (z : Item). ((text_item r).rank ≡ z.rank) × ((text_item r).turn < z.turn)) (sym q.2) (omega arith, l)),
+        mark_sorted k rs s.1,
+      )) (λ t. mark_sorted k rs s.1)
 
   pub reads_sorted : (k : ℕ) → Sorted (reads k)
   unfolding texts

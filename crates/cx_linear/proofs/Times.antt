@@ -1,10 +1,9 @@
 -- What was first asked for after an answer comes later than it.
-use Rattle.cx_inv_run.proofs.Common.{◌≡◌, ◌⊎◌, ℕ, ◌<◌, ◌≤◌, true, false, List, [], ◌∷◌, ◌++◌, length, Option, Some, inl, inr, ap, sym, subst}
-use Rattle.cx_inv_run.proofs.Common.{◌∙◌, refl, arith, cases_lt, true≢false, Cluster, Command, Event, Happened, Reply, RoleId, Token, role}
-use Rattle.cx_inv_run.proofs.Common.{letter, commands_of, chosen_prefix, Stands, Member, run, token_of, was_asked, WasRead}
+use Rattle.cx_inv_run.proofs.Common.{◌≡◌, ◌⊎◌, ℕ, ◌<◌, ◌≤◌, true, false, List, ◌++◌, Option, Some, inl, inr, ap, sym, subst}
+use Rattle.cx_inv_run.proofs.Common.{◌∙◌, refl, arith, cases_lt, true≢false, Cluster, Command, Event, Reply, RoleId, Token, role}
+use Rattle.cx_inv_run.proofs.Common.{letter, commands_of, chosen_prefix, Stands, Member, run, was_asked, WasRead}
 use Rattle.cx_base.specs.declared.event.Event.TheVariants as event
 use Rattle.cx_base.specs.declared.role.Kind.TheVariants as kind
-use Rattle.cx_letter.specs.declared.message.Msg.{Msg}
 use Rattle.cx_letter.specs.declared.message.Msg.TheVariants as msg
 use Rattle.cx_letter.specs.Letter.{Letter}
 use Rattle.cx_model.specs.Promises.{WasSent}
@@ -16,7 +15,7 @@ use Rattle.cx_inv_list.proofs.Right.{get_there}
 use Rattle.cx_inv_read.proofs.Questions.{answers_hold}
 use Rattle.cx_inv_read.proofs.Requests.{was_asked_by}
 use Rattle.cx_inv_read.proofs.Results.{after_answers, after_reads}
-use Rattle.cx_linear.proofs.Seen.{Member-there}
+use Rattle.cx_inv_list.proofs.Once.{Member-in}
 use Rattle.cx_linear.proofs.Weave.{call_by}
 
 -- an answer by this number of slots was sent, to a command or to a read
@@ -25,7 +24,8 @@ IsTold sent at =
     ((from : RoleId) × (to : RoleId) × (seq : ℕ) × (reply : Reply) × Member (letter from to (msg.Answer seq at reply)) sent)
     ⊎ ((from : RoleId) × (to : RoleId) × (seq : ℕ) × (found : Option (List ℕ)) × Member (letter from to (msg.ReadAnswer seq at found)) sent)
 
-command_asked : (c : Cluster) (es : List Event) (t : Token) (command : Command) → t ≡ (call_by command).token → WasSent (run c es).events command
+command_asked : (c : Cluster) (es : List Event) (t : Token) (command : Command) → t ≡ (call_by command).token
+    → WasSent (run c es).events command
     → was_asked t (run c es).events ≡ true
 command_asked c es t command own (b, m) = was_asked_by t (run c es) (event.Write command b) m (ap (λ u. Some u) (sym own))
 
@@ -52,7 +52,8 @@ command_later c then later at (inr told) t unasked s before command h own =
         let same : h.value ≡ u.0 = agreement c (then ++ later) s h.value u.0 (prefix_chosen (run c (then ++ later)).kept s h.value h.has)
         (chosen_later c then later s u.0 old) in
         let member : Member command (commands_of u.0) =
-        subst (λ v. Member command (commands_of v)) same (subst (λ ks. Member command ks) (sym h.place) (Member-there h.earlier h.later command)) in
+        subst (λ v. Member command (commands_of v)) same
+        (subst (λ ks. Member command ks) (sym h.place) (Member-in command h.earlier h.later)) in
         true≢false (sym (command_asked c then t command own (chosen_asked c then s u.0 old command member)) ∙ unasked)
 
 -- a client is answered

@@ -1,33 +1,34 @@
 -- A log of commands, woven with reads: each read stands behind as many commands as its place says, in front of the next one.
-use Rattle.std.proofs.lemmas.Bool.{not_from_false}
 use Rattle.cx_inv_run.proofs.Common.{◌≡◌, ◌⊎◌, ℕ, zero, suc, ◌+◌, ◌<◌, ◌≤◌, Bool, true, false, List, [], ◌∷◌, ◌++◌, take, length, map, Some}
-use Rattle.cx_inv_run.proofs.Common.{inl, inr, ap, sym, subst, ◌∙◌, refl, arith, slice_get, if◌then◌else◌, cases_lt, append_assoc, append-nil}
-use Rattle.cx_inv_run.proofs.Common.{same_Some, Command, Pair, map_behind, Member, Member-cases, Member-first, Member-second, Member-at}
+use Rattle.cx_inv_run.proofs.Common.{inl, inr, ap, sym, subst, ◌∙◌, refl, arith}
+use Rattle.cx_inv_run.proofs.Common.{slice_get, if◌then◌else◌, cases_lt, append_assoc, append-nil}
+use Rattle.cx_inv_run.proofs.Common.{same_Some, Command, Pair, map_behind, Member, Member-cases, Member-at}
 use Rattle.cx_base.specs.Fold.{acts, map_after}
-use Rattle.cx_linear.specs.Linearizable.{Call, Operation, left_by, left_by_all}
+use Rattle.cx_linear.specs.Linearizable.{ClientCall, left_by}
 use Rattle.cx_linear.specs.Linearizable.{Update, Get}
 
 -- a call with its place: the ranks of reads behind k commands are 2k, that of the next command 2k + 1, and reads of one rank have turns
 pub record Item : Type 0 where
   pub rank : ℕ
   pub turn : ℕ
-  pub call : Call
+  pub call : ClientCall
 
 abbrev pub IsBefore : Item → Item → Type 0
 IsBefore x y = (x.rank < y.rank) ⊎ ((x.rank ≡ y.rank) × (x.turn < y.turn))
 
-pub not_both : (x y : Item) → IsBefore x y → IsBefore y x → ⊥
-not_both x y (inl l) (inl m) = omega arith
-not_both x y (inl l) (inr m) = let e = m.0 in omega arith
-not_both x y (inr l) (inl m) = let e = l.0 in omega arith
-not_both x y (inr l) (inr m) = let e = l.1 in let f = m.1 in omega arith
+pub never_both : (x y : Item) → IsBefore x y → IsBefore y x → ⊥
+never_both x y (inl l) (inl m) = omega arith
+never_both x y (inl l) (inr m) = let e = m.0 in omega arith
+never_both x y (inr l) (inl m) = let e = l.0 in omega arith
+never_both x y (inr l) (inr m) = let e = l.1 in let f = m.1 in omega arith
 
 -- each item is before all later ones
 abbrev pub Sorted : List Item → Type 0
 Sorted [] = Unit {0}
 Sorted (x ∷ xs) = ((y : Item) → Member y xs → IsBefore x y) × Sorted xs
 
-pub sorted_both : (xs ys : List Item) → Sorted xs → Sorted ys → ((x y : Item) → Member x xs → Member y ys → IsBefore x y) → Sorted (xs ++ ys)
+pub sorted_both : (xs ys : List Item) → Sorted xs → Sorted ys
+    → ((x y : Item) → Member x xs → Member y ys → IsBefore x y) → Sorted (xs ++ ys)
 sorted_both [] ys s t h = t
 sorted_both (x ∷ xs) ys s t h = (
   λ y m. elim (Member-cases y xs ys m) [ inl p ↦ s.0 y p | inr q ↦ h x y (inl refl) q ],
@@ -47,10 +48,10 @@ pub placed_before : (xs : List Item) → Sorted xs → (m n : ℕ) (x y : Item) 
 placed_before xs s m n x y g h b = elim (cases_lt m n) [
   | inl l ↦ l
   | inr l ↦ elim (cases_lt n m) [
-    | inl k ↦ absurd (not_both x y b (sorted_at xs s n m y x h g k))
+    | inl k ↦ absurd (never_both x y b (sorted_at xs s n m y x h g k))
     | inr k ↦ (let e : m ≡ n = omega arith in
         let q : x ≡ y = same_Some x y (sym g ∙ ap (λ i. slice_get xs i) e ∙ h) in
-        absurd (not_both x x (subst (λ u. IsBefore x u) (sym q) b) (subst (λ u. IsBefore x u) (sym q) b)))
+        absurd (never_both x x (subst (λ u. IsBefore x u) (sym q) b) (subst (λ u. IsBefore x u) (sym q) b)))
   ]
 ]
 
@@ -92,7 +93,8 @@ place_front xs ys x from map h = record {
   left = h.left;
 }
 
-place_behind : (xs ys : List Item) (x : Item) (from map : List Pair) → HasPlace ys x (left_after from xs) map → HasPlace (xs ++ ys) x from map
+place_behind : (xs ys : List Item) (x : Item) (from map : List Pair) → HasPlace ys x (left_after from xs) map
+    → HasPlace (xs ++ ys) x from map
 place_behind xs ys x from map h = record {
   front = xs ++ h.front;
   rest = h.rest;
@@ -125,7 +127,7 @@ get_place map (y ∷ xs) x h (inr m) =
     }
 
 -- the call of a command
-abbrev pub call_by : Command → Call
+abbrev pub call_by : Command → ClientCall
 call_by c = record { token = record { client = c.client; seq = c.seq }; operation = Update c.op }
 
 abbrev pub command_item : ℕ → Command → Item
@@ -246,7 +248,8 @@ module _ (reads : ℕ → List Item) (sorted : (k : ℕ) → Sorted (reads k)) (
       place_behind (reads k) (acting (acts before c) k c ++ weave (suc k) (before ++ c ∷ []) cs) x from map
       (place_behind (acting (acts before c) k c) (weave (suc k) (before ++ c ∷ []) cs) x (left_after from (reads k)) map
       (subst (λ u. HasPlace (weave (suc k) (before ++ c ∷ []) cs) x u map)
-      (sym (ap (λ u. left_after u (acting (acts before c) k c)) (gets_leave from (reads k) (gets k)) ∙ acting_leaves (acts before c) k c from)) h))
+      (sym (ap (λ u. left_after u (acting (acts before c) k c)) (gets_leave from (reads k) (gets k)) ∙ acting_leaves (acts before c) k c from))
+      h))
 
   command_here : (b : Bool) (c : Command) (k : ℕ) (ys : List Item) (map : List Pair) → b ≡ true
       → HasPlace (acting b k c ++ ys) (command_item k c) map map

@@ -2,20 +2,20 @@
 use Rattle.std.specs.Prelude.{List, [], ◌∷◌, None, Some, codes}
 use Rattle.cx_letter.specs.Prelude.{App, Len, Okay, Put}
 use Rattle.cx_linear.specs.History.{call}
-use Rattle.cx_linear.specs.Linearizable.{Call, CallEvent, IsLinearizable}
+use Rattle.cx_linear.specs.Linearizable.{ClientCall, CallEvent, IsLinearizable}
 use Rattle.cx_linear.specs.Linearizable.{Update, Get, Replied, Found, Invoke, Respond}
 
 -- client 0 puts x at the key a, or appends it; client 1 asks for the key, or appends y
-abbrev pub putting : Call
+abbrev pub putting : ClientCall
 putting = call 0 1 (Update (Put (codes "a") (codes "x")))
 
-abbrev pub appending : Call
+abbrev pub appending : ClientCall
 appending = call 0 1 (Update (App (codes "a") (codes "x")))
 
-abbrev pub getting : Call
+abbrev pub getting : ClientCall
 getting = call 1 1 (Get (codes "a"))
 
-abbrev pub appending_more : Call
+abbrev pub appending_more : ClientCall
 appending_more = call 1 1 (Update (App (codes "a") (codes "y")))
 
 -- a read that sees the put before it

@@ -1,19 +1,18 @@
 -- The history of a run: of its commands and its reads at readers. A session's read is no call of it, since it promises less.
-use Rattle.std.specs.Prelude.{ℕ, Bool, true, false, ◌&&◌, not, if◌then◌else◌, List, [], ◌∷◌, ◌++◌, slice_get, Option, None, Some}
+use Rattle.std.specs.Prelude.{ℕ, Bool, false, ◌&&◌, not, if◌then◌else◌, List, [], ◌∷◌, ◌++◌, slice_get, Option, None, Some}
 use Rattle.cx_letter.specs.Prelude.{list_any, Cluster, Event, Happened, Token, Letter, Why}
 use Rattle.cx_base.specs.declared.event.Event.TheVariants as event
 use Rattle.cx_base.specs.declared.why.Why.TheVariants as why
 use Rattle.cx_letter.specs.declared.message.Msg.{Msg}
 use Rattle.cx_letter.specs.declared.message.Msg.TheVariants as msg
 use Rattle.cx_model.specs.History.{was_asked}
-use Rattle.cx_model.specs.Promises.{OfEveryRun}
 use Rattle.cx_model.specs.Reader.{make_token}
 use Rattle.cx_model.specs.Request.{same_read}
 use Rattle.cx_model.specs.World.{World, run}
-use Rattle.cx_linear.specs.Linearizable.{Operation, Response, Call, CallEvent, IsLinearizable}
+use Rattle.cx_linear.specs.Linearizable.{Operation, ClientCall, CallEvent, IsLinearizable}
 use Rattle.cx_linear.specs.Linearizable.{Update, Get, Replied, Found, Invoke, Respond}
 
-abbrev pub call : ℕ → ℕ → Operation → Call
+abbrev pub call : ℕ → ℕ → Operation → ClientCall
 call client seq operation = record { token = make_token client seq; operation = operation }
 
 -- what a message tells a client of its number
@@ -55,14 +54,14 @@ abbrev pub counts : List Letter → List Happened → CallEvent → Bool
 counts sent before (Invoke x) = not (was_asked x.token before)
 counts sent before (Respond t r) = not (was_session t before) && not (was_answered sent t before)
 
-abbrev pub counted : List Letter → List Happened → Option CallEvent → List CallEvent
-counted sent before None = []
-counted sent before (Some x) = if counts sent before x then x ∷ [] else []
+abbrev pub if_counts : List Letter → List Happened → Option CallEvent → List CallEvent
+if_counts sent before None = []
+if_counts sent before (Some x) = if counts sent before x then x ∷ [] else []
 
 abbrev pub history_from : List Letter → List Happened → List Happened → List CallEvent
 history_from sent before [] = []
 history_from sent before (h ∷ later) =
-    counted sent before (seen_as sent h.why h.event) ++ history_from sent (before ++ h ∷ []) later
+    if_counts sent before (seen_as sent h.why h.event) ++ history_from sent (before ++ h ∷ []) later
 
 abbrev pub history_of : World → List CallEvent
 history_of w = history_from w.sent [] w.events

@@ -14,12 +14,12 @@ pub data Response : Type 0 where
   Found : Option (List ℕ) → Response
 
 -- a call, named by its client and the client's number for it
-pub record Call : Type 0 where
+pub record ClientCall : Type 0 where
   pub token : Token
   pub operation : Operation
 
 pub data CallEvent : Type 0 where
-  Invoke : Call → CallEvent
+  Invoke : ClientCall → CallEvent
   Respond : Token → Response → CallEvent
 
 -- the sequential map: what an operation leaves of it, and what it is answered
@@ -32,22 +32,23 @@ response_by map (Update op) = Replied (reply_of map op)
 response_by map (Get key) = Found (text_at key map)
 
 -- the map after calls, one after another
-abbrev pub left_by_all : List Pair → List Call → List Pair
+abbrev pub left_by_all : List Pair → List ClientCall → List Pair
 left_by_all map [] = map
 left_by_all map (x ∷ calls) = left_by_all (left_by map x.operation) calls
 
-pub record IsLinearization (history : List CallEvent) (order : List Call) : Type 0 where
+pub record IsLinearization (history : List CallEvent) (order : List ClientCall) : Type 0 where
   -- Each call of the order was invoked, and stands there once.
-  pub invoked : (n : ℕ) (x : Call) → slice_get order n ≡ Some x → Member (Invoke x) history
-  pub once : (m n : ℕ) (x y : Call) → slice_get order m ≡ Some x → slice_get order n ≡ Some y → x.token ≡ y.token → m ≡ n
+  pub invoked : (n : ℕ) (x : ClientCall) → slice_get order n ≡ Some x → Member (Invoke x) history
+  pub once : (m n : ℕ) (x y : ClientCall) → slice_get order m ≡ Some x → slice_get order n ≡ Some y → x.token ≡ y.token → m ≡ n
   -- Each call with a response has its place, where the map that was empty at first answers so.
   pub responses : (t : Token) (r : Response) → Member (Respond t r) history
-      → (n : ℕ) × (x : Call) × (slice_get order n ≡ Some x) × (x.token ≡ t) × (r ≡ response_by (left_by_all [] (take n order)) x.operation)
+      → (n : ℕ) × (x : ClientCall) × (slice_get order n ≡ Some x) × (x.token ≡ t)
+      × (r ≡ response_by (left_by_all [] (take n order)) x.operation)
   -- One whose response comes before another's invocation stands before it.
-  pub real_time : (i j m n : ℕ) (x y : Call) (r : Response)
+  pub real_time : (i j m n : ℕ) (x y : ClientCall) (r : Response)
       → slice_get history i ≡ Some (Respond x.token r) → slice_get history j ≡ Some (Invoke y) → i < j
       → slice_get order m ≡ Some x → slice_get order n ≡ Some y → m < n
 
 -- Calls without a response are in the order, completed, or left out.
 abbrev pub IsLinearizable : List CallEvent → Type 0
-IsLinearizable history = (order : List Call) × IsLinearization history order
+IsLinearizable history = (order : List ClientCall) × IsLinearization history order
