@@ -88,8 +88,12 @@ mark_grows [] (suc m) n l = omega arith
 mark_grows (v ∷ values) (suc m) zero l = absurd (omega arith)
 mark_grows (v ∷ values) (suc m) (suc n) l =
     let r = mark_grows values m n (omega arith) in
-    omega (arith, r, length-append (commands_of v) (command_list (take m values)),
-    length-append (commands_of v) (command_list (take n values)))
+    omega (
+      arith,
+      r,
+      length-append (commands_of v) (command_list (take m values)),
+      length-append (commands_of v) (command_list (take n values)),
+    )
 
 pub mark_within : (values : List Value) (n : ℕ) → mark_of n values ≤ length (command_list values)
 mark_within values n =

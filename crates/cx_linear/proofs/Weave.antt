@@ -248,8 +248,8 @@ module _ (reads : ℕ → List Item) (sorted : (k : ℕ) → Sorted (reads k)) (
       place_behind (reads k) (acting (acts before c) k c ++ weave (suc k) (before ++ c ∷ []) cs) x from map
       (place_behind (acting (acts before c) k c) (weave (suc k) (before ++ c ∷ []) cs) x (left_after from (reads k)) map
       (subst (λ u. HasPlace (weave (suc k) (before ++ c ∷ []) cs) x u map)
-      (sym (ap (λ u. left_after u (acting (acts before c) k c)) (gets_leave from (reads k) (gets k)) ∙ acting_leaves (acts before c) k c from))
-      h))
+      (sym (ap (λ u. left_after u (acting (acts before c) k c)) (gets_leave from (reads k) (gets k))
+      ∙ acting_leaves (acts before c) k c from)) h))
 
   command_here : (b : Bool) (c : Command) (k : ℕ) (ys : List Item) (map : List Pair) → b ≡ true
       → HasPlace (acting b k c ++ ys) (command_item k c) map map

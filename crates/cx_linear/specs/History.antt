@@ -1,4 +1,4 @@
--- The history of a run: of its commands and its reads at readers. A session's read is no call of it, since it promises less.
+-- The history of a run: of its commands and of its reads at readers. A read in a session is no call of it, since less is promised of it.
 use Rattle.std.specs.Prelude.{ℕ, Bool, false, ◌&&◌, not, if◌then◌else◌, List, [], ◌∷◌, ◌++◌, slice_get, Option, None, Some}
 use Rattle.cx_letter.specs.Prelude.{list_any, Cluster, Event, Happened, Token, Letter, Why}
 use Rattle.cx_base.specs.declared.event.Event.TheVariants as event
@@ -12,6 +12,7 @@ use Rattle.cx_model.specs.World.{World, run}
 use Rattle.cx_linear.specs.Linearizable.{Operation, ClientCall, CallEvent, IsLinearizable}
 use Rattle.cx_linear.specs.Linearizable.{Update, Get, Replied, Found, Invoke, Respond}
 
+-- a client's call of this number
 abbrev pub call : ℕ → ℕ → Operation → ClientCall
 call client seq operation = record { token = make_token client seq; operation = operation }
 
@@ -32,7 +33,7 @@ seen_as sent why.Sent (event.Read client seq floor reader replica key) = Some (I
 seen_as sent why.Heard (event.Deliver n cut) = told_in (slice_get sent n)
 seen_as sent other e = None
 
--- whether an event of these asked in a session, with this token
+-- whether an event, or one of these, asked in a session with this token
 abbrev pub is_session_of : Token → Why → Event → Bool
 is_session_of t why.Sent (event.Session client seq floor replica key) = same_read t (make_token client seq)
 is_session_of t other e = false
@@ -44,12 +45,12 @@ abbrev pub is_response_to : Token → Option CallEvent → Bool
 is_response_to t (Some (Respond u r)) = same_read t u
 is_response_to t other = false
 
--- whether a client heard an answer under this number
+-- whether a client heard an answer with this token
 abbrev pub was_answered : List Letter → Token → List Happened → Bool
 was_answered sent t events = list_any (λ (h : Happened). is_response_to t (seen_as sent h.why h.event)) events
 
--- Whether it counts after these events: a request that is sent again is the same call, of its responses the first one counts, and none of
--- a session's.
+-- Whether it counts after these events: a request that is sent again is the same call, and of a call's responses only the first one counts.
+-- What a session is answered is no response.
 abbrev pub counts : List Letter → List Happened → CallEvent → Bool
 counts sent before (Invoke x) = not (was_asked x.token before)
 counts sent before (Respond t r) = not (was_session t before) && not (was_answered sent t before)
@@ -58,6 +59,7 @@ abbrev pub if_counts : List Letter → List Happened → Option CallEvent → Li
 if_counts sent before None = []
 if_counts sent before (Some x) = if counts sent before x then x ∷ [] else []
 
+-- what events are to the clients, after those before them
 abbrev pub history_from : List Letter → List Happened → List Happened → List CallEvent
 history_from sent before [] = []
 history_from sent before (h ∷ later) =

@@ -1,4 +1,5 @@
--- Linearizability (Herlihy and Wing 1990), of calls of one map. A history is a list of invocations and responses in real time.
+-- Linearizability (Herlihy and Wing 1990), of calls on one map. A history is a list of invocations and responses in real time. A client may
+-- have several calls open, so each call is a process of its own.
 use Rattle.std.specs.Prelude.{◌≡◌, ℕ, ◌<◌, List, [], ◌∷◌, take, slice_get, Option, Some}
 use Rattle.cx_letter.specs.Prelude.{Op, Pair, Reply, Token, map_after, reply_of, text_at}
 use Rattle.cx_model.specs.Member.{Member}
@@ -13,11 +14,12 @@ pub data Response : Type 0 where
   Replied : Reply → Response
   Found : Option (List ℕ) → Response
 
--- a call, named by its client and the client's number for it
+-- a call, named by its client and the client's number for it, and what it asks
 pub record ClientCall : Type 0 where
   pub token : Token
   pub operation : Operation
 
+-- what a history has: a call is invoked, or its client gets a response
 pub data CallEvent : Type 0 where
   Invoke : ClientCall → CallEvent
   Respond : Token → Response → CallEvent
@@ -36,6 +38,7 @@ abbrev pub left_by_all : List Pair → List ClientCall → List Pair
 left_by_all map [] = map
 left_by_all map (x ∷ calls) = left_by_all (left_by map x.operation) calls
 
+-- The calls stand in an order in which they could have been made one after another.
 pub record IsLinearization (history : List CallEvent) (order : List ClientCall) : Type 0 where
   -- Each call of the order was invoked, and stands there once.
   pub invoked : (n : ℕ) (x : ClientCall) → slice_get order n ≡ Some x → Member (Invoke x) history
