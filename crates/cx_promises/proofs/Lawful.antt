@@ -13,11 +13,13 @@ use Rattle.cx_inv_list.proofs.Requests.{requests_are_once}
 use Rattle.cx_inv_list.proofs.Right.{machine_is_the_fold}
 use Rattle.cx_inv_read.proofs.Results.{after_answers, after_reads}
 use Rattle.cx_inv_retire.proofs.Later.{rounds_ask_later, turns_ask_later, reads_ask_later}
+use Rattle.cx_linear.proofs.Orders.{linearizable}
 use Rattle.cx_promises.specs.Lawful.{IsLawful, IsCommandList}
 use Rattle.cx_promises.proofs.Heard.{heard_before}
 
 pub lawful : (c : Cluster) (es : List Event) → IsLawful c es
 lawful c es = record {
+  linearizable = linearizable c es;
   agreement = agreement c es;
   chosen = one_list.chosen c es;
   replicas_hold_it = one_list.replicas_hold_it c es;

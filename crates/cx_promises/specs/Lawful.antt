@@ -1,6 +1,6 @@
 -- What is promised of one run: that of these events over this cluster. Each sentence is under its name in cx_model's Promises, but for the
--- announcement, which is cx_inv_announce's, the change of grid, which is cx_inv_bypass's, recovery, which is cx_inv_open's, and progress,
--- which is cx_inv_alive's.
+-- announcement, which is cx_inv_announce's, the change of grid, which is cx_inv_bypass's, recovery, which is cx_inv_open's, progress,
+-- which is cx_inv_alive's, and linearizability, which is cx_linear's.
 use Rattle.std.specs.Prelude.{◌≡◌, ℕ, true, List, slice_get, Some}
 use Rattle.cx_model.specs.Prelude.{Cluster, Value, Event, KeptRecord, is_chosen, chosen_prefix, Begins, OfEveryRun, Agreement}
 use Rattle.cx_model.specs.Prelude.{ReadsAreRight, ReadsAreOfTheirReplica, ReadsComeAfterAnswers, ReadsComeAfterReads}
@@ -13,8 +13,11 @@ use Rattle.cx_inv_alive.specs.Alive.{NoDeadEnds}
 use Rattle.cx_inv_announce.specs.Announced.{Announced}
 use Rattle.cx_inv_bypass.specs.Bypassed.{BypassedRounds}
 use Rattle.cx_inv_open.specs.Reopened.{RolesReopen}
+use Rattle.cx_linear.specs.History.{IsLinearizableRun}
 
 pub record IsLawful (c : Cluster) (es : List Event) : Type 0 where
+  -- linearizability
+  pub linearizable : IsLinearizableRun c es
   -- agreement
   pub agreement : Agreement c es
   -- one command list

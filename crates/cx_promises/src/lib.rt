@@ -1,4 +1,4 @@
-//! What every run is promised: agreement, one list, fresh reads, sessions, safe retirement, one next
+//! What every run is promised: linearizability, agreement, one list, fresh reads, sessions, safe retirement, one next
 //! set of matchmakers, safe snapshots, announcement, changes of grid, recovery, no dead ends.
 //!
 //! The world, the replay and the node cite it; the law crates prove its sentences, each in one of
