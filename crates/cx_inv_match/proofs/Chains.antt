@@ -11,7 +11,7 @@ use Rattle.cx_inv_run.proofs.Quorums.{most_meet}
 use Rattle.cx_inv_match.specs.Words.{how_many, HasBoot, HasTaken, HasNext, IsDecided, IsNth, IsClosed, IsMatched, IsMatchable, CanTake}
 use Rattle.cx_inv_match.specs.Words.{IsShut, IsWatermark, IsJoin, IsMember, SetFacts}
 use Rattle.cx_inv_run.proofs.Rounds.{before-from_at_most}
-use Rattle.cx_inv_match.specs.Words.{IsPassed, HasStopped, Covers}
+use Rattle.cx_inv_match.specs.Words.{IsPassed, HasStopped, IsGridTold}
 use Rattle.cx_inv_match.proofs.Parts.{covers_itself, covers_on}
 
 -- sets without a common member
@@ -177,10 +177,10 @@ module _ (c : Cluster) (history : List KeptRecord) (sent : List Letter) (facts :
     pub most : c.f < how_many set who
     pub stopped : (m : ℕ) → who m ≡ true → HasStopped history (role kind.Matchmaker m)
     pub told : (m : ℕ) → who m ≡ true → (j : Round) (g : Shape) → HasRound history (role kind.Matchmaker m) j g → (is_before j w ≡ true)
-        ⊎ Covers c j g es
+        ⊎ IsGridTold c j g es
 
   joins_told : (s : List ℕ) (w : Round) (es : List Entry) (join : IsJoin c history s w es) (m : ℕ) → join.who m ≡ true
-      → (i : Round) (g : Shape) → HasRound history (role kind.Matchmaker m) i g → (is_before i w ≡ true) ⊎ Covers c i g es
+      → (i : Round) (g : Shape) → HasRound history (role kind.Matchmaker m) i g → (is_before i w ≡ true) ⊎ IsGridTold c i g es
   joins_told s w es join m t i g x = elim (cases_Bool (is_before i w)) [ inl l ↦ inl l | inr l ↦ inr (join.told m t i g l x) ]
 
   pub boot_told : (k n : ℕ) (p : List ℕ) → k < n → IsNth c history n p → (m : ℕ) → Member m p → (s : List ℕ) (w : Round) (es : List Entry)
@@ -196,7 +196,7 @@ module _ (c : Cluster) (history : List KeptRecord) (sent : List Letter) (facts :
       on s w es join m t b v xs x h = record { set = h.set; nth = h.nth; who = h.who; most = h.most; stopped = h.stopped; told =
           λ o p j g y. go j g (h.told o p j g y) }
         where
-          go : (j : Round) (g : Shape) → (is_before j v ≡ true) ⊎ Covers c j g xs → (is_before j w ≡ true) ⊎ Covers c j g es
+          go : (j : Round) (g : Shape) → (is_before j v ≡ true) ⊎ IsGridTold c j g xs → (is_before j w ≡ true) ⊎ IsGridTold c j g es
           go j g (inl l) = inl (before-to_at_least j v w l (join.boots m t b v xs x))
           go j g (inr y) = ⊎_elim
               (λ l. inl (before-from_at_most j y.0.round w y.3 l))
@@ -208,7 +208,7 @@ module _ (c : Cluster) (history : List KeptRecord) (sent : List Letter) (facts :
   module _ (j : Round) where
     -- the round is covered, or lies below the watermark
     abbrev IsToldIn : Round → List Entry → Type 0
-    IsToldIn w es = (is_before j w ≡ true) ⊎ ((g : Shape) × (Covers c j g es × ((o : RoleId) × HasTaken history o j g)))
+    IsToldIn w es = (is_before j w ≡ true) ⊎ ((g : Shape) × (IsGridTold c j g es × ((o : RoleId) × HasTaken history o j g)))
 
     -- a later round is told
     abbrev IsBehind : Round → List Entry → Type 0
@@ -216,7 +216,7 @@ module _ (c : Cluster) (history : List KeptRecord) (sent : List Letter) (facts :
 
     -- what a stopped member has is told by the join, or lies below its watermark
     told_or_below : (s : List ℕ) (w : Round) (es : List Entry) (join : IsJoin c history s w es) (m : ℕ) → join.who m ≡ true
-        → (i : Round) (g : Shape) → HasRound history (role kind.Matchmaker m) i g → (is_before i w ≡ true) ⊎ Covers c i g es
+        → (i : Round) (g : Shape) → HasRound history (role kind.Matchmaker m) i g → (is_before i w ≡ true) ⊎ IsGridTold c i g es
     told_or_below s w es join m t i g x = elim (cases_Bool (is_before i w)) [ inl l ↦ inl l | inr l ↦ inr (join.told m t i g l x) ]
 
     -- what was taken is had

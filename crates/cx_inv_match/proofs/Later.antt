@@ -6,7 +6,7 @@ use Rattle.cx_inv_run.proofs.Common.{first_set, entry, Member, some_passes, befo
 use Rattle.cx_base.specs.declared.role.Kind.TheVariants as kind
 use Rattle.cx_inv_run.proofs.Quorums.{most_meet}
 use Rattle.cx_inv_match.specs.Words.{how_many, HasGarbage, HasBoot, HasTaken, HasStopped, IsNth, IsMatched, IsMember, IsJoin, SetFacts}
-use Rattle.cx_inv_match.specs.Words.{Covers}
+use Rattle.cx_inv_match.specs.Words.{IsGridTold}
 use Rattle.cx_inv_match.proofs.Parts.{covers_on}
 use Rattle.cx_inv_match.proofs.Chains.{nth_length, nth_back, nth_once, nth_meet, began, boot_at, tells_boot, open_covers}
 use Rattle.cx_inv_match.proofs.Grow.{more_nth}
@@ -69,17 +69,17 @@ module _ (c : Cluster) (past history : List KeptRecord) (passed sent : List Lett
   -- of the first set, or tells all that it began with, and a watermark that isn't below that one.
   pub record Tells (m : ℕ) (w : Round) (es : List Entry) : Type 0 where
     pub running : HasStopped past (role kind.Matchmaker m) → ⊥
-    pub all : (j : Round) (g : Shape) → is_before j w ≡ false → HasRound past (role kind.Matchmaker m) j g → Covers c j g es
+    pub all : (j : Round) (g : Shape) → is_before j w ≡ false → HasRound past (role kind.Matchmaker m) j g → IsGridTold c j g es
     pub began : Member m (first_set c)
         ⊎ ((t : List ℕ) × (v : Round) × (xs : List Entry) × HasBoot history (role kind.Matchmaker m) t v xs × (is_before w v ≡ false)
-        × ((e : Entry) → Member e xs → is_before e.round w ≡ false → Covers c e.round e.grid es))
+        × ((e : Entry) → Member e xs → is_before e.round w ≡ false → IsGridTold c e.round e.grid es))
 
   module _ (j : Round) (matched : IsMatched c past j) (k : ℕ) (s : List ℕ) (nth : IsNth c history k s)
       (who : ℕ → Bool) (most : c.f < how_many s who) (tells : (m : ℕ) → who m ≡ true → (w : Round) × (es : List Entry) × Tells m w es) where
     -- one that was counted tells the round, or a watermark above it
     abbrev Told : Type 0
     Told = (m : ℕ) × (t : who m ≡ true) × ((is_before j (tells m t).0 ≡ true)
-        ⊎ ((g : Shape) × (Covers c j g (tells m t).1 × ((o : RoleId) × HasTaken history o j g))))
+        ⊎ ((g : Shape) × (IsGridTold c j g (tells m t).1 × ((o : RoleId) × HasTaken history o j g))))
 
     grown_taken : (m : RoleId) (g : Shape) → HasTaken past m j g → HasTaken history m j g
     grown_taken m g (inl x) = inl (more _ x)
@@ -89,7 +89,7 @@ module _ (c : Cluster) (past history : List KeptRecord) (passed sent : List Lett
     known_now = more_nth c past history more matched.known.0 matched.set matched.known.1
 
     unless_below : (m : ℕ) (t : who m ≡ true) → ((is_before j (tells m t).0 ≡ false) → (g : Shape)
-        × (Covers c j g (tells m t).1 × ((o : RoleId) × HasTaken history o j g))) → Told
+        × (IsGridTold c j g (tells m t).1 × ((o : RoleId) × HasTaken history o j g))) → Told
     unless_below m t h = ⊎_elim (λ l. (m, t, inl l)) (λ l. (m, t, inr (h l))) (cases_Bool (is_before j (tells m t).0))
 
     had : (m : RoleId) (g : Shape) → HasTaken past m j g → HasRound past m j g
@@ -101,8 +101,8 @@ module _ (c : Cluster) (past history : List KeptRecord) (passed sent : List Lett
     read_told = go (cases_lt matched.known.0 k) (cases_lt k matched.known.0)
       where
         covers : (m : ℕ) (t : who m ≡ true) (u : List ℕ) (v : Round) (xs : List Entry) → is_before (tells m t).0 v ≡ false
-            → ((e : Entry) → Member e xs → is_before e.round (tells m t).0 ≡ false → Covers c e.round e.grid (tells m t).1)
-            → (is_before j v ≡ true) ⊎ ((g : Shape) × (Covers c j g xs × ((o : RoleId) × HasTaken history o j g))) → Told
+            → ((e : Entry) → Member e xs → is_before e.round (tells m t).0 ≡ false → IsGridTold c e.round e.grid (tells m t).1)
+            → (is_before j v ≡ true) ⊎ ((g : Shape) × (IsGridTold c j g xs × ((o : RoleId) × HasTaken history o j g))) → Told
         covers m t u v xs low all (inl l) = (m, t, inl (before-to_at_least j v (tells m t).0 l low))
         covers m t u v xs low all (inr y) = unless_below m t (λ l.
             (y.0, (covers_on c j y.0 xs (tells m t).1 y.1.0 (all y.1.0.0 y.1.0.1 (at_most-trans (tells m t).0 j y.1.0.0.round l y.1.0.3)),

@@ -8,7 +8,7 @@ use Rattle.cx_inv_match.specs.Prelude.{HasMatch, HasGarbage, HasBoot, HasLog, Ha
 use Rattle.cx_inv_match.specs.Prelude.{SetFacts, IsMatchmaker, Facts}
 use Rattle.cx_letter.specs.declared.kept.Record.TheVariants as kept
 use Rattle.cx_model.specs.Matchmaker.{beside, has_room}
-use Rattle.cx_model.specs.Facts.{Covers}
+use Rattle.cx_model.specs.Facts.{IsGridTold}
 use Rattle.cx_inv_run.proofs.Rounds.{at_most-trans}
 use Rattle.cx_inv_match.proofs.Grow.{Grows, grown_config, grown_round, grown_ballot, grown_watermark, grown_collected}
 use Rattle.cx_inv_match.proofs.SetLaws.{grown_sets}
@@ -185,7 +185,7 @@ module _ (c : Cluster) (history : List KeptRecord) (sent : List Letter) (states 
     garbage_own = record {
       all = λ j h l x.
           let above = before-to_at_least (durable_of matchmaker_rules me history).watermark i j raises l in
-          let y : Covers c j h (durable_of matchmaker_rules me history).entries =
+          let y : IsGridTold c j h (durable_of matchmaker_rules me history).entries =
           (facts.logs me).all j h (before-not (durable_of matchmaker_rules me history).watermark j above)
               (old_had me (kept.Garbage i g) history no no me j h x) in (
             y.0,

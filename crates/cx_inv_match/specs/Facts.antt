@@ -24,7 +24,7 @@ use Rattle.cx_inv_run.specs.States.{durable_of, log_in}
 use Rattle.cx_inv_match.specs.Words.{HasMatch, HasGarbage, HasMark, HasPromise, HasLow, IsChosenIn, IsChosen, IsMatched, IsSafe}
 use Rattle.cx_inv_match.specs.Words.{IsCollected, IsAnswer, IsPromise, HasBoot, HasNext, HasBallot, IsHalt, IsKnown, IsDecided, IsClosed}
 use Rattle.cx_inv_match.specs.Words.{IsNextSet, IsJoin, IsBoot, IsWatermark, HasStopped, SetFacts}
-use Rattle.cx_inv_match.specs.Words.{Covers}
+use Rattle.cx_inv_match.specs.Words.{IsGridTold}
 
 -- What each kind of datagram says of the history. A kind that isn't named says nothing here.
 abbrev pub Says : Cluster → List KeptRecord → List Letter → RoleId → Msg → Type 0
@@ -206,7 +206,7 @@ IsOwn history m w =
 
 -- so is a matchmaker
 pub record IsMatchmaker (c : Cluster) (history : List KeptRecord) (sent : List Letter) (m : RoleId) (d : MatchmakerDurable) : Type 0 where
-  pub all : (j : Round) (g : Shape) → is_before j d.watermark ≡ false → HasRound history m j g → Covers c j g d.entries
+  pub all : (j : Round) (g : Shape) → is_before j d.watermark ≡ false → HasRound history m j g → IsGridTold c j g d.entries
   pub only : (e : Entry) → Member e d.entries → HasRound history m e.round e.grid ⊎ HasGarbage history m e.round e.grid
   pub from_watermark : (e : Entry) → Member e d.entries → is_before e.round d.watermark ≡ false
   pub bound : (j : Round) (g : Shape) → HasGarbage history m j g → is_before d.watermark j ≡ false

@@ -9,7 +9,7 @@ use Rattle.cx_inv_match.specs.Prelude.{Deferred, log_in, AreOnce, answering_matc
 use Rattle.cx_inv_match.specs.Prelude.{IsChosenIn, IsCollected, IsKnown, SetFacts}
 use Rattle.cx_base.specs.declared.role.Kind.TheVariants as kind
 use Rattle.cx_letter.specs.declared.message.Msg.TheVariants as msg
-use Rattle.cx_model.specs.Facts.{Covers as IsGridTold}
+use Rattle.cx_model.specs.Facts.{IsGridTold}
 
 -- the longer history has all of the shorter
 abbrev pub Has : List KeptRecord → List KeptRecord → Type 0

@@ -61,8 +61,8 @@ HasRound history who i g =
     ⊎ ((s : List ℕ) × (w : Round) × (es : List Entry) × HasKept history who (kept.Boot s w es) × Member (entry i g) es)
 
 -- The entries have the round's grid: its own entry, or by the cluster a later round's with the same grid.
-abbrev pub Covers : Cluster → Round → Shape → List Entry → Type 0
-Covers c j g es =
+abbrev pub IsGridTold : Cluster → Round → Shape → List Entry → Type 0
+IsGridTold c j g es =
     (e : Entry) × Member e es × (e.grid ≡ g) × (is_before e.round j ≡ false) × (c.one_entry_a_grid ≡ false → e.round ≡ j)
 
 -- a matchmaker retired the rounds below this one, which has this grid: it forgot them, or began without them
@@ -243,7 +243,7 @@ pub record MatchingFacts (c : Cluster) (es : List Event) : Type 0 where
   -- an answer covers each earlier round that its sender has, or its retirement watermark is above it
   pub tells : (from to : RoleId) (i w : Round) (entries : List Entry) → Member (letter from to (msg.MatchB i w entries)) (run c es).sent
       → (j : Round) (g : Shape) → is_before j i ≡ true → HasRound (run c es).kept from j g
-      → Covers c j g entries ⊎ (is_before j w ≡ true)
+      → IsGridTold c j g entries ⊎ (is_before j w ≡ true)
   -- a real retirement watermark has its entry, unless it is the answer's own round
   pub has_watermark : (from to : RoleId) (i w : Round) (entries : List Entry) → Member (letter from to (msg.MatchB i w entries))
       (run c es).sent → (w ≡ no_round) ⊎ ((w ≡ i) ⊎ ((g : Shape) × Member {X = Entry} (record { round = w; grid = g }) entries))
@@ -251,7 +251,7 @@ pub record MatchingFacts (c : Cluster) (es : List Event) : Type 0 where
   pub tells_readers : (e : Event) (from to : RoleId) (u : Asking) (w : Round) (entries : List Entry)
       → Member (letter from to (msg.MatchReadAck u w entries)) (change (run c es) e).sends
       → (j : Round) (g : Shape) → HasRound (run c es).kept from j g
-      → Covers c j g entries ⊎ (is_before j w ≡ true)
+      → IsGridTold c j g entries ⊎ (is_before j w ≡ true)
   pub readers_watermark : (from to : RoleId) (u : Asking) (w : Round) (entries : List Entry)
       → Member (letter from to (msg.MatchReadAck u w entries)) (run c es).sent
       → (w ≡ no_round) ⊎ ((g : Shape) × Member {X = Entry} (record { round = w; grid = g }) entries)
