@@ -103,5 +103,6 @@ fn into_values(what: Record) -> LogValues
         Record::Next { .. } => unreachable!(),
         Record::Boot { .. } => unreachable!(),
         Record::Turn { .. } => unreachable!(),
+        Record::Voted { .. } => unreachable!(),
     }
 }
