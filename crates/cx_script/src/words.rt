@@ -9,7 +9,7 @@ ghost use Rattle.cx_script.specs.Reading.{ReadsWords};
 use crate::fault::LineFault;
 use crate::grid::{members_word, sides_word};
 use crate::place::{
-    index_word, is, key_word, number_word, seq_word, server_word, renewing_word, text_word,
+    index_word, is, key_word, number_word, renewing_word, seq_word, server_word, text_word,
 };
 use crate::set::set_word;
 use crate::split::first_word;
