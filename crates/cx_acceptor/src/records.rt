@@ -18,9 +18,7 @@ use cx_role::{names_round, names_value};
 fn names_votes(cluster: &Cluster, votes: &[Vote]) -> bool
     ensures { result ≡ list_all (λ (v : Vote). names_vote cluster.now v) votes.now }
 {
-    votes
-        .iter()
-        .all(|vote| names_round(cluster, vote.round) && names_value(cluster, &vote.value))
+    votes.iter().all(|vote| names_round(cluster, vote.round) && names_value(cluster, &vote.value))
 }
 
 impl Acceptor {
