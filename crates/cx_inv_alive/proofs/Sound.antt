@@ -1,6 +1,6 @@
 -- In every run names in the stores lie in the cluster.
 use Rattle.cx_inv_run.proofs.Common.{◌≡◌, ◌⊎◌, ℕ, Bool, true, false, List, [], ◌∷◌, ◌++◌, sym, subst, refl, inl, inr, and_parts, and_from}
-use Rattle.cx_inv_run.proofs.Common.{list_all, filter, nat_lt, Cluster, Value, RoleId, role, same_role, Entry, Vote}
+use Rattle.cx_inv_run.proofs.Common.{list_all, length, filter, nat_lt, Cluster, Value, RoleId, role, same_role, Entry, Vote}
 use Rattle.cx_inv_run.proofs.Common.{KeptRecord, Written, Record, acceptor_rules}
 use Rattle.cx_inv_run.proofs.Common.{bool_cases, same_role-true, MatchmakerDurable, matchmaker_after, matchmaker_rules}
 use Rattle.cx_inv_run.proofs.Common.{entries_since, entry, has_round, names_entry, names_grid, names_round, names_value, names_vote}
@@ -9,7 +9,7 @@ use Rattle.cx_inv_run.proofs.Common.{Member-all, filter-older}
 use Rattle.cx_base.specs.declared.role.Kind.TheVariants as kind
 use Rattle.cx_letter.specs.declared.input.Written.TheVariants as written
 use Rattle.cx_letter.specs.declared.kept.Record.TheVariants as kept
-use Rattle.cx_model.specs.Matchmaker.{matchmaker_fits}
+use Rattle.cx_model.specs.Matchmaker.{beside, matchmaker_fits, without_grid}
 use Rattle.cx_model.specs.Replica.{replica_fits}
 use Rattle.cx_inv_run.specs.States.{durable_of, log_in}
 use Rattle.cx_inv_open.specs.Fits.{AllFit, FitsAs}
@@ -54,7 +54,9 @@ module _ (c : Cluster) (n : ℕ) (led : nat_lt 0 c.leaders ≡ true) where
       let p5 = and_parts _ _ p4.0 in
       record {
         watermark = h.watermark;
-        entries = all_with (λ (e : Entry). names_entry c e) d.entries (entry i g) h.entries
+        entries = all_with (λ (e : Entry). names_entry c e) (beside d.watermark g d.entries) (entry i g)
+            (either_way (λ l. list_all (λ (e : Entry). names_entry c e) l ≡ true) (nat_lt (length d.entries) 16) d.entries
+            (without_grid d.watermark g d.entries) h.entries (all_left (λ (e : Entry). names_entry c e) _ d.entries h.entries))
             (and_from (names_round c i) (names_grid c g) p5.1 p4.1);
       }
   rounds_named d (kept.Garbage i g) h fits =

@@ -44,7 +44,7 @@ module _ (me : RoleId) (d : MatchmakerDurable) (i : Round) (g : Shape) (sound : 
       → list_all (λ (e : Entry). is_before e.round i) (beside d.watermark g d.entries) ≡ true
   beside_before before =
       by_test (λ (xs : List Entry). list_all (λ (e : Entry). is_before e.round i) xs ≡ true) (nat_lt (length d.entries) 16) d.entries
-          (without_grid d.watermark g d.entries)
+      (without_grid d.watermark g d.entries)
       (λ t. before) (λ f. list_all-filter stays (λ (e : Entry). is_before e.round i) d.entries before)
 
   beside_few : (c : Cluster) → has_place c g d.entries ≡ true → length (beside d.watermark g d.entries) < 254
@@ -53,7 +53,7 @@ module _ (me : RoleId) (d : MatchmakerDurable) (i : Round) (g : Shape) (sound : 
       (λ t. let l = is_below (length d.entries) 16 t in omega arith)
       (λ f. let l = filter_fewer stays d.entries in
       let k = is_below (length d.entries) 254 (by_grid (nat_lt (length d.entries) 16) c.one_entry_a_grid (has_grid g d.entries)
-          (nat_lt (length d.entries) 254) f space) in
+      (nat_lt (length d.entries) 254) f space) in
       omega arith)
 
   pub sound_match : list_all (λ (e : Entry). is_before e.round i) d.entries ≡ true → (c : Cluster) → has_place c g d.entries ≡ true
@@ -62,7 +62,7 @@ module _ (me : RoleId) (d : MatchmakerDurable) (i : Round) (g : Shape) (sound : 
       let one : List Entry = entry i g ∷ [] in
       let few = beside_few c space in
       let count : length (beside d.watermark g d.entries ++ one) ≤ 254 = omega (arith, length-append (beside d.watermark g d.entries) one)
-          in
+      in
       record {
         who = sound.who;
         watermark = sound.watermark;

@@ -7,8 +7,8 @@ ghost use Rattle.cx_field.specs.Fields as field;
 
 use crate::Matchmaker;
 use crate::entries::{
-    all_entries, earlier_entries, entries_again, has_entry, has_later, has_place, last_round, make_room,
-    retire,
+    all_entries, earlier_entries, entries_again, has_entry, has_later, has_place, last_round,
+    make_room, retire,
 };
 use crate::records::keep_own;
 use cx_base::{Grid, NoMemory, RoleId, Round, Why};

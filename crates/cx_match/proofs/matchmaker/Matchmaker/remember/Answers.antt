@@ -7,7 +7,7 @@ invariant_of-self-in-Garbage c =
     let own = rw (← c.self.view_is, c.in-Garbage.is) at c.requires.own in
     let ranges = rw c.in-Garbage.is at c.requires.ranges in
     let sound = after_sound c.self.inside.cluster c.self.inside.me _ (kept.Garbage c.in-Garbage.round c.in-Garbage.grid) c.self.invariant
-        ranges own in
+    ranges own in
     rw (c.retire.ensures, c.reserve-in-Garbage.ensures.items) sound
 
 pub invariant_of-self-in-Match : goal.invariant_of-self-in-Match
@@ -15,7 +15,7 @@ invariant_of-self-in-Match c =
     let own = rw (← c.self.view_is, c.in-Match.is) at c.requires.own in
     let ranges = rw c.in-Match.is at c.requires.ranges in
     let sound = after_sound c.self.inside.cluster c.self.inside.me _ (kept.Match c.in-Match.round c.in-Match.grid) c.self.invariant ranges
-        own in
+    own in
     rw (c.push_reserved.ensures.items, c.make_room.ensures.items, c.reserve.ensures.items) sound
 
 pub invariant_of-self-in-Stop : goal.invariant_of-self-in-Stop
