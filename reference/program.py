@@ -93,7 +93,7 @@ def replay() -> None:
 
 def schedule(seed: int, count: int) -> str:
     """Generated events as a schedule."""
-    keys = [f"{key} = {getattr(CLUSTER, key)}\n" for key in CLUSTER.__slots__]
+    keys = [f"{key} = {int(getattr(CLUSTER, key))}\n" for key in CLUSTER.__slots__]
     return "".join([*keys, "---\n", *(f"{line_of(event)}\n" for event in generated(seed, count)[1])])
 
 

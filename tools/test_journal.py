@@ -304,7 +304,7 @@ class JournalTest(unittest.TestCase):
                             (note[:-1] + b"\x41", 18), (note + number(0), 19), (note + number(1) + number(0), 27),
                             (note + number(1) + number((1 << 40) + 1), 27), (note + number(1) + number(1) + b"\5", 35),
                             (note + number(1) + number(1) + b"\3\0", 36), (note + number(1) + number(1) + b"\3\x41", 36),
-                            (note + number(1) + number(1) + b"\1\x41", 36), (b"\x0b\0", 8), (b"\x0b\x21", 8), (b"\x0b\1\2", 9), (b"\x11", 7)]:
+                            (note + number(1) + number(1) + b"\1\x41", 36), (b"\x0b\0", 8), (b"\x0b\x21", 8), (b"\x0b\1\2", 9), (b"\x12", 7)]:
             with self.subTest(payload=payload.hex()):
                 self.breaks(b"\4\1" + journal(payload), at, ["generation 1"])
         note += number(1) + number(1)

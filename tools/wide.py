@@ -24,7 +24,8 @@ def random_cluster(rng: random.Random) -> Cluster:
             "pool": (1, 3, 5, 9, 20, 64), "replacers": (0, 1, 2, 4)}
     least = {"replicas": f + 1, "pool": 2 * f + 1}
     counts = {key: max(rng.choice(its), least.get(key, 0)) for key, its in some.items()}
-    return Cluster(f=f, **counts, own_proxies=0 if counts["proxies"] % counts["leaders"] else rng.choice([0, 1]))
+    own = counts["proxies"] % counts["leaders"] == 0 and rng.random() < 0.5
+    return Cluster(f=f, **counts, one_entry_a_grid=rng.random() < 0.3, own_proxies=own)
 
 
 class Wide:
@@ -132,5 +133,5 @@ class Wide:
                 first = len(self.world.sent)
                 self.world.step(event)
                 self.fresh += range(first, len(self.world.sent))
-        keys = [f"{key} = {getattr(self.cluster, key)}" for key in Cluster.__slots__]
+        keys = [f"{key} = {int(getattr(self.cluster, key))}" for key in Cluster.__slots__]
         return "".join(f"{line}\n" for line in [*keys, "---", *lines])
