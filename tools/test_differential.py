@@ -46,7 +46,7 @@ class DifferentialTest(Comparison):
         before = rules.read_text()
         rules.write_text(before.replace("max(d.top, s + 1)", "max(d.top, s)"))
         self.assertNotEqual(rules.read_text(), before)
-        status, out, said = run("differential", other / "compax", "--first", 3, "--runs", 1, "--events", 150, "--no-stored", "--keep", self.room)
+        status, out, said = run("differential", other / "compax", "--first", 2, "--runs", 1, "--events", 150, "--no-stored", "--keep", self.room)
         self.assertEqual((status, said), (1, ""))
         self.assertRegex(out, r"wanted '\+\d+ acceptor:\d+ reader:\d+ PreReadAck ")
 
