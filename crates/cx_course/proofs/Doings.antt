@@ -6,6 +6,7 @@ use Rattle.cx_role.proofs.Common.{State, same_role-itself, Member, names_role, W
 use Rattle.cx_base.specs.declared.event.Event.TheVariants as event
 use Rattle.cx_base.specs.declared.event.Order.TheVariants.{Lead, Change, Collect, Replace}
 use Rattle.cx_base.specs.declared.role.Kind.TheVariants as kind
+use Rattle.cx_base.specs.Role.{puts_anew}
 use Rattle.cx_client.specs.Client.{ClientState}
 use Rattle.cx_model.specs.Lists.{role_from_parts}
 use Rattle.cx_letter.specs.declared.input.Act.TheVariants as act
@@ -258,7 +259,12 @@ module _ (w : World) (traced : IsTraced w) where
         change = refl;
         plain = record { no_request = refl; unheard = λ client u. told_none client w (record { event = e; why = u }) refl };
       }))
-      (one_fits e (inr (record { ranges = tt; valid = refl; named = in_cluster kind.Replica s.me is.kind_is is.named; complete = refl })))
+      (one_fits e (inr (record {
+        ranges = tt;
+        valid = refl;
+        named = and_from (puts_anew s.me.kind) (nat_lt s.me.index (count_of w.cluster s.me.kind)) (ap puts_anew is.kind_is) is.named;
+        complete = refl;
+      })))
   role_snaps other off is = rests_so other Snap off is (no_snap (name_of other) (kind_at other) is.kind_is refl) (snaps_so other)
 
   role_steps : (h : Hosted) (what : Doing) → is_asker h ≡ false → IsAlike w h → IsFair w (name_of h) what → Steps w h what

@@ -1,7 +1,7 @@
 -- The generator of events: a linear congruential sequence, four draws an event.
 use Rattle.std.specs.Prelude.{ℕ, ◌+◌, ◌-◌, ◌*◌, ◌/◌, ◌%◌, ◌^◌, min, ◌==◌, nat_le, List, [], ◌∷◌, map, flat_map, get_or, None, if◌then◌else◌}
 use Rattle.std.proofs.Common.{lit≤}
-use Rattle.cx_base.specs.Prelude.{Shape, make_grid, below, role, count_of}
+use Rattle.cx_base.specs.Prelude.{false, Shape, make_grid, below, role, count_of}
 use Rattle.cx_base.specs.declared.cluster.Cluster.{Cluster}
 use Rattle.cx_base.specs.declared.command.Op.{Op}
 use Rattle.cx_base.specs.declared.command.Op.TheVariants.{Put, Del, App}

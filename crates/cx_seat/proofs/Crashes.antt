@@ -1,6 +1,7 @@
 -- What a cut event keeps, and the store of its run.
 use Rattle.cx_inv_run.proofs.Common.{◌≡◌, ◌∙◌, ℕ, Bool, true, false, List, [], ◌∷◌, ◌++◌, Option, None, Some, ap, sym, refl, subst, inl}
 use Rattle.cx_inv_run.proofs.Common.{inr, append-nil, ◌-◌, drop, length, map, slice_get, list_all, option_map, list_all-append, cases_Bool}
+use Rattle.cx_inv_run.proofs.Common.{true≢false}
 use Rattle.cx_inv_run.proofs.Common.{Cluster, Cut, Whole, Torn, Kept, Event, Kind, RoleId, role, same_role, same_role-true, Member, Outcome}
 use Rattle.cx_inv_run.proofs.Common.{ReplicaDurable, acceptor_rules, batcher_rules, leader_rules, matchmaker_rules, proxy_rules}
 use Rattle.cx_inv_run.proofs.Common.{reader_rules, replacer_rules, unbatcher_rules, list_of}
@@ -122,9 +123,17 @@ no_keeper other is = cc
 abbrev Anew : RoleId → List KeptRecord → ℕ → Type 0
 Anew me kept first = kept ≡ kept_by me (Some (written.Snap first))
 
+is_anew : Written → Bool
+is_anew (written.Record r) = false
+is_anew (written.Snap first) = true
+
+begins_anew : List KeptRecord → Bool
+begins_anew [] = false
+begins_anew (k ∷ ks) = is_anew k.what
+
 no_row : (to me : RoleId) (o : Option Record) (first : ℕ) → Anew me (kept_as to o) first → ⊥
-no_row to me None first h = cc
-no_row to me (Some r) first h = cc
+no_row to me None first h = true≢false (sym (ap begins_anew h))
+no_row to me (Some r) first h = true≢false (sym (ap begins_anew h))
 
 no_turn : {V : Type 0} (to me : RoleId) (k : Option Record) (o : Outcome V) (first : ℕ) → o.kept ≡ k
     → Anew me (kept_by to ((turn_with Whole k o).kept)) first → ⊥
@@ -147,9 +156,13 @@ no_come : (w : World) (me : RoleId) (first : ℕ) (o : Option Letter) → Anew m
 no_come w me first None h = cc
 no_come w me first (Some d) h = no_act w.cluster w.roles w.kept (input.Take d) d.to me first d.to.kind h
 
+first_role : RoleId → List KeptRecord → RoleId
+first_role me [] = me
+first_role me (k ∷ ks) = k.role
+
 own_kept_by : (to me : RoleId) (o : Option Written) (what : Written) → kept_by to o ≡ kept_by me (Some what) → to ≡ me
-own_kept_by to me None what h = cc
-own_kept_by to me (Some other) what h = cc
+own_kept_by to me None what h = none_kept me what h
+own_kept_by to me (Some other) what h = ap (first_role me) h
 
 own_snap : (c : Cluster) (roles : RoleId → State) (kept : List KeptRecord) (to me : RoleId) (what : Written) (k : Kind)
     → (act_of c roles kept (Snap Whole) to k).kept ≡ kept_by me (Some what) → to ≡ me
