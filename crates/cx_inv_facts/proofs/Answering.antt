@@ -162,7 +162,7 @@ module _ (c : Cluster) (history : List KeptRecord) (sent : List Letter) (states 
       → (log.watermark ≡ no_round) ⊎ ((log.watermark ≡ i) ⊎ HasEntry log.watermark (again_told c i log.entries))
   entry_again i from =
       either_way (λ xs. (log.watermark ≡ no_round) ⊎ ((log.watermark ≡ i) ⊎ HasEntry log.watermark xs)) c.one_entry_a_grid log.entries
-          (entries_before i log.entries)
+      (entries_before i log.entries)
       (elim entry_there [ inl e ↦ inl e | inr x ↦ inr (inr x) ])
       (entry_before i from)
 

@@ -51,8 +51,10 @@ module _ (c : Cluster) (me : RoleId) (d : MatchmakerDurable) where
       (λ high. by_test Fine (list_any (λ (e : Entry). is_before i e.round) d.entries) _ _ (λ t. tt)
       (λ last. by_test Fine (has_round i d.entries) _ _ (λ t. tt)
       (λ new. by_test Fine (not (has_place c g d.entries)) _ _ (λ t. tt)
-      (λ room. (rw (booted, works, round, grid, high, all_before i d.entries last new, not_from (has_place c g d.entries) room) refl,
-          refl)))))
+      (λ room. (
+        rw (booted, works, round, grid, high, all_before i d.entries last new, not_from (has_place c g d.entries) room) refl,
+        refl,
+      )))))
 
   boots_fine : (from : RoleId) (s : List ℕ) (w : Round) (es : List Entry) → is_in me.index s ≡ true → names_set c s ≡ true
       → names_round c w ≡ true

@@ -102,7 +102,7 @@ module _ (P : Letter → Type 0) (c : Cluster) (me : RoleId) (plain : (to : Role
       (either_way MatchmakerTells (not (has_place c g d.entries)) _ _ (matchmaker_one _ _ tt) (matchmaker_one _ _ tt)))))
   matchmaker_tells (msg.GarbageA i g) ack =
       at_work_tells (garbage_a_row me d from i g) (λ b f. either_way MatchmakerTells (is_before d.watermark i) _ _ (matchmaker_one _ _ tt)
-          (matchmaker_one _ _ tt))
+      (matchmaker_one _ _ tt))
   matchmaker_tells (msg.MatchRead u) ack = at_work_tells (match_read_row me d from u) (λ b f. Member-one P _ (ack u refl b f))
   matchmaker_tells (msg.StopA b) ack =
       in_set_tells (stop_a_row me d from b)
