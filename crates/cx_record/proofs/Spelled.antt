@@ -19,7 +19,7 @@ use Rattle.cx_script.specs.Grammar.{next_word, op_at, key_text_at, read_event, r
 use Rattle.cx_script.specs.Grammar.{snap_event, write_event}
 use Rattle.cx_script.specs.Lines.{ParsedLines, lines_of, with_line}
 use Rattle.cx_script.specs.Places.{fitting, grid_from_ids, ids_of, index_word, key_word, members_word, number_word, seq_and_floor, seq_word}
-use Rattle.cx_script.specs.Places.{set_word, sides_word, text_word}
+use Rattle.cx_script.specs.Places.{renewing_word, set_word, sides_word, text_word}
 use Rattle.cx_script.specs.Requests.{asks, has_slash, request_behind, request_line, requests_from, requests_of, number_rises, script_of}
 use Rattle.cx_script.specs.Requests.{with_event, without_floor}
 use Rattle.cx_script.specs.Words.{is_number, word_number, words_of}
@@ -204,7 +204,7 @@ collect_ok c words =
 snap_ok : (c : Cluster) (words : List (List ℕ)) → IfOk (snap_event c words) IsRanged
 unfolding snap_event
 snap_ok c words =
-    then_ok _ IsRanged (next_word (index_word c Replica) words) _ (whatever (next_word (index_word c Replica) words)) (λ (replica, words) h.
+    then_ok _ IsRanged (next_word (renewing_word c) words) _ (whatever (next_word (renewing_word c) words)) (λ (role, words) h.
     then_ok _ IsRanged (cut_at words) _ (whatever (cut_at words)) (λ cut k. record { ranges = tt; complete = refl }))
 
 replace_ok : (c : Cluster) (words : List (List ℕ)) → IfOk (replace_event c words) IsRanged

@@ -2,7 +2,7 @@
 
 ghost use Rattle.cx_record.specs.Examples.{Worked};
 
-/// The lines of eight events.
+/// The lines of nine events.
 pub fn worked()
     ensures { Worked }
 {}

@@ -23,4 +23,5 @@ returns c =
       collect = rw zero refl;
       replace = rw (one, three, four, five) refl;
       snap = rw one refl;
+      snap_of_acceptor = rw two refl;
     }

@@ -10,6 +10,10 @@ pub returns-in_ok-put-in-Tick-clause-err : goal.returns-in_ok-put-in-Tick-clause
 returns-in_ok-put-in-Tick-clause-err c =
     still_on_err c.put_role.result (λ begins. (behind _ _ _ _ c.in_ok-put-in-Tick.ensures.ok begins)) c.put_role.ensures.err
 
+pub returns-in_ok-put-in-Snap-clause-err : goal.returns-in_ok-put-in-Snap-clause-err
+returns-in_ok-put-in-Snap-clause-err c = still_on_err c.put_role-in-Snap.result
+    (λ begins. (behind _ _ _ _ c.in_ok-put-in-Snap.ensures.ok begins)) c.put_role-in-Snap.ensures.err
+
 pub returns-in_ok-put-in-Crash-clause-err : goal.returns-in_ok-put-in-Crash-clause-err
 returns-in_ok-put-in-Crash-clause-err c = still_on_err c.put_role-in-Crash.result
     (λ begins. (behind _ _ _ _ c.in_ok-put-in-Crash.ensures.ok begins)) c.put_role-in-Crash.ensures.err
