@@ -1,4 +1,4 @@
-use Rattle.cx_role.proofs.Common.{ap}
+use Rattle.cx_role.proofs.Common.{ap, refl}
 use Rattle.cx_base.specs.Role.{puts_anew}
 use Rattle.cx_world.specs.Seat.{is_snap}
 use Rattle.cx_world.specs.World.{lists_of}
