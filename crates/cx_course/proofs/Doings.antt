@@ -2,7 +2,7 @@
 use Rattle.cx_role.proofs.Common.{◌≡◌, ◌<◌, ◌⊎◌, ◌==◌, ℕ, Bool, true, false, List, [], ◌∷◌, ◌++◌, length, None, Some, ap, sym, ◌∙◌, subst}
 use Rattle.cx_role.proofs.Common.{refl, inl, inr, append-nil, nat_lt, slice_get, if◌then◌else◌, and_from, true≢false, none-some}
 use Rattle.cx_role.proofs.Common.{slice_get_within, Cluster, Cut, Whole, Event, Order, Kind, RoleId, count_of, code_of, role, same_role}
-use Rattle.cx_role.proofs.Common.{State, same_role-itself, Member, names_role, World, act_at, come, run_from, Letter, Input}
+use Rattle.cx_role.proofs.Common.{State, same_role-itself, Member, names_role, replica_rules, World, act_at, come, run_from, Letter, Input}
 use Rattle.cx_base.specs.declared.event.Event.TheVariants as event
 use Rattle.cx_base.specs.declared.event.Order.TheVariants.{Lead, Change, Collect, Replace}
 use Rattle.cx_base.specs.declared.role.Kind.TheVariants as kind
