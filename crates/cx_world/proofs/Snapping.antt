@@ -161,9 +161,11 @@ pub rests : {S D V : Type 0} (rules : Rules D V) (never : NeverSnaps rules) (sta
 rests rules never state seat cut s is =
     let v = (state s).volatile in
     let role : volatile_of state seat.role ≡ Some v = ap (volatile_of state) is in
-    let turn : seat_turn rules state (Snap cut) seat ≡ still (Some v) why.Idle =
-    rw (is, never seat.cluster seat.me (folded rules seat.records) v) refl in
-    subst (λ t. IsTurned rules state t seat seat why.Idle None []) (sym turn)
+    let snaps : seat_turn rules state (Snap cut) seat ≡ snap_turn cut v (rules.snap seat.cluster seat.me (folded rules seat.records) v) =
+    rw is refl in
+    let idle : snap_turn cut v (rules.snap seat.cluster seat.me (folded rules seat.records) v) ≡ still (Some v) why.Idle =
+    ap (λ o. snap_turn cut v o) (never seat.cluster seat.me (folded rules seat.records) v) in
+    subst (λ t. IsTurned rules state t seat seat why.Idle None []) (sym (snaps ∙ idle))
     (record { why = refl; role = role; kept = refl; sends = refl; records = refl; cluster = refl; me = refl })
 
 -- of two that aren't both so

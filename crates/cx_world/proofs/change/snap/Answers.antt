@@ -37,5 +37,4 @@ returns-in_ok-turned-in-Reader c =
 
 pub act-requires-clause-other : goal.act-requires-clause-other
 act-requires-clause-other c =
-    let not = c.in_default in
-    other_kinds c.args.who.kind not.not-Acceptor not.not-Replica not.not-Reader
+    other_kinds c.args.who.kind c.in_default.not-Acceptor c.in_default.not-Replica c.in_default.not-Reader
