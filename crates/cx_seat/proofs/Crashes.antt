@@ -132,6 +132,7 @@ begins_anew [] = false
 begins_anew (k ∷ ks) = is_anew k.what
 
 no_row : (to me : RoleId) (o : Option Record) (first : ℕ) → Anew me (kept_as to o) first → ⊥
+unfolding begins_anew is_anew
 no_row to me None first h = true≢false (sym (ap begins_anew h))
 no_row to me (Some r) first h = true≢false (sym (ap begins_anew h))
 
@@ -161,6 +162,7 @@ first_role me [] = me
 first_role me (k ∷ ks) = k.role
 
 own_kept_by : (to me : RoleId) (o : Option Written) (what : Written) → kept_by to o ≡ kept_by me (Some what) → to ≡ me
+unfolding first_role
 own_kept_by to me None what h = none_kept me what h
 own_kept_by to me (Some other) what h = ap (first_role me) h
 
