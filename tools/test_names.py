@@ -1,32 +1,17 @@
 """Tests of tools/names."""
 
-import contextlib
-import io
-import pathlib
-import tempfile
 import unittest
 
-from trials import tool_of
+from trials import OverTree
 
 
-class NamesTest(unittest.TestCase):
+class NamesTest(OverTree):
+    tool = "names"
+
     def setUp(self) -> None:
-        room = tempfile.TemporaryDirectory()
-        self.addCleanup(room.cleanup)
-        self.top = pathlib.Path(room.name)
+        super().setUp()
         self.write("tools/names.same", "# none\n")
         self.write("crates/cx_one/specs/Words.antt", "-- words\npub record Mark : Type 0 where\n\nabbrev pub count : ℕ\ncount = 1\n\nprivate : ℕ\nprivate = 1\n")
-
-    def write(self, name: str, text: str) -> None:
-        file = self.top / name
-        file.parent.mkdir(parents=True, exist_ok=True)
-        file.write_text(text)
-
-    def says(self) -> tuple[int, list[str]]:
-        said = io.StringIO()
-        with contextlib.redirect_stdout(said):
-            status = tool_of("names").main(self.top)
-        return status, said.getvalue().splitlines()
 
     def test_each_name_in_one_crate(self) -> None:
         self.write("crates/cx_two/src/lib.rt", "pub struct Other;\nimpl Other {\n    pub fn count(&self) {}\n}\nfn private() {}\n")

@@ -1,34 +1,16 @@
 """Tests of tools/sizes."""
 
-import contextlib
-import io
-import pathlib
-import tempfile
 import unittest
 
-from trials import tool_of
+from trials import OverTree
 
 
 def counted(total: int) -> str:
     return f"sizes: {total} bytes of documents, of 110000"
 
 
-class SizesTest(unittest.TestCase):
-    def setUp(self) -> None:
-        room = tempfile.TemporaryDirectory()
-        self.addCleanup(room.cleanup)
-        self.top = pathlib.Path(room.name)
-
-    def write(self, name: str, text: str) -> None:
-        file = self.top / name
-        file.parent.mkdir(parents=True, exist_ok=True)
-        file.write_text(text)
-
-    def says(self) -> tuple[int, list[str]]:
-        said = io.StringIO()
-        with contextlib.redirect_stdout(said):
-            status = tool_of("sizes").main(self.top)
-        return status, said.getvalue().splitlines()
+class SizesTest(OverTree):
+    tool = "sizes"
 
     def test_which_files_are_documents(self) -> None:
         for name in ("README.md", "CONTRIBUTING.md", "CHANGELOG.md", "examples/README.md", "docs/MODEL.md", "docs/deep/traps.md"):

@@ -33,6 +33,28 @@ def tool_of(name: str) -> types.ModuleType:
     return module
 
 
+class OverTree(unittest.TestCase):
+    """What a tool says of a small tree of the test's own."""
+
+    tool = ""
+
+    def setUp(self) -> None:
+        room = tempfile.TemporaryDirectory()
+        self.addCleanup(room.cleanup)
+        self.top = pathlib.Path(room.name)
+
+    def write(self, name: str, text: str) -> None:
+        file = self.top / name
+        file.parent.mkdir(parents=True, exist_ok=True)
+        file.write_text(text)
+
+    def says(self) -> tuple[int, list[str]]:
+        said = io.StringIO()
+        with contextlib.redirect_stdout(said):
+            status = tool_of(self.tool).main(self.top)
+        return status, said.getvalue().splitlines()
+
+
 def run(tool: str, *words: object) -> tuple[int, str, str]:
     """Runs a tool in this process. Gives its status and what it wrote to both streams."""
     out, said = io.StringIO(), io.StringIO()
