@@ -27,6 +27,8 @@ pub struct Cluster {
     pub one_entry_a_grid: bool,
     /// Whether each leader has its values voted for through proxy leaders of its own, `proxies / leaders` of them.
     pub own_proxies: bool,
+    /// Whether a replacer keeps each set that it comes to know, and knows the last one when it is opened again.
+    pub keep_sets: bool,
     pub ghost f_fits: { f ≤ 3 },
     pub ghost some_leader: { 1 ≤ leaders },
     pub ghost leaders_fit: { leaders ≤ 8 },

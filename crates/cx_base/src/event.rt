@@ -23,7 +23,7 @@ pub enum Cut {
     Kept,
 }
 
-/// What a leader is ordered, or, by `Replace`, a replacer.
+/// What a leader is ordered, or, by `Replace`, a replacer, or, by `Offer`, a replica.
 #[derive(Clone, Copy, Debug, PartialEq, Eq)]
 pub enum Order {
     /// Begin a round above all that it has seen, with this grid.
@@ -34,6 +34,8 @@ pub enum Order {
     Collect,
     /// Replace the matchmakers by this set.
     Replace(Set),
+    /// Send another replica the values that are kept of 32 slots, from this one on.
+    Offer { to: u16, slot: u64 },
 }
 
 /// One event of a run, and its atomic step: a client asks, or one role takes a datagram, a tick or an order, snaps, crashes or
@@ -80,6 +82,12 @@ pub enum Event {
         replacer: u16,
         set: Set,
         cut: Cut,
+    },
+    /// A replica is ordered to send another one the values that it keeps of 32 slots, from this one on.
+    Offer {
+        replica: u16,
+        to: u16,
+        slot: u64,
     },
     /// A replica, an acceptor or a reader puts its list anew. A replica forgets by it the values that no other replica will ask
     /// it for; the others forget nothing.

@@ -33,7 +33,7 @@ pub use Rattle.cx_base.specs.declared.event.Cut.{Cut}
 pub use Rattle.cx_base.specs.declared.event.Cut.TheVariants.{Kept, Torn, Whole}
 pub use Rattle.cx_base.specs.declared.event.Event.{Event}
 pub use Rattle.cx_base.specs.declared.event.Happened.{Happened}
-pub use Rattle.cx_base.specs.declared.event.Order.TheVariants.{Change, Collect, Lead, Replace}
+pub use Rattle.cx_base.specs.declared.event.Order.TheVariants.{Change, Collect, Lead, Offer, Replace}
 pub use Rattle.cx_base.specs.declared.role.Kind.{Kind}
 pub use Rattle.cx_base.specs.declared.role.Kind.TheVariants.{Acceptor, Batcher, Client, Leader, Matchmaker, Proxy, Reader, Replacer}
 pub use Rattle.cx_base.specs.declared.role.Kind.TheVariants.{Replica, Unbatcher}

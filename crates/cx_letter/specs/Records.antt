@@ -62,6 +62,7 @@ record_shape (kept.Next r s) = shape 14 round_set (r, s)
 record_shape (kept.Boot s w es) = shape 15 boot (s, (w, es))
 record_shape (kept.Turn n) = shape 16 seq n
 record_shape (kept.Voted r top cw vs) = shape 17 voted (r, (top, (cw, vs)))
+record_shape (kept.Known s) = shape 18 set s
 
 -- how each tag's fields are read
 unfoldable pub record_cases : List (Case Record)
@@ -82,7 +83,8 @@ record_cases =
     case 14 round_set (λ x. kept.Next x.0 x.1) ∷
     case 15 boot (λ x. kept.Boot x.0 x.1.0 x.1.1) ∷
     case 16 seq (λ x. kept.Turn x) ∷
-    case 17 voted (λ x. kept.Voted x.0 x.1.0 x.1.1.0 x.1.1.1) ∷ []
+    case 17 voted (λ x. kept.Voted x.0 x.1.0 x.1.1.0 x.1.1.1) ∷
+    case 18 set (λ x. kept.Known x) ∷ []
 
 -- a record: its tag in one byte, and its fields
 unfoldable pub kept_record : Format Record

@@ -96,6 +96,10 @@ pub enum Record {
         cw: u64,
         votes: Votes,
     },
+    /// A replacer comes to know a set of matchmakers that was decided.
+    Known {
+        set: Set,
+    },
 }
 
 impl Duplicate for Record {
@@ -185,6 +189,7 @@ impl Duplicate for Record {
                 cw: *cw,
                 votes: votes.copy(alloc)?,
             }),
+            Record::Known { set } => Ok(Record::Known { set: *set }),
         }
     }
 }

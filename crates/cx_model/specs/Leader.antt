@@ -1,8 +1,8 @@
 -- The leader's rows: it begins rounds and retires the earlier ones (JSys 2021), and gives each batch a slot while it leads (VLDB 2021).
 use Rattle.std.specs.Prelude.{ℕ, ◌+◌, ◌-◌, ◌*◌, ◌/◌, ◌%◌, ◌==◌, Bool, true, false, not, ◌&&◌, ◌||◌, nat_lt, nat_le, max, map, filter}
 use Rattle.std.specs.Prelude.{if◌then◌else◌, List, [], ◌∷◌, ◌++◌, length, Option, None, Some, slice_index_or, slice_set}
-use Rattle.cx_letter.specs.Prelude.{list_all, Cluster, Command, Placed, Lead, Change, Collect, Replace, RoleId, Acceptor, Batcher, Leader}
-use Rattle.cx_letter.specs.Prelude.{Matchmaker, Proxy, Round, is_above, Shape, is_in, below, numbers, same_role, role, is_before}
+use Rattle.cx_letter.specs.Prelude.{list_all, Cluster, Command, Placed, Lead, Change, Collect, Offer, Replace, RoleId, Acceptor, Batcher}
+use Rattle.cx_letter.specs.Prelude.{Leader, Matchmaker, Proxy, Round, is_above, Shape, is_in, below, numbers, same_role, role, is_before}
 use Rattle.cx_letter.specs.Prelude.{same_round, no_round, lead_after, change_after, Letter, letter, Entry, NackReason, Vote}
 use Rattle.cx_base.specs.declared.command.Value.TheVariants.{Batch}
 use Rattle.cx_base.specs.declared.event.Order.{Order as OrderOf}
@@ -371,6 +371,7 @@ order_row c me d v (Lead g) = lead_row c me d v g
 order_row c me d v (Change g) = change_row c me d v g
 order_row c me d v Collect = collect_row c me d v
 order_row c me d v (Replace s) = only_word why.Stranger v
+order_row c me d v (Offer to s) = only_word why.Stranger v
 
 abbrev pub leader_row : Cluster → RoleId → LeaderDurable → LeaderVolatile → Input → Outcome LeaderVolatile
 leader_row c me d v (Take letter) =
@@ -415,7 +416,7 @@ leader_rules = record {
   after = leader_after;
   fits = leader_fits;
   whole = λ d. true;
-  fresh = idle_leader;
+  fresh = λ c d. idle_leader c;
   row = leader_row;
   snap = λ c me d v. None;
   renewed = λ d first. [];

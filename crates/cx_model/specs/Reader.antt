@@ -253,7 +253,7 @@ reader_rules = record {
   after = reader_after;
   fits = reader_fits;
   whole = λ d. true;
-  fresh = λ c. record { waiting = []; running = None; set = first_set c };
+  fresh = λ c d. record { waiting = []; running = None; set = first_set c };
   row = reader_row;
   snap = reader_snap;
   renewed = reader_renewed;

@@ -22,9 +22,10 @@ use Rattle.cx_model.specs.Names.{names, names_ballot, names_set}
 use Rattle.cx_model.specs.Outcome.{Outcome, only_word, replied}
 use Rattle.cx_model.specs.Rules.{Rules}
 
--- the greatest ballot that it began, or none
+-- the greatest ballot that it began, or none; and the last set that it kept, or none
 pub record ReplacerDurable : Type 0 where
   pub own : Round
+  pub known : List ℕ
 
 -- What it is doing; the greatest ballot that it was told of; the set that it knows; the set that is to follow: the one that was ordered,
 -- then the one that is to be decided; the answers of stopped matchmakers that it counted, and who answered the later questions; and what
@@ -180,17 +181,34 @@ next_b_row c me d v from b =
     else if is_in from.index v.counted then only_word why.Same v
     else next_counted c me v (with_mark from.index v.counted)
 
-abbrev pub boot_counted : Cluster → RoleId → ReplacerVolatile → List ℕ → Outcome ReplacerVolatile
-boot_counted c me v counted =
+-- of the set that it kept, or none, and the first one: which it knows when it is opened
+abbrev pub kept_or : List ℕ → List ℕ → List ℕ
+kept_or first [] = first
+kept_or first (m ∷ ms) = m ∷ ms
+
+abbrev pub known_set : Cluster → ReplacerDurable → List ℕ
+known_set c d = kept_or (first_set c) d.known
+
+-- where the header says so, a set that it comes to know is kept
+abbrev pub known_record : Cluster → ReplacerDurable → List ℕ → Option Record
+known_record c d s = if c.keep_sets && is_above s (known_set c d) then Some (kept.Known s) else None
+
+abbrev pub boot_counted : Cluster → RoleId → ReplacerDurable → ReplacerVolatile → List ℕ → Outcome ReplacerVolatile
+boot_counted c me d v counted =
     if nat_lt (length counted) (enough c) then only_word why.Counted (record v { counted = counted })
-    else replied why.Replaced (record v { mode = Idle; set = v.next }) (sets_to_all c me v.next)
+    else record {
+      why = why.Replaced;
+      kept = known_record c d v.next;
+      volatile = record v { mode = Idle; set = v.next };
+      sends = sets_to_all c me v.next;
+    }
 
 -- a member of the next set has begun; enough of them make it the known set
-abbrev pub boot_b_row : Cluster → RoleId → ReplacerVolatile → RoleId → List ℕ → Outcome ReplacerVolatile
-boot_b_row c me v from s =
+abbrev pub boot_b_row : Cluster → RoleId → ReplacerDurable → ReplacerVolatile → RoleId → List ℕ → Outcome ReplacerVolatile
+boot_b_row c me d v from s =
     if not (is_booting v.mode && bytes_eq s v.next) then only_word why.Old v
     else if is_in from.index v.counted then only_word why.Same v
-    else boot_counted c me v (with_mark from.index v.counted)
+    else boot_counted c me d v (with_mark from.index v.counted)
 
 abbrev pub with_seen : Round → ReplacerVolatile → ReplacerVolatile
 with_seen i v = record v { seen = later_round v.seen i }
@@ -202,15 +220,18 @@ stop_nack_row d v b other =
     else only_word why.Nacked (record (with_seen other v) { mode = Idle })
 
 -- another replacer tells a set
-abbrev pub sets_row : ReplacerVolatile → List ℕ → Outcome ReplacerVolatile
-sets_row v s = if is_above s v.set then only_word why.Learnt (record v { mode = Idle; set = s }) else only_word why.Old v
+abbrev pub sets_row : Cluster → ReplacerDurable → ReplacerVolatile → List ℕ → Outcome ReplacerVolatile
+sets_row c d v s =
+    if is_above s v.set
+    then record { why = why.Learnt; kept = known_record c d s; volatile = record v { mode = Idle; set = s }; sends = [] }
+    else only_word why.Old v
 
 abbrev pub replacer_takes : Cluster → RoleId → ReplacerDurable → ReplacerVolatile → RoleId → Msg → Outcome ReplacerVolatile
 replacer_takes c me d v from (msg.StopB b w es a s) = stop_b_row c me d v from b w es a s
 replacer_takes c me d v from (msg.NextB b) = next_b_row c me d v from b
-replacer_takes c me d v from (msg.BootB s) = boot_b_row c me v from s
+replacer_takes c me d v from (msg.BootB s) = boot_b_row c me d v from s
 replacer_takes c me d v from (msg.StopNack b other) = stop_nack_row d v b other
-replacer_takes c me d v from (msg.Sets s) = sets_row v s
+replacer_takes c me d v from (msg.Sets s) = sets_row c d v s
 replacer_takes c me d v from other = only_word why.Stranger v
 
 -- what is waited for is asked again; a later set than the first is told again
@@ -231,20 +252,22 @@ replacer_row c me d v Tick = tick_in c me d v v.mode
 replacer_row c me d v (Order order) = replacer_orders c me d v order
 
 abbrev pub replacer_after : ReplacerDurable → Record → ReplacerDurable
-replacer_after d (kept.Ballot b) = record { own = b }
+replacer_after d (kept.Ballot b) = record d { own = b }
+replacer_after d (kept.Known s) = record d { known = s }
 replacer_after d other = d
 
 -- whether the replacer could have appended this record
 abbrev pub replacer_fits : Cluster → RoleId → ReplacerDurable → Record → Bool
 replacer_fits c me d (kept.Ballot b) = names_ballot c b && (b.id == me.index) && is_before d.own b && (b.s == 0)
+replacer_fits c me d (kept.Known s) = c.keep_sets && names_set c s && is_above s (known_set c d)
 replacer_fits c me d other = false
 
-abbrev pub idle_replacer : Cluster → ReplacerVolatile
-idle_replacer c =
+abbrev pub idle_replacer : Cluster → ReplacerDurable → ReplacerVolatile
+idle_replacer c d =
     record {
       mode = Idle;
       seen = no_round;
-      set = first_set c;
+      set = known_set c d;
       next = [];
       halts = [];
       counted = [];
@@ -252,11 +275,11 @@ idle_replacer c =
       entries = [];
     }
 
--- its ballot is durable; whatever else it knows it learns again
+-- its ballot is durable, and a set that it kept; whatever else it knows it learns again
 abbrev pub replacer_rules : Rules ReplacerDurable ReplacerVolatile
 replacer_rules = record {
   kind = Replacer;
-  empty = record { own = no_round };
+  empty = record { own = no_round; known = [] };
   after = replacer_after;
   fits = replacer_fits;
   whole = λ d. true;

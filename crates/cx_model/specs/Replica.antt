@@ -8,6 +8,8 @@ use Rattle.cx_letter.specs.Prelude.{map_after, reply_of, text_at, below, rises, 
 use Rattle.cx_letter.specs.Prelude.{floor_of, is_done, noted_for, with_told, with_answer, same_role, role, Letter, letter}
 use Rattle.cx_base.specs.declared.why.Why.TheVariants.{Answered as AnsweredWord, Applied, Deferred as DeferredWord, Early, Fetched, Window}
 use Rattle.cx_base.specs.Noted.{new_table}
+use Rattle.cx_base.specs.declared.event.Order.{Order as OrderOf}
+use Rattle.cx_base.specs.declared.event.Order.TheVariants.{Offer}
 use Rattle.cx_letter.specs.declared.input.Input.{Input}
 use Rattle.cx_letter.specs.declared.input.Input.TheVariants.{Take, Tick, Order}
 use Rattle.cx_letter.specs.declared.message.Msg.{Msg}
@@ -195,11 +197,38 @@ fetch_to c me held = if nat_lt 1 c.replicas then letter me (role Replica ((me.in
 abbrev pub replica_tick : Cluster → RoleId → ReplicaDurable → ReplicaVolatile → Outcome ReplicaVolatile
 replica_tick c me d v = replied Resent v (map (held_to me (held d)) (below c.leaders) ++ fetch_to c me (held d))
 
+-- the value that it keeps of a slot
+abbrev pub value_kept : ReplicaDurable → ℕ → Option Value
+value_kept d s = if nat_lt s d.first then None else slice_get d.log (s - d.first)
+
+abbrev pub offer_of : RoleId → RoleId → ℕ → Option Value → List Letter
+offer_of me to s None = []
+offer_of me to s (Some value) = letter me to (msg.Chosen s value) ∷ []
+
+-- the values that it keeps of n slots from `s` on, the greatest slot first
+unfoldable pub offers : RoleId → RoleId → ReplicaDurable → ℕ → ℕ → List Letter
+offers me to d s zero = []
+offers me to d s (suc n) = offer_of me to (s + n) (value_kept d (s + n)) ++ offers me to d s n
+
+abbrev pub offered : ReplicaVolatile → List Letter → Outcome ReplicaVolatile
+offered v [] = only_word Idle v
+offered v (first ∷ rest) = replied Fetched v (first ∷ rest)
+
+-- the order to send another replica what it keeps of 32 slots from this one on (this project's own)
+abbrev pub offer_row : Cluster → RoleId → ReplicaDurable → ReplicaVolatile → ℕ → ℕ → Outcome ReplicaVolatile
+offer_row c me d v to s =
+    if not (nat_lt to c.replicas) || (to == me.index) then only_word Stranger v
+    else offered v (offers me (role Replica to) d s 32)
+
+abbrev pub replica_orders : Cluster → RoleId → ReplicaDurable → ReplicaVolatile → OrderOf → Outcome ReplicaVolatile
+replica_orders c me d v (Offer to s) = offer_row c me d v to s
+replica_orders c me d v other = only_word Stranger v
+
 abbrev pub replica_row : Cluster → RoleId → ReplicaDurable → ReplicaVolatile → Input → Outcome ReplicaVolatile
 replica_row c me d v (Take letter) =
     if same_role letter.to me && names c letter then replica_takes c me d v letter.from letter.msg else only_word Stranger v
 replica_row c me d v Tick = replica_tick c me d v
-replica_row c me d v (Order order) = only_word Stranger v
+replica_row c me d v (Order order) = replica_orders c me d v order
 
 -- the answer that is noted of a client
 abbrev pub answer_of : ℕ → Note → Answered
@@ -292,7 +321,7 @@ replica_rules = record {
   after = replica_after;
   fits = replica_fits;
   whole = is_renewal_whole;
-  fresh = λ c. record { early = []; deferred = []; fetched = 0 };
+  fresh = λ c d. record { early = []; deferred = []; fetched = 0 };
   row = replica_row;
   snap = replica_snap;
   renewed = replica_renewed;

@@ -57,18 +57,18 @@ abbrev pub replacer_volatile : State → Option ReplacerVolatile
 replacer_volatile (ReplacerIn v) = Some v
 replacer_volatile other = None
 
--- a role that was just opened
+-- a role that was just opened over an empty store
 abbrev pub fresh_state : Cluster → Kind → State
 fresh_state c kind.Client = Down
-fresh_state c kind.Batcher = BatcherIn (batcher_rules.fresh c)
-fresh_state c kind.Leader = LeaderIn (leader_rules.fresh c)
-fresh_state c kind.Proxy = ProxyIn (proxy_rules.fresh c)
+fresh_state c kind.Batcher = BatcherIn (batcher_rules.fresh c batcher_rules.empty)
+fresh_state c kind.Leader = LeaderIn (leader_rules.fresh c leader_rules.empty)
+fresh_state c kind.Proxy = ProxyIn (proxy_rules.fresh c proxy_rules.empty)
 fresh_state c kind.Acceptor = Plain
 fresh_state c kind.Matchmaker = Plain
-fresh_state c kind.Replica = ReplicaIn (replica_rules.fresh c)
+fresh_state c kind.Replica = ReplicaIn (replica_rules.fresh c replica_rules.empty)
 fresh_state c kind.Unbatcher = Plain
-fresh_state c kind.Reader = ReaderIn (reader_rules.fresh c)
-fresh_state c kind.Replacer = ReplacerIn (replacer_rules.fresh c)
+fresh_state c kind.Reader = ReaderIn (reader_rules.fresh c reader_rules.empty)
+fresh_state c kind.Replacer = ReplacerIn (replacer_rules.fresh c replacer_rules.empty)
 
 -- the states with another one of a role
 unfoldable pub set_state : RoleId → State → (RoleId → State) → RoleId → State

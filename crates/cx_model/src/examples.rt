@@ -40,10 +40,12 @@ ghost use Rattle.cx_model.specs.ExamplesReaderForgets.{ReaderForgets};
 ghost use Rattle.cx_model.specs.ExamplesRefusedChange.{RefusedChange};
 ghost use Rattle.cx_model.specs.ExamplesRepeatTellsItsFloor.{RepeatTellsItsFloor};
 ghost use Rattle.cx_model.specs.ExamplesRepeatsChangeNothing.{RepeatsChangeNothing};
+ghost use Rattle.cx_model.specs.ExamplesReplicaOffersValues.{ReplicaOffersValues};
 ghost use Rattle.cx_model.specs.ExamplesRetireEarlierRounds.{RetireEarlierRounds};
 ghost use Rattle.cx_model.specs.ExamplesRetiredGridIsNotAsked.{RetiredGridIsNotAsked};
 ghost use Rattle.cx_model.specs.ExamplesRowIsNoColumn.{RowIsNoColumn};
 ghost use Rattle.cx_model.specs.ExamplesSession.{Session};
+ghost use Rattle.cx_model.specs.ExamplesSetIsKept.{SetIsKept};
 ghost use Rattle.cx_model.specs.ExamplesSnapshotOfOne.{SnapshotOfOne};
 ghost use Rattle.cx_model.specs.ExamplesSnapshotWaits.{SnapshotWaits};
 ghost use Rattle.cx_model.specs.ExamplesAcceptorPutsItsListAnew.{AcceptorPutsItsListAnew};
@@ -209,6 +211,12 @@ pub fn held_slots_are_forgotten()
     ensures { HeldSlotsAreForgotten }
 {}
 
+/// A replica is ordered to send another one the values that it keeps of 32 slots: the greatest first, none that it has
+/// forgotten. The other one keeps them in one record.
+pub fn replica_offers_values()
+    ensures { ReplicaOffersValues }
+{}
+
 /// A replica keeps a value that comes before its turn until its turn, and a read waits for all slots that were voted at.
 /// One replica for each slot sends the answers, and each client gets its own.
 pub fn values_in_slot_order()
@@ -266,6 +274,12 @@ pub fn change_settles_anew()
 /// only lead anew, in a round that asks the acceptors.
 pub fn refused_change()
     ensures { RefusedChange }
+{}
+
+/// With the key a replacer keeps the set that it comes to know, as the one that replaced it and as one that is told. After
+/// all stopped and started it is told again, though nobody asked the first set.
+pub fn set_is_kept()
+    ensures { SetIsKept }
 {}
 
 /// The one matchmaker is stopped, the next is decided with its vote, and begins with what it recorded. The stopped one

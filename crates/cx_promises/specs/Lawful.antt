@@ -6,9 +6,9 @@ use Rattle.cx_model.specs.Prelude.{Cluster, Value, Event, KeptRecord, is_chosen,
 use Rattle.cx_model.specs.Prelude.{ReadsAreRight, ReadsAreOfTheirReplica, ReadsComeAfterAnswers, ReadsComeAfterReads}
 use Rattle.cx_model.specs.Prelude.{SessionsComeAfterHeard, RoundsAskLater, TurnsAskLater, ReadsAskLater, OneNextSet, SetsAreDecided}
 use Rattle.cx_model.specs.Prelude.{ForgottenIsKept, run, log_of}
-use Rattle.cx_model.specs.Promises.{ListIsChosen, ReplicasHoldIt, ListGrows, MapsAreFolds, TablesAreFolds, NoneActsTwice, AnswersAreRight}
-use Rattle.cx_model.specs.Promises.{ResultsAreRight, CommandsWereAsked, RequestsAreOnce, OrderIsKept, ChosenBelow, HeldBelow}
-use Rattle.cx_model.specs.Promises.{NothingIsLost, RenewalsKeepAll, SetsAreAChain, EachBeginsOnce}
+use Rattle.cx_model.specs.Promises.{ListIsChosen, ReplicasHoldIt, ReplicasSendWhatTheyKept, ListGrows, MapsAreFolds, TablesAreFolds}
+use Rattle.cx_model.specs.Promises.{NoneActsTwice, AnswersAreRight, ResultsAreRight, CommandsWereAsked, RequestsAreOnce, OrderIsKept, ChosenBelow, HeldBelow}
+use Rattle.cx_model.specs.Promises.{NothingIsLost, RenewalsKeepAll, SetsAreAChain, EachBeginsOnce, KeptSetsAreDecided}
 use Rattle.cx_inv_alive.specs.Alive.{NoDeadEnds}
 use Rattle.cx_inv_announce.specs.Announced.{Announced}
 use Rattle.cx_inv_bypass.specs.Bypassed.{BypassedRounds}
@@ -23,6 +23,7 @@ pub record IsLawful (c : Cluster) (es : List Event) : Type 0 where
   -- one command list
   pub chosen : ListIsChosen c es
   pub replicas_hold_it : ReplicasHoldIt c es
+  pub they_send_what_they_kept : ReplicasSendWhatTheyKept c es
   pub it_grows : ListGrows c es
   pub maps_are_folds : MapsAreFolds c es
   pub tables_are_folds : TablesAreFolds c es
@@ -49,6 +50,7 @@ pub record IsLawful (c : Cluster) (es : List Event) : Type 0 where
   pub sets_are_a_chain : SetsAreAChain c es
   pub sets_are_decided : SetsAreDecided c es
   pub each_begins_once : EachBeginsOnce c es
+  pub kept_sets_are_decided : KeptSetsAreDecided c es
   -- safe snapshots
   pub nothing_is_lost : NothingIsLost c es
   pub forgotten_is_kept : ForgottenIsKept c es
