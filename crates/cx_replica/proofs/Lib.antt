@@ -10,3 +10,4 @@ pub mod Rows
 pub mod Snapping
 pub mod Vacant
 pub mod Values
+pub mod Waiting

@@ -8,7 +8,6 @@ ghost use Rattle.cx_replica.specs.Rows.{applied_in, chosen_row_in};
 ghost use Rattle.cx_replica.specs.Sound.{is_cluster_value};
 ghost use Rattle.cx_role.specs.Role.{IsStep, MayKeep};
 
-use crate::reads::drop_answered;
 use crate::replica::Replica;
 use crate::rooms::Rooms;
 use crate::sending::answer_reads;
@@ -76,7 +75,7 @@ impl Replica {
         self.log.put(values);
         // Its list has a record now.
         self.wanted.begun = true;
-        drop_answered(&mut self.deferred, self.log.held());
+        self.deferred.drop_answered(self.log.held());
         Ok(Why::Applied)
     }
 }

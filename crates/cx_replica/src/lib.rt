@@ -24,6 +24,7 @@
 
 mod apply;
 mod clients;
+mod deferred;
 mod machine;
 mod opening;
 mod orders;

@@ -1,35 +1,18 @@
 //! The rows of reads, and of the value that another replica asks for.
 
 ghost use Rattle.std.specs.Prelude.{◌≡◌, [], IsTrue};
-ghost use Rattle.std.specs.List.{list_any};
 ghost use Rattle.cx_base.specs.Role.{role};
 ghost use Rattle.cx_base.specs.declared.role.Kind.{Kind};
-ghost use Rattle.cx_model.specs.declared.states.Deferred.{Deferred as DeferredOf};
-ghost use Rattle.cx_model.specs.Replica.{before, fetch_row, fetched_by, read_row, replica_rules, still_deferred};
-ghost use Rattle.cx_model.specs.Request.{same_read};
+ghost use Rattle.cx_model.specs.Replica.{before, fetch_row, fetched_by, read_row, replica_rules};
 ghost use Rattle.cx_field.specs.Fields as field;
 ghost use Rattle.cx_role.specs.Role.{IsReply};
 
 use crate::replica::Replica;
 use crate::sending::answer_at;
 use cx_base::{NoMemory, READS, RoleId, Why};
-use cx_field::Token;
 use cx_letter::fetched;
 use cx_model::Deferred;
 use cx_role::Outbox;
-
-fn is_deferred(deferred: &[Deferred], token: Token) -> bool
-    ensures { result ≡ list_any (λ (other : DeferredOf). same_read token other.token) deferred.now }
-{
-    deferred.iter().any(|other| token == other.token)
-}
-
-/// Drops the reads that waited for no more slots than are held.
-pub fn drop_answered(deferred: &mut Vec<Deferred>, held: u64)
-    ensures { deferred.new.items ≡ still_deferred held deferred.old.items }
-{
-    deferred.retain(|one| held < one.mark);
-}
 
 impl Replica {
     /// A reader, or a client in a session, asks for a key's text, once the slots that it names are held. It is answered at
@@ -48,7 +31,7 @@ impl Replica {
             out.push(answer_at(self.me, held, &self.machine, &one));
             return Ok(Why::Answered);
         }
-        if is_deferred(&self.deferred, one.token) {
+        if self.deferred.has(one.token) {
             return Ok(Why::Same);
         }
         if self.deferred.len() >= READS {

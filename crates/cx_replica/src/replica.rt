@@ -4,6 +4,7 @@ ghost use Rattle.std.specs.Prelude.{◌≡◌, true, false, is_some, IfSome, IsT
 ghost use Rattle.cx_field.specs.Fields as field;
 ghost use Rattle.cx_model.specs.Replica.{ReplicaDurable, ReplicaVolatile, held, is_renewal_whole, replica_rules};
 
+use crate::deferred::DeferredReads;
 use crate::machine::Machine;
 use crate::sending::{ask_next, tell_held};
 use crate::wanted::Wanted;
@@ -32,7 +33,7 @@ pub struct Replica {
     // What its list has still to say while it is opened.
     pub(crate) wanted: Wanted,
     // The reads that wait until more slots are held.
-    pub(crate) deferred: Vec<Deferred>,
+    pub(crate) deferred: DeferredReads,
     // The greatest slot that the replica before this one asked for; that one holds all slots below.
     pub(crate) fetched: u64,
 }
@@ -46,11 +47,10 @@ impl Model for Replica {
     ghost Value = { Running ReplicaDurable ReplicaVolatile };
 
     ghost view = { λ r.
-        replica_view r.cluster r.me r.live r.log r.machine.left r.wanted r.deferred.items
-        r.fetched };
+        replica_view r.cluster r.me r.live r.log r.machine.left r.wanted r.deferred r.fetched };
 
     ghost invariant = { λ r.
-        IsSound r.cluster r.me r.live r.log r.machine.left r.wanted r.deferred.items };
+        IsSound r.cluster r.me r.live r.log r.machine.left r.wanted r.deferred };
 }
 
 // A read that a client sends itself, in a session, and so doesn't name its client.
@@ -121,7 +121,7 @@ impl Role for Replica {
             log: Log::new(alloc)?,
             machine: Machine::new(alloc),
             wanted: Wanted::new(),
-            deferred: Vec::new(alloc),
+            deferred: DeferredReads::new(alloc),
             fetched: 0,
         })
     }

@@ -8,6 +8,7 @@ ghost use Rattle.cx_model.specs.Replica.{fetch_to, held_to, results_at};
 ghost use Rattle.cx_replica.specs.Answering.{answer_at, answers_at};
 ghost use Rattle.cx_replica.specs.Sound.{are_answers, are_reads};
 
+use crate::deferred::DeferredReads;
 use crate::machine::Machine;
 use cx_base::{Answered, Cluster, Few, RoleId};
 use cx_letter::{Datagram, fetch, held, read_answer, results};
@@ -86,11 +87,12 @@ pub fn answer_at(me: RoleId, held: u64, machine: &Machine, one: &Deferred) -> Da
 }
 
 /// Answers each read that waited for no more slots than are held, in order. Room was taken beforehand.
+#[tactic(auto, using(crate::proofs::Waiting::drop_next))]
 pub fn answer_reads(
     me: RoleId,
     held: u64,
     machine: &Machine,
-    deferred: &[Deferred],
+    deferred: &DeferredReads,
     out: &mut Outbox,
 )
     requires kind { me.kind ≡ kind.Replica }
@@ -99,9 +101,10 @@ pub fn answer_reads(
     requires spare { length deferred.now ≤ out.old.spare }
     ensures { out.new.list ≡ out.old.list ++ answers_at me held machine.now.left.map deferred.now }
 {
-    for one in deferred {
+    for place in 0..deferred.len() {
+        let one = deferred.at(place);
         if one.mark <= held {
-            out.push(answer_at(me, held, machine, one));
+            out.push(answer_at(me, held, machine, &one));
         }
     }
 }

@@ -52,8 +52,8 @@ invariant_of-self-2 g c =
     let log = i.log in
     let new = c.put.new.self in
     let vs = c.in_ok-values.values in
-    let reads = i.deferred.items in
-    let left = c.drop_answered.new.deferred.items in
+    let reads = i.deferred in
+    let left = c.drop_answered.new.self in
     let now = c.held.result in
     let after = c.execute_values.new.self.left in
     let all = own g (goal.at.invariant_of-self-2 g c).In_ok-values in
@@ -87,8 +87,8 @@ returns g c =
     let log = i.log in
     let value = c.args.value.now in
     let vs = c.in_ok-values.values in
-    let reads = i.deferred.items in
-    let left = c.drop_answered.new.deferred.items in
+    let reads = i.deferred in
+    let left = c.drop_answered.new.self in
     let put = c.put in
     let executed = c.execute_values in
     let before : held c.ready.new.self ≡ held log = (λ j. c.ready.ensures.first j + length (c.ready.ensures.list j)) in
@@ -118,8 +118,8 @@ returns g c =
           c.self.view_is
           (sent_behind i.cluster i.me (held log) _ vs c.as_slice-2.result.now i.machine.left c.make_room.new.self.left
           executed.new.self.left c.held-held.result (c.held-held.result + length c.as_slice-count.result.now) reads
-          c.deref.result.now c.room.new.self.list executed.new.out.list c.answer_reads.new.out.list
-          c.make_room.ensures.left at values ready c.deref.ensures.value
+          reads c.room.new.self.list executed.new.out.list c.answer_reads.new.out.list
+          c.make_room.ensures.left at values ready refl
           executed.ensures.machine count empty executed.ensures.sends c.answer_reads.ensures);
     })
     (search rules)

@@ -11,7 +11,7 @@ invariant_of-self-2 g c =
     let later : i.log.first ≤ c.args.first = rw (← c.self.view_is) at c.requires.later in
     let within : c.args.first ≤ held i.log = rw (← c.self.view_is) at c.requires.within in
     sound_renewed i.cluster i.me i.live c.renew.new.live i.log c.in_ok-tail.tail i.machine.left i.wanted c.nothing-self-inside.result
-    i.deferred.items c.args.first c.self.invariant later within c.in_ok-tail.ensures c.nothing-self-inside.ensures
+    i.deferred c.args.first c.self.invariant later within c.in_ok-tail.ensures c.nothing-self-inside.ensures
 
 pub returns : goal.returns
 returns g c =
@@ -25,10 +25,10 @@ returns g c =
         why = refl;
         list = rw list at c.in_ok-renew.ensures.renewed;
         state = subst (λ (s : Running ReplicaDurable ReplicaVolatile). replica_view i.cluster i.me c.renew.new.live c.in_ok-tail.tail
-            i.machine.left c.nothing-self-inside.result i.deferred.items i.fetched ≡ snapped_by replica_rules s (Some c.args.first))
+            i.machine.left c.nothing-self-inside.result i.deferred i.fetched ≡ snapped_by replica_rules s (Some c.args.first))
             c.self.view_is
             (rw c.in_ok-renew.ensures.lives (state_renewed i.cluster i.me i.live i.log c.in_ok-tail.tail i.machine.left i.wanted
-            c.nothing-self-inside.result i.deferred.items i.fetched
+            c.nothing-self-inside.result i.deferred i.fetched
             c.args.first c.in_ok-tail.ensures c.nothing-self-inside.ensures later c.self.invariant.ordered));
         sends = refl;
       };

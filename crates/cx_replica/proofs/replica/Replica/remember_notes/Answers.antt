@@ -13,6 +13,6 @@ invariant_of-result c =
     let parts = noted_parts i.cluster i.me d c.args.client c.args.floor c.args.notes.now fits in
     let noted = client_noted i.cluster c.args.client c.args.floor c.args.notes.now i.machine.left.table parts.0 c.requires.some parts.1
     parts.2 c.self.invariant.noted in
-    sound_notes i.cluster i.me i.live i.log i.machine.left c.in_ok-machine.machine.left i.wanted i.deferred.items c.self.invariant
+    sound_notes i.cluster i.me i.live i.log i.machine.left c.in_ok-machine.machine.left i.wanted i.deferred c.self.invariant
     (rw (← c.self.view_is) at c.requires.waits) c.in_ok-machine.ensures.ordered
     (subst (λ (m : Machine). IsTableOfCluster i.cluster m.table) (sym c.in_ok-machine.ensures.left) noted)

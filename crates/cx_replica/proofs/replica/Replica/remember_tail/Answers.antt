@@ -15,6 +15,6 @@ invariant_of-replica c =
     let list : new.list ≡ log.list ++ values = ap (λ (l : LogState). l.list) c.in_ok-restore.ensures.ok in
     let first : new.first ≡ log.first = ap (λ (l : LogState). l.first) c.in_ok-restore.ensures.ok in
     let early = none_own i.cluster new log.first (log.list ++ values) 0 c.in_ok-restore.ensures.ok in
-    sound_tail i.cluster i.me i.live log new i.machine.left i.wanted i.deferred.items values c.replica.invariant
+    sound_tail i.cluster i.me i.live log new i.machine.left i.wanted i.deferred values c.replica.invariant
     (rw (← c.replica.view_is) at c.requires.waits) first list (tailed_own i.cluster i.me d values c.requires.ranges fits) early
     (tailed_few i.cluster i.me d values fits)

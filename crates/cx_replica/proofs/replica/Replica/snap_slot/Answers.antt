@@ -12,5 +12,5 @@ returns-clause-fits c first is =
     subst (λ (n : ℕ). refused replica_rules c.args.self.now.cluster c.args.self.now.me (replica_renewed c.args.self.now.durable n) ≡ None)
     (same_Some c.if-self-eq1.slot first is) (subst (λ (s : Running ReplicaDurable ReplicaVolatile).
     refused replica_rules s.cluster s.me (replica_renewed s.durable c.if-self-eq1.slot) ≡ None) c.self.view_is
-    (renewed_opens i.cluster i.me i.live i.log i.machine.left i.wanted i.deferred.items c.if-self-eq1.slot c.self.invariant
+    (renewed_opens i.cluster i.me i.live i.log i.machine.left i.wanted i.deferred c.if-self-eq1.slot c.self.invariant
     c.keys.ensures.rises later within))
