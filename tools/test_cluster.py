@@ -24,7 +24,7 @@ from asking import Command, ask
 from headers import Role, program
 from processes import Process
 from states import State, read_state
-from trials import LONGEST, SMALL, Trial, run, until
+from trials import LONGEST, SMALL, TOOLS, Trial, run, until
 
 CLIENTS = 4
 PUTS = 125                              # of each client, and more of them until all processes are killed
@@ -513,6 +513,55 @@ class SupervisorTest(ClusterTrial):
         self.assertFalse(node.lives())
         self.up()
         self.assertEqual(self.kv("get", "a"), "is 1")
+
+    def foreground(self) -> subprocess.Popen[str]:
+        """The cluster, started by a tool that stays."""
+        self.addCleanup(run, "cluster", "down", self.file)
+        words = [TOOLS / "cluster", "up", "--foreground", self.file]
+        tool = subprocess.Popen(words, stdout=subprocess.PIPE, stderr=subprocess.PIPE, text=True)
+        self.addCleanup(tool.communicate)
+        self.addCleanup(tool.kill)
+        assert tool.stdout
+        until_up = itertools.takewhile(lambda line: not line.startswith("up: 1 process of "), iter(tool.stdout.readline, ""))
+        self.assertTrue(list(until_up), "its roles are said first")
+        self.assertIsNone(tool.poll())
+        return tool
+
+    def test_a_foreground_that_is_asked_to_end(self) -> None:
+        """It ends what it started, and says nothing against it."""
+        for number in (signal.SIGTERM, signal.SIGINT):
+            tool = self.foreground()
+            started = [self.state().supervisor, self.node()]
+            tool.send_signal(number)
+            self.assertEqual((tool.wait(LONGEST), tool.communicate()[1]), (0, ""))
+            self.assertFalse(any(process.lives() for process in started))
+
+    def test_a_foreground_whose_cluster_is_ended(self) -> None:
+        """`down` is an end that was asked for; a supervisor that is killed isn't, and then its processes go on."""
+        tool = self.foreground()
+        self.passes("cluster", "down", self.file)
+        self.assertEqual((tool.wait(LONGEST), tool.communicate()[1]), (0, ""))
+        tool = self.foreground()
+        node = self.node()
+        self.state().supervisor.send(signal.SIGKILL)
+        self.assertEqual(tool.wait(LONGEST), 1)
+        self.assertEqual(tool.communicate()[1], "cluster: the supervisor has ended, so no process is started again\n")
+        self.assertTrue(node.lives())
+
+    def test_a_foreground_that_is_not_answered(self) -> None:
+        """It says so and stays, as the supervisor does: what can be mended meanwhile is."""
+        program = self.room / "program"
+        program.write_text("#!/bin/sh\necho out of order >&2\nexit 3\n")
+        program.chmod(0o755)
+        self.addCleanup(run, "cluster", "down", self.file)
+        words = [TOOLS / "cluster", "up", "--foreground", self.file]
+        with subprocess.Popen(words, stdout=subprocess.DEVNULL, stderr=subprocess.PIPE, text=True, env={**os.environ, "COMPAX": str(program)}) as tool:
+            assert tool.stderr
+            lines = iter(tool.stderr.readline, "")
+            self.assertIn("it was started, but the node ended with status 3", next(line for line in lines if "it was started" in line))
+            self.assertIsNone(tool.poll())
+            tool.terminate()
+            self.assertEqual(tool.wait(LONGEST), 0)
 
     def test_only_what_was_started_is_ended(self) -> None:
         """A process that has got the number of one that was started isn't touched."""
