@@ -3,7 +3,8 @@ use Rattle.std.specs.Prelude.{ℕ, List, [], ◌∷◌, Bool, codes, bytes_eq}
 use Rattle.std.specs.List.{list_any}
 use Rattle.cx_cluster.specs.declared.key.ClusterKey.{ClusterKey}
 use Rattle.cx_cluster.specs.declared.key.ClusterKey.TheVariants.{F, Leaders, Proxies, Acceptors, Replicas, Batchers, Unbatchers, Readers}
-use Rattle.cx_cluster.specs.declared.key.ClusterKey.TheVariants.{Clients, Batch, BasePort, Pool, Replacers, OneEntryAGrid, OwnProxies, KeepSets}
+use Rattle.cx_cluster.specs.declared.key.ClusterKey.TheVariants.{Clients, Batch, BasePort, Pool, Replacers, OneEntryAGrid, OwnProxies}
+use Rattle.cx_cluster.specs.declared.key.ClusterKey.TheVariants.{KeepSets}
 
 -- how a key is written
 abbrev pub key_name : ClusterKey → List ℕ

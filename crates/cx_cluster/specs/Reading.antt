@@ -11,7 +11,8 @@ use Rattle.cx_cluster.specs.declared.fault.ClusterFault.{ClusterFault}
 use Rattle.cx_cluster.specs.declared.fault.ClusterFault.TheVariants.{Toml, Unknown, Missing, NotNumber, Range}
 use Rattle.cx_cluster.specs.declared.key.ClusterKey.{ClusterKey}
 use Rattle.cx_cluster.specs.declared.key.ClusterKey.TheVariants.{F, Leaders, Proxies, Acceptors, Replicas, Batchers, Unbatchers, Readers}
-use Rattle.cx_cluster.specs.declared.key.ClusterKey.TheVariants.{Clients, Batch, BasePort, Pool, Replacers, OneEntryAGrid, OwnProxies, KeepSets}
+use Rattle.cx_cluster.specs.declared.key.ClusterKey.TheVariants.{Clients, Batch, BasePort, Pool, Replacers, OneEntryAGrid, OwnProxies}
+use Rattle.cx_cluster.specs.declared.key.ClusterKey.TheVariants.{KeepSets}
 use Rattle.cx_cluster.specs.Keys.{key_name, is_key}
 
 -- a number from low to high
