@@ -35,7 +35,7 @@ from statuses import lines_by_status  # noqa: E402
 
 DATA = TOP / "crates/compax/data"
 BAD_WORDS, BAD_INPUT, LINK_FAILED, STORE_FAILED, NO_MEMORY = 2, 3, 6, 7, 9
-OPTIONAL = ("pool", "replacers", "one_entry_a_grid", "own_proxies")        # keys that a header may lack
+OPTIONAL = ("pool", "replacers", "one_entry_a_grid", "own_proxies", "keep_sets")        # keys that a header may lack
 NODE_ROW = re.search(r"^\| `compax node .*", (TOP / "docs/INPUT.md").read_text(), re.MULTILINE)[0]
 OPTIONS = dict(re.findall(r"\[(--\w+)( \w)?\]", NODE_ROW))         # whether each takes a number
 VALUES = {"--turns": ("1", "10", "200"), "--tend": ("64", "65", "1024", "65536"), "--window": ("1", "2", "63", "64")}
@@ -122,7 +122,10 @@ def events(rng, values, count):
             count, pool = 2 * values["f"] + 1, indices(values, "match")
             members = sorted(rng.sample(range(pool), count))
             yield f"replace {role(rng, values, ['replacer'])} {','.join(map(str, members))}" + rng.choice([""] * 8 + [" torn", " kept"])
-        elif what < 97:
+        elif what < 97 and indices(values, "replica") > 1:
+            replica, other = rng.sample(range(indices(values, "replica")), 2)
+            yield f"offer replica:{replica} replica:{other} {rng.choice([0, rng.randrange(8), 2**40])}"
+        elif what < 98:
             yield f"snap {role(rng, values, ['replica'])}" + rng.choice([""] * 8 + [" torn", " kept"])
         else:
             yield f"{rng.choice(['crash', 'restart', 'restart', 'restart'])} {role(rng, values, others)}"
@@ -227,7 +230,7 @@ WHOLE = {
                 bytes.fromhex("04010100000016080000000000000001000000000000000100000001010100000006090101610131"
                               "010000001d0a0000000000000000000001000000000000000100000000000000010000")],
     "reader": [bytes.fromhex("010000000910000000000000000100")],
-    "replacer": [bytes.fromhex("010000000b0c0000000100000000000000")],
+    "replacer": [bytes.fromhex("010000000b0c0000000100000000000000"), bytes.fromhex("01000000041201000100")],
 }
 
 

@@ -12,12 +12,14 @@ Read = NamedTuple("Read", [("client", int), ("seq", int), ("floor", int), ("read
 Session = NamedTuple("Session", [("client", int), ("seq", int), ("floor", int), ("replica", int), ("key", str)])
 Request = Write | Read | Session
 
-# Orders to a leader: begin a round above all that it has seen, go on with another grid, retire all earlier rounds. One to a replacer.
+# Orders to a leader: begin a round above all that it has seen, go on with another grid, retire all earlier rounds. One to a replacer, and one to a
+# replica: send another one the values that are kept of 32 slots.
 Lead = NamedTuple("Lead", [("grid", Grid)])
 Change = NamedTuple("Change", [("grid", Grid)])
 Collect = NamedTuple("Collect", [])
 Replace = NamedTuple("Replace", [("set", Set)])
-Order = Lead | Change | Collect | Replace
+Offer = NamedTuple("Offer", [("to", int), ("slot", int)])
+Order = Lead | Change | Collect | Replace | Offer
 
 Deliver = NamedTuple("Deliver", [("number", int), ("cut", str)])            # the datagram of this number reaches its role
 Ordered = NamedTuple("Ordered", [("role", Role), ("order", Order), ("cut", str)])

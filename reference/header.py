@@ -50,7 +50,8 @@ def cluster_of(header: bytes) -> Cluster:
     one_entry = number(members, "one_entry_a_grid", 0, 1, 0)
     own_most = 1 if counts["proxies"] % counts["leaders"] == 0 else 0
     own = number(members, "own_proxies", 0, own_most, 0)
-    cluster = Cluster(f=f, **counts, one_entry_a_grid=one_entry == 1, own_proxies=own == 1)
+    keep = number(members, "keep_sets", 0, 1, 0)
+    cluster = Cluster(f=f, **counts, one_entry_a_grid=one_entry == 1, own_proxies=own == 1, keep_sets=keep == 1)
     number(members, "base_port", 1024, 60000, 1024)
     if members:
         raise BadHeader("unknown")

@@ -18,10 +18,11 @@ Garbage = NamedTuple("Garbage", [ROUND, GRID])
 Stop = NamedTuple("Stop", [BALLOT])
 Next = NamedTuple("Next", [BALLOT, ("set", Set)])
 Boot = NamedTuple("Boot", [("set", Set), ("watermark", AnyRound), ("entries", tuple[Entry, ...])])
-# a leader begins a round, a reader uses its next turn, a replacer begins a ballot
+# a leader begins a round, a reader uses its next turn, a replacer begins a ballot, or comes to know a set
 Round = NamedTuple("Round", [ROUND, GRID])
 Turn = NamedTuple("Turn", [("turn", int)])
 Ballot = NamedTuple("Ballot", [BALLOT])
+Known = NamedTuple("Known", [("set", Set)])
 # of a replica: it executes values; or its list begins anew, with how far it goes, its map, its client table, and values executed before
 Log = NamedTuple("Log", [VALUES])
 Base = NamedTuple("Base", [("first", int), ("held", int), ("pairs", int), ("clients", int)])
@@ -29,4 +30,4 @@ Pairs = NamedTuple("Pairs", [("pairs", tuple[tuple[str, str], ...])])
 Notes = NamedTuple("Notes", [("client", int), ("floor", int), ("answers", tuple[Answered, ...])])
 Tail = NamedTuple("Tail", [VALUES])
 
-Record = Promise | Vote | Water | Voted | Match | Garbage | Stop | Next | Boot | Round | Turn | Ballot | Log | Base | Pairs | Notes | Tail
+Record = Promise | Vote | Water | Voted | Match | Garbage | Stop | Next | Boot | Round | Turn | Ballot | Known | Log | Base | Pairs | Notes | Tail

@@ -24,6 +24,13 @@ Halt = NamedTuple("Halt", [("answer", MatchAnswer), ("accepted", Round), ("next"
 
 
 @dataclass(slots=True)
+class Durable:
+    """The greatest ballot that it began, and the last set that it kept."""
+    own: Round = NO_ROUND
+    known: Set = ()
+
+
+@dataclass(slots=True)
 class Volatile:
     """What it is doing; the greatest ballot that it was told of; the set that it knows; the set that is to follow: the one that was ordered, then
     the one that is to be decided; the answers of stopped matchmakers, and who answered the later questions; and what the members of the next set
@@ -53,23 +60,36 @@ def to_decide(ordered: Set, halts: list[Halt]) -> Set:
 
 
 class Replacer(Rules):
-    """Its durable part is the greatest ballot that it began; whatever else it knows it learns again."""
-    durable: Round
+    """Its ballot is durable, and a set that it kept; whatever else it knows it learns again."""
+    durable: Durable
     volatile: Volatile
 
-    def empty(self) -> Round:
-        return NO_ROUND
+    def empty(self) -> Durable:
+        return Durable()
 
-    def after(self, record: kept.Ballot) -> None:
-        self.durable = record.ballot
+    def after(self, record: kept.Ballot | kept.Known) -> None:
+        match record:
+            case kept.Ballot(ballot):
+                self.durable.own = ballot
+            case kept.Known(ids):
+                self.durable.known = ids
 
     def fresh(self) -> Volatile:
-        return Volatile(set=self.cluster.first_set)
+        return Volatile(set=self.known_set)
+
+    @property
+    def known_set(self) -> Set:
+        """The set that it kept, or the first one: which it knows when it is opened."""
+        return self.durable.known or self.cluster.first_set
+
+    def known_record(self, ids: Set) -> kept.Known | None:
+        """Where the header says so, a set that it comes to know is kept."""
+        return kept.Known(ids) if self.cluster.keep_sets and is_above(ids, self.known_set) else None
 
     def replace(self, ids: Set) -> Outcome:
         """The order to replace the known set by another one, which lies above it: it begins a ballot, if there is one."""
         v = self.volatile
-        ballot = lead_after(self.durable, v.seen, self.me.index)
+        ballot = lead_after(self.durable.own, v.seen, self.me.index)
         if no := refused(old=not is_above(ids, v.set), end=ballot is None):
             return no
         v.mode, v.next, v.halts, v.counted = STOPPING, ids, [], set()
@@ -78,7 +98,7 @@ class Replacer(Rules):
     def stop_b(self, sender: Role, b: Round, w: Round, entries: tuple[Entry, ...], accepted: Round, ids: Set) -> Outcome:
         """A matchmaker has stopped. Once enough have, what they recorded is joined, and the next set is asked for."""
         v, m = self.volatile, sender.index
-        if no := refused(old=v.mode != STOPPING or b != self.durable or m not in v.set, same=any(it.answer.matchmaker == m for it in v.halts)):
+        if no := refused(old=v.mode != STOPPING or b != self.durable.own or m not in v.set, same=any(it.answer.matchmaker == m for it in v.halts)):
             return no
         v.halts.append(Halt(MatchAnswer(m, w, entries), accepted, ids))
         if len(v.halts) < self.cluster.enough:
@@ -94,7 +114,7 @@ class Replacer(Rules):
     def next_b(self, matchmaker: Role, b: Round) -> Outcome:
         """A matchmaker has accepted the next set; enough of them decide it."""
         v = self.volatile
-        if no := refused(old=v.mode != DECIDING or b != self.durable, same=matchmaker.index in v.counted):
+        if no := refused(old=v.mode != DECIDING or b != self.durable.own, same=matchmaker.index in v.counted):
             return no
         v.counted.add(matchmaker.index)
         if len(v.counted) < self.cluster.enough:
@@ -111,13 +131,13 @@ class Replacer(Rules):
         if len(v.counted) < self.cluster.enough:
             return Outcome("counted")
         v.mode, v.set = IDLE, v.next
-        return Outcome("replaced", self.tell_all())
+        return Outcome("replaced", self.tell_all(), self.known_record(v.set))
 
     def stop_nack(self, matchmaker: Role, b: Round, other: Round) -> Outcome:
         """A matchmaker has promised a greater ballot, which is noted whatever the answer."""
         v = self.volatile
         v.seen = max(v.seen, other)
-        if no := refused(old=b != self.durable or v.mode in (IDLE, BOOTING)):
+        if no := refused(old=b != self.durable.own or v.mode in (IDLE, BOOTING)):
             return no
         v.mode = IDLE
         return Outcome("nacked")
@@ -128,13 +148,13 @@ class Replacer(Rules):
         if no := refused(old=not is_above(ids, v.set)):
             return no
         v.mode, v.set = IDLE, ids
-        return Outcome("learnt")
+        return Outcome("learnt", (), self.known_record(ids))
 
     def tick(self) -> Outcome:
         """What is waited for is asked again; a later set than the first is told again."""
         v = self.volatile
         if v.mode == STOPPING:
-            return Outcome("resent", self.send_all("match", v.set, msg.StopA(self.durable)))
+            return Outcome("resent", self.send_all("match", v.set, msg.StopA(self.durable.own)))
         if v.mode == DECIDING:
             return Outcome("resent", self.ask_next())
         if v.mode == BOOTING:
@@ -143,7 +163,7 @@ class Replacer(Rules):
 
     def ask_next(self) -> list[Letter]:
         """The known set is asked to accept the next one."""
-        return self.send_all("match", self.volatile.set, msg.NextA(self.durable, self.volatile.next))
+        return self.send_all("match", self.volatile.set, msg.NextA(self.durable.own, self.volatile.next))
 
     def ask_to_boot(self) -> list[Letter]:
         """The next set is asked to begin."""

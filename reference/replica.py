@@ -1,6 +1,6 @@
 """The replica: it keeps the chosen values in order, executes their commands, and answers commands and reads.
 
-From cx_model/specs/Replica and cx_base/specs/Log (VLDB 2021; deferred reads and snapshots are the project's own).
+From cx_model/specs/Replica and cx_base/specs/Log (VLDB 2021; deferred reads, snapshots and offers are the project's own).
 """
 
 from collections.abc import Sequence
@@ -9,6 +9,7 @@ from typing import NamedTuple
 
 import messages as msg
 import records as kept
+from events import Offer
 from machine import Machine
 from messages import Letter
 from rules import Outcome, Rules, refused
@@ -130,6 +131,12 @@ class Replica(Rules):
             return no
         return Outcome("fetched", [self.send(sender, msg.Chosen(s, d.log[s - d.first]))])
 
+    def offer(self, to: int, first: int) -> Outcome:
+        """The order to send another replica the values that are kept of 32 slots from this one on, the greatest first."""
+        d, other = self.durable, Role("replica", to)
+        values = [self.send(other, msg.Chosen(s, d.log[s - d.first])) for s in reversed(range(first, first + WINDOW)) if d.first <= s < d.held]
+        return Outcome("fetched", values) if values else Outcome("idle")
+
     def tick(self) -> Outcome:
         """Leaders learn how much is held, and the next replica is asked for a value that it may have."""
         held, replicas = self.durable.held, self.cluster.replicas
@@ -153,4 +160,4 @@ class Replica(Rules):
                 *(kept.Notes(client, floor, tuple(it for _, it in sorted(m.notes.get(client, {}).items()))) for client, floor in clients),
                 *map(kept.Tail, pieces(VALUES, d.log[first - d.first :]))]
 
-    ROWS = {msg.Chosen: chosen, msg.Read: read, msg.SessRead: session_read, msg.Fetch: fetch}
+    ROWS = {msg.Chosen: chosen, msg.Read: read, msg.SessRead: session_read, msg.Fetch: fetch, Offer: offer}

@@ -4,9 +4,10 @@ import re
 from collections.abc import Callable
 from typing import NamedTuple, TypeVar
 
-from events import KEPT, TORN, WHOLE, Change, Collect, Crash, Deliver, Event, Lead, Ordered, Read, Replace, Restart, Session, Snap, Tick, Write
+from events import KEPT, TORN, WHOLE, Change, Collect, Crash, Deliver, Event, Lead, Offer, Ordered, Read, Replace, Restart, Session
+from events import Snap, Tick, Write
 from header import stripped
-from terms import KEY_MOST, KINDS, TEXT_MOST, Cluster, Command, Grid, Op, Role, Set, floor_fits
+from terms import KEY_MOST, KINDS, SLOTS, TEXT_MOST, Cluster, Command, Grid, Op, Role, Set, floor_fits
 
 LINE_MOST = 1024                # bytes of a line
 LINES_MOST = 65_535             # lines behind the header
@@ -147,6 +148,16 @@ def session(words: Words) -> Event:
     return words.ended(Session(client, seq, floor, words.index("replica"), words.name(KEY_MOST)))
 
 
+def offer(words: Words) -> Event:
+    """replica:P replica:Q S: another replica, and a slot."""
+    replica, to, slot = words.index("replica"), words.index("replica"), number(words.word())
+    if to == replica:
+        raise BadLine("to itself")
+    if slot > SLOTS:
+        raise BadLine("no slot")
+    return words.ended(Ordered(Role("replica", replica), Offer(to, slot), WHOLE))
+
+
 VERBS: dict[str, Callable[[Words], Event]] = {          # arguments are evaluated from left to right, as the words stand
     "write": write,
     "read": read,
@@ -157,6 +168,7 @@ VERBS: dict[str, Callable[[Words], Event]] = {          # arguments are evaluate
     "change": lambda words: Ordered(Role("leader", words.index("leader")), Change(words.grid()), words.cut()),
     "collect": lambda words: words.ended(Ordered(Role("leader", words.index("leader")), Collect(), WHOLE)),
     "replace": lambda words: Ordered(Role("replacer", words.index("replacer")), Replace(words.set()), words.cut()),
+    "offer": offer,
     "snap": lambda words: Snap(words.renewing(), words.cut()),
     "crash": lambda words: words.ended(Crash(words.server())),
     "restart": lambda words: words.ended(Restart(words.server())),
@@ -234,6 +246,8 @@ def line_of(event: Event) -> str:
             rest = f"{grid.rows}x{grid.cols} {','.join(map(str, grid.members))} {cut}"
         case Ordered(_, Replace(ids), cut):
             rest = f"{','.join(map(str, ids))} {cut}"
+        case Ordered(_, Offer(to, slot)):
+            rest = f"replica:{to} {slot}"
         case Deliver(_, cut) | Snap(_, cut):
             rest = cut
         case _:

@@ -43,6 +43,7 @@ class Cluster:
     replacers: int
     one_entry_a_grid: bool = False
     own_proxies: bool = False   # each leader has proxy leaders of its own
+    keep_sets: bool = False     # a replacer keeps the sets that it comes to know
 
     def count_of(self, kind: str) -> int:
         """How many roles of a kind there are."""

@@ -18,7 +18,7 @@ COUNTED_BY = {"client": "clients", "batcher": "batchers", "leader": "leaders", "
 KEEPING = ("leader", "acceptor", "match", "replica", "reader", "replacer")      # the kinds with a journal
 RANGES = {"f": (0, 3), "leaders": (1, 8), "proxies": (1, 16), "acceptors": (1, 64), "replicas": (1, 8), "batchers": (1, 8),
           "unbatchers": (1, 8), "readers": (1, 8), "clients": (1, 64), "batch": (1, 8), "base_port": (1024, 60000),
-          "pool": (1, 64), "replacers": (0, 4), "one_entry_a_grid": (0, 1), "own_proxies": (0, 1)}
+          "pool": (1, 64), "replacers": (0, 4), "one_entry_a_grid": (0, 1), "own_proxies": (0, 1), "keep_sets": (0, 1)}
 GRID_MOST = 16                  # acceptors in a grid
 PORTS = tuple(map(int, os.environ.get("COMPAX_PORTS", "25000-32000").split("-")))      # below those that systems hand out by themselves
 PORT_TAKEN = 6                  # the status of a node, and of the tools
@@ -121,7 +121,7 @@ def header_of(text: str, name: str) -> Header:
         if key not in RANGES:
             raise Unusable(f"{name}: no header has a key {key}")
     values.setdefault("pool", 2 * values["f"] + 1 if type(values.get("f")) is int else 1)
-    for key in ("replacers", "one_entry_a_grid", "own_proxies"):
+    for key in ("replacers", "one_entry_a_grid", "own_proxies", "keep_sets"):
         values.setdefault(key, 0)
     for key, (low, high) in RANGES.items():
         value = values.get(key)

@@ -247,6 +247,7 @@ TAGS = {
     15: Tag("Boot", "match", joined_of),
     16: Tag("Turn", "reader", turn_of),
     17: Tag("Voted", "acceptor", voted_of),
+    18: Tag("Known", "replacer", set_of),
 }
 KINDS = tuple(dict.fromkeys(tag.kind for tag in TAGS.values()))     # of roles with a journal
 

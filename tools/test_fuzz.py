@@ -46,7 +46,8 @@ class ListsTest(unittest.TestCase):
         self.assertLessEqual(set(fuzz.OPTIONS), words)
         self.assertEqual({name.split("-")[1] for it in made for name in it.files}, set(KEEPING))
         inputs = b"".join(it.data for it in made)
-        for piece in (b"\nreplacers = ", b"\npool = ", b"\nreplace replacer:", b"\nsnap replica:", b"\nsession client:", b"\nchange leader:", b"/"):
+        for piece in (b"\nreplacers = ", b"\npool = ", b"\nreplace replacer:", b"\nsnap replica:", b"\nsession client:", b"\nchange leader:", b"/",
+                      b"\nkeep_sets = ", b"\noffer replica:"):
             self.assertIn(piece, inputs)
         self.assertLessEqual({"replacer:0", "reader:0", "match:0"}, words)
 

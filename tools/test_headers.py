@@ -7,7 +7,7 @@ from headers import KINDS, Header, Role, Unusable, can_lose_any, enough_processe
 
 USUAL = {"f": 1, "leaders": 1, "proxies": 2, "acceptors": 4, "replicas": 3, "batchers": 2, "unbatchers": 2, "readers": 2, "clients": 16,
          "batch": 1, "base_port": 20000}
-LEFT_OUT = {"pool": 3, "replacers": 0, "one_entry_a_grid": 0, "own_proxies": 0}          # what it then has of these
+LEFT_OUT = {"pool": 3, "replacers": 0, "one_entry_a_grid": 0, "own_proxies": 0, "keep_sets": 0}          # what it then has of these
 
 
 def header(**numbers: int) -> Header:
@@ -47,9 +47,10 @@ class HeaderTest(unittest.TestCase):
 
     def test_choices(self) -> None:
         self.assertEqual(header(one_entry_a_grid=1, own_proxies=1).numbers, USUAL | LEFT_OUT | {"one_entry_a_grid": 1, "own_proxies": 1})
+        self.assertEqual(header(replacers=1, keep_sets=1).numbers, USUAL | LEFT_OUT | {"replacers": 1, "keep_sets": 1})
         self.assertEqual(header(leaders=2, proxies=4, own_proxies=1).numbers["own_proxies"], 1)
         self.assertEqual(header(leaders=2, proxies=3).numbers["own_proxies"], 0)
-        for numbers in ({"one_entry_a_grid": 2}, {"one_entry_a_grid": -1}, {"own_proxies": 2}, {"own_proxies": -1},
+        for numbers in ({"one_entry_a_grid": 2}, {"one_entry_a_grid": -1}, {"own_proxies": 2}, {"own_proxies": -1}, {"keep_sets": 2}, {"keep_sets": -1},
                         {"own_proxies": 1, "leaders": 2, "proxies": 3}, {"own_proxies": 1, "leaders": 3}):
             with self.subTest(numbers=numbers), self.assertRaises(Unusable):
                 header(**numbers)

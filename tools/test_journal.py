@@ -139,6 +139,9 @@ class JournalTest(unittest.TestCase):
         self.assertEqual(self.read(journal(joined))[1][0],
                          "0 Boot set 3,4,9 watermark 1.0.0 round 1.0.0 grid 2x2 0,1,2,3 round 2.3.4 grid 2x2 0,1,2,3")
         self.assertEqual(self.read(journal(b"\x0c" + ROUND), name="compax-replacer-0.journal"), (0, ["0 Ballot ballot 1.0.0", "16 closed"], ""))
+        self.assertEqual(self.read(journal(b"\x0c" + ROUND, b"\x12" + sets), name="compax-replacer-0.journal"),
+                         (0, ["0 Ballot ballot 1.0.0", "16 Known set 3,4,9", "29 closed"], ""))
+        self.breaks(journal(b"\x12" + sets), 5, [], name="compax-match-0.journal")
         self.breaks(journal(b"\x0e" + LATER + bytes.fromhex("03" "0003" "0003" "0009")), 19, [])
         self.breaks(stored, 5, [], name="compax-replacer-0.journal")
 
@@ -304,7 +307,7 @@ class JournalTest(unittest.TestCase):
                             (note[:-1] + b"\x41", 18), (note + number(0), 19), (note + number(1) + number(0), 27),
                             (note + number(1) + number((1 << 40) + 1), 27), (note + number(1) + number(1) + b"\5", 35),
                             (note + number(1) + number(1) + b"\3\0", 36), (note + number(1) + number(1) + b"\3\x41", 36),
-                            (note + number(1) + number(1) + b"\1\x41", 36), (b"\x0b\0", 8), (b"\x0b\x21", 8), (b"\x0b\1\2", 9), (b"\x12", 7)]:
+                            (note + number(1) + number(1) + b"\1\x41", 36), (b"\x0b\0", 8), (b"\x0b\x21", 8), (b"\x0b\1\2", 9), (b"\x13", 7)]:
             with self.subTest(payload=payload.hex()):
                 self.breaks(b"\4\1" + journal(payload), at, ["generation 1"])
         note += number(1) + number(1)

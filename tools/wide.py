@@ -10,9 +10,10 @@ from headers import TOP
 
 sys.path.append(str(TOP / "reference"))
 
-from events import KEPT, TORN, WHOLE, Change, Collect, Crash, Deliver, Event, Lead, Ordered, Read, Replace, Restart, Session, Snap, Tick, Write
+from events import KEPT, TORN, WHOLE, Change, Collect, Crash, Deliver, Event, Lead, Offer, Ordered, Read, Replace, Restart, Session
+from events import Snap, Tick, Write
 from schedule import line_of
-from terms import KINDS, Cluster, Command, Grid, Op, Role
+from terms import KINDS, SLOTS, Cluster, Command, Grid, Op, Role
 from world import World
 
 
@@ -25,7 +26,7 @@ def random_cluster(rng: random.Random) -> Cluster:
     least = {"replicas": f + 1, "pool": 2 * f + 1}
     counts = {key: max(rng.choice(its), least.get(key, 0)) for key, its in some.items()}
     own = counts["proxies"] % counts["leaders"] == 0 and rng.random() < 0.5
-    return Cluster(f=f, **counts, one_entry_a_grid=rng.random() < 0.3, own_proxies=own)
+    return Cluster(f=f, **counts, one_entry_a_grid=rng.random() < 0.3, own_proxies=own, keep_sets=rng.random() < 0.5)
 
 
 class Wide:
@@ -45,7 +46,7 @@ class Wide:
         self.weights: dict[Callable[[], Event | None], float] = {
             self.delivery: rng.choice([40, 80] if calm else [10, 40, 80]), self.write: rng.choice([6, 12] if calm else [0, 1, 3, 8]),
             self.tick: rng.choice([3, 8] if calm else [0, 1, 3, 8]), self.restart: rng.choice([1, 3]),
-            **{it: rng.choice([0, 1, 3, 8]) for it in (self.read, self.session, self.snap)},
+            **{it: rng.choice([0, 1, 3, 8]) for it in (self.read, self.session, self.snap, self.offer)},
             **{it: rng.choice([0, 0.1, 0.4] if calm else [0, 1, 3, 8]) for it in (self.lead, self.change, self.replace, self.collect, self.crash)}}
 
     def some(self, kind: str) -> Role:
@@ -112,6 +113,14 @@ class Wide:
         ids = range(first, min(pool, first + count + self.rng.choice([0, 0, 2])))
         members = self.rng.sample(ids if len(ids) >= count else range(pool), count)
         return Ordered(self.some("replacer"), Replace(tuple(sorted(members))), self.cut())
+
+    def offer(self) -> Event | None:
+        """Mostly from a slot that is held, to one of the other replicas."""
+        if self.cluster.replicas == 1:
+            return None
+        replica, to = self.rng.sample(range(self.cluster.replicas), 2)
+        held = self.world.roles[Role("replica", replica)].durable.held
+        return Ordered(Role("replica", replica), Offer(to, self.rng.choice([0, self.rng.randint(0, held), held + 1, SLOTS])), WHOLE)
 
     def snap(self) -> Event:
         return Snap(self.some("replica"), self.cut())

@@ -19,6 +19,7 @@ pub record Counts : Type 0 where
   pub replacers : ℕ
   pub one_entry_a_grid : Bool
   pub own_proxies : Bool
+  pub keep_sets : Bool
 
 pub record Bounds (c : Counts) : Type 0 where
   pub f_fits : c.f ≤ 3
@@ -61,6 +62,7 @@ cluster c b = record {
   replacers = c.replacers;
   one_entry_a_grid = c.one_entry_a_grid;
   own_proxies = c.own_proxies;
+  keep_sets = c.keep_sets;
   f_fits = b.f_fits;
   some_leader = b.some_leader;
   leaders_fit = b.leaders_fit;

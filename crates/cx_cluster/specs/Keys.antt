@@ -4,6 +4,7 @@ use Rattle.std.specs.List.{list_any}
 use Rattle.cx_cluster.specs.declared.key.ClusterKey.{ClusterKey}
 use Rattle.cx_cluster.specs.declared.key.ClusterKey.TheVariants.{F, Leaders, Proxies, Acceptors, Replicas, Batchers, Unbatchers, Readers}
 use Rattle.cx_cluster.specs.declared.key.ClusterKey.TheVariants.{Clients, Batch, BasePort, Pool, Replacers, OneEntryAGrid, OwnProxies}
+use Rattle.cx_cluster.specs.declared.key.ClusterKey.TheVariants.{KeepSets}
 
 -- how a key is written
 abbrev pub key_name : ClusterKey → List ℕ
@@ -22,11 +23,12 @@ key_name Pool = codes "pool"
 key_name Replacers = codes "replacers"
 key_name OneEntryAGrid = codes "one_entry_a_grid"
 key_name OwnProxies = codes "own_proxies"
+key_name KeepSets = codes "keep_sets"
 
 abbrev pub all_keys : List ClusterKey
 all_keys =
     F ∷ Leaders ∷ Proxies ∷ Acceptors ∷ Replicas ∷ Batchers ∷ Unbatchers ∷ Readers ∷ Clients ∷ Batch ∷ BasePort ∷ Pool ∷ Replacers
-    ∷ OneEntryAGrid ∷ OwnProxies ∷ []
+    ∷ OneEntryAGrid ∷ OwnProxies ∷ KeepSets ∷ []
 
 -- whether a text is a key of a header
 abbrev pub is_key : List ℕ → Bool

@@ -12,6 +12,7 @@ use Rattle.cx_cluster.specs.declared.fault.ClusterFault.TheVariants.{Toml, Unkno
 use Rattle.cx_cluster.specs.declared.key.ClusterKey.{ClusterKey}
 use Rattle.cx_cluster.specs.declared.key.ClusterKey.TheVariants.{F, Leaders, Proxies, Acceptors, Replicas, Batchers, Unbatchers, Readers}
 use Rattle.cx_cluster.specs.declared.key.ClusterKey.TheVariants.{Clients, Batch, BasePort, Pool, Replacers, OneEntryAGrid, OwnProxies}
+use Rattle.cx_cluster.specs.declared.key.ClusterKey.TheVariants.{KeepSets}
 use Rattle.cx_cluster.specs.Keys.{key_name, is_key}
 
 -- a number from low to high
@@ -99,6 +100,7 @@ cluster_at ms =
     optional_at ms Replacers 0 4 >>= (λ replacers.
     optional_at ms OneEntryAGrid 0 1 >>= (λ one_entry.
     optional_at ms OwnProxies 0 (most_own leaders.number proxies.number) >>= (λ own.
+    optional_at ms KeepSets 0 1 >>= (λ keep.
     Ok (record {
       f = f.number;
       leaders = leaders.number;
@@ -115,6 +117,7 @@ cluster_at ms =
       replacers = replacers.number;
       one_entry_a_grid = one_entry.number == 1;
       own_proxies = own.number == 1;
+      keep_sets = keep.number == 1;
       f_fits = f.most;
       some_leader = leaders.least;
       leaders_fit = leaders.most;
@@ -137,7 +140,7 @@ cluster_at ms =
       some_pool = pool.least;
       pool_fits = pool.most;
       replacers_fit = replacers.most;
-    }))))))))))))))))
+    })))))))))))))))))
 
 -- the lesser of a key and another, in byte order
 abbrev pub lesser : List ℕ → Option (List ℕ) → List ℕ

@@ -113,6 +113,7 @@ fn cluster_of(table: &Table) -> Result<Cluster, ClusterFault>
     let replacers = optional(table, ClusterKey::Replacers, 0, REPLACERS)?;
     let one_entry_a_grid = optional(table, ClusterKey::OneEntryAGrid, 0, 1)?;
     let own_proxies = own_proxies(table, leaders, proxies)?;
+    let keep_sets = optional(table, ClusterKey::KeepSets, 0, 1)?;
     Ok(Cluster {
         f: f as u8,
         leaders,
@@ -129,6 +130,7 @@ fn cluster_of(table: &Table) -> Result<Cluster, ClusterFault>
         replacers,
         one_entry_a_grid: one_entry_a_grid == 1,
         own_proxies: own_proxies == 1,
+        keep_sets: keep_sets == 1,
     })
 }
 
@@ -151,14 +153,14 @@ fn unknown(alloc: Global, key: &str) -> ClusterFault
 }
 
 /// The cluster that a header says, or the first fault, in this order: the bytes are no TOML document; a key that no header
-/// has, the least in byte order; then for each key in the order of `ClusterKey`, that it is missing (the last five
+/// has, the least in byte order; then for each key in the order of `ClusterKey`, that it is missing (the last six
 /// may be), no whole number, or outside its range.
 ///
 /// The ranges: `f` 0 to 3, `leaders` 1 to 8, `proxies` 1 to 16, `acceptors` 1 to 64, `replicas` f + 1 to 8, `batchers`,
 /// `unbatchers` and `readers` 1 to 8, `clients` 1 to 64, `batch` 1 to 8, `base_port` 1024 to 60000, `pool` 2f + 1 to 64,
-/// `replacers` 0 to 4, `one_entry_a_grid` 0 to 1, `own_proxies` 0 to 1 where `leaders` divides `proxies`, else 0. Without
-/// `base_port` there is no port; another of the last five that is missing is the least of its range (this project's own
-/// form; TOML is that of the crate `toml`).
+/// `replacers` 0 to 4, `one_entry_a_grid` 0 to 1, `own_proxies` 0 to 1 where `leaders` divides `proxies`, else 0,
+/// `keep_sets` 0 to 1. Without `base_port` there is no port; another of the last six that is missing is the least of its
+/// range (this project's own form; TOML is that of the crate `toml`).
 pub fn read(alloc: Global, bytes: &[u8]) -> Result<Cluster, ClusterFault>
     ensures cluster { IfOk result (λ cluster. header_cluster bytes.now ≡ Ok cluster) }
     ensures fault { IfErr result

@@ -21,9 +21,10 @@ pub enum ClusterKey {
     Replacers,
     OneEntryAGrid,
     OwnProxies,
+    KeepSets,
 }
 
-const KEYS: [ClusterKey; 15] = [
+const KEYS: [ClusterKey; 16] = [
     ClusterKey::F,
     ClusterKey::Leaders,
     ClusterKey::Proxies,
@@ -39,6 +40,7 @@ const KEYS: [ClusterKey; 15] = [
     ClusterKey::Replacers,
     ClusterKey::OneEntryAGrid,
     ClusterKey::OwnProxies,
+    ClusterKey::KeepSets,
 ];
 
 impl ClusterKey {
@@ -62,6 +64,7 @@ impl ClusterKey {
             ClusterKey::Replacers => "replacers",
             ClusterKey::OneEntryAGrid => "one_entry_a_grid",
             ClusterKey::OwnProxies => "own_proxies",
+            ClusterKey::KeepSets => "keep_sets",
         }
     }
 }

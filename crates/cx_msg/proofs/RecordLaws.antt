@@ -76,7 +76,10 @@ records-sound = (
                               case-sound record_shape 15 boot (λ x. kept.Boot x.0 x.1.0 x.1.1) boot-exact (λ _. refl),
                               (
                                 case-sound record_shape 16 seq (λ x. kept.Turn x) seq-exact (λ _. refl),
-                                (case-sound record_shape 17 voted (λ x. kept.Voted x.0 x.1.0 x.1.1.0 x.1.1.1) voted-exact (λ _. refl), tt),
+                                (
+                                  case-sound record_shape 17 voted (λ x. kept.Voted x.0 x.1.0 x.1.1.0 x.1.1.1) voted-exact (λ _. refl),
+                                  (case-sound record_shape 18 set (λ x. kept.Known x) set-exact (λ _. refl), tt),
+                                ),
                               ),
                             ),
                           ),
@@ -122,6 +125,7 @@ record-again (kept.Boot s w es) left rest fits =
 record-again (kept.Turn n) left rest fits = case-again {A = Record} 16 seq (λ x. kept.Turn x) n rest seq-exact fits
 record-again (kept.Voted r top cw vs) left rest fits =
     case-again {A = Record} 17 voted (λ x. kept.Voted x.0 x.1.0 x.1.1.0 x.1.1.1) (r, (top, (cw, vs))) rest voted-exact fits
+record-again (kept.Known s) left rest fits = case-again {A = Record} 18 set (λ x. kept.Known x) s rest set-exact fits
 
 -- a record's tag is one
 has_tag : (r : Record) → (is_tag (record_shape r).tag ≡ true) × ((record_shape r).tag < 256)
@@ -142,6 +146,7 @@ has_tag (kept.Next r s) = (refl, lit< tt)
 has_tag (kept.Boot s w es) = (refl, lit< tt)
 has_tag (kept.Turn n) = (refl, lit< tt)
 has_tag (kept.Voted r top cw vs) = (refl, lit< tt)
+has_tag (kept.Known s) = (refl, lit< tt)
 
 past : (b : Bool) (e : WireFault) (r : Result Record WireFault) (x : Record) → cond (not b) (Err e) r ≡ Ok x → r ≡ Ok x
 past true e r x h = h

@@ -12,7 +12,7 @@ spelling r = kept_record.spell r
 
 -- whether a tag is one
 abbrev pub is_tag : ℕ → Bool
-is_tag tag = nat_le 1 tag && nat_le tag 17
+is_tag tag = nat_le 1 tag && nat_le tag 18
 
 -- the record, once its fields are read, of this many bytes in all
 unfoldable pub record_at_end : ℕ → ℕ → Result (Record × List ℕ) Miss → Result Record WireFault

@@ -28,7 +28,7 @@ use std::alloc::Global;
 pub(crate) fn is_tag(tag: u8) -> bool
     ensures { result ≡ is_tag tag }
 {
-    tag >= 1 && tag <= 17
+    tag >= 1 && tag <= 18
 }
 
 #[tactic(auto, unfolding(cx_letter::specs::Records::record_cases, cx_field::specs::Fields::value, cx_field::specs::Fields::votes))]
@@ -143,6 +143,9 @@ pub(crate) fn fields_from(
                 votes,
             })
         }
+        18 => Ok(Record::Known {
+            set: set_from(alloc, reader)?,
+        }),
         _ => Err(ReadFault::Bad {
             left: reader.left(),
         }),
@@ -185,7 +188,7 @@ fn read(alloc: Global, bytes: &[u8]) -> Result<Record, WireFault>
 }
 
 /// The record that the bytes spell, all of the bytes; or the first test that they fail, in this order: no byte (`Short`), the
-/// tag, 1 to 17 (`Kind`), the fields in their order (`Field` at the first byte of the first bad one), and bytes after the
+/// tag, 1 to 18 (`Kind`), the fields in their order (`Field` at the first byte of the first bad one), and bytes after the
 /// last field (`Trailing`). The format is this project's own; it has no version, and commands may tell their floors.
 pub fn record_from(alloc: Global, bytes: &[u8]) -> Result<Record, WireFault>
     // What is read is spelled so, and has a spelling.
@@ -370,6 +373,10 @@ fn put_record(out: &mut Vec<u8>, kept: &Record) -> Result<(), NoMemory>
         } => {
             put_u8(out, 17)?;
             put_voted(out, round, *top, *cw, votes)
+        }
+        Record::Known { set } => {
+            put_u8(out, 18)?;
+            put_set(out, set)
         }
     }
 }

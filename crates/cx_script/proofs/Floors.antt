@@ -15,8 +15,10 @@ use Rattle.cx_base.specs.declared.role.Kind.TheVariants.{Client, Batcher, Leader
 use Rattle.cx_script.specs.declared.fault.LineFault.{LineFault}
 use Rattle.cx_script.specs.declared.fault.LineFault.TheVariants.{Long, Number}
 use Rattle.cx_script.specs.Grammar.{◌>>=◌, next_word, op_at, cut_at, write_event, read_event, session_event, deliver_event, grid_order_of}
-use Rattle.cx_script.specs.Grammar.{collect_event, snap_event, replace_event, server_of, event_of, is_comment, event_in, line_event}
+use Rattle.cx_script.specs.Grammar.{collect_event, snap_event, replace_event, offer_event, server_of, event_of, is_comment, event_in}
+use Rattle.cx_script.specs.Grammar.{line_event}
 use Rattle.cx_script.specs.Places.{fitting, seq_and_floor, seq_word, number_word, key_word, index_word, renewing_word, set_word}
+use Rattle.cx_script.specs.Places.{other_word, slot_word}
 use Rattle.cx_script.specs.Requests.{has_slash, request_line, tells_no_floor, without_floor}
 use Rattle.cx_script.specs.Words.{is_blank, is_empty, word_number, parts_of, words_of}
 use Rattle.cx_script.proofs.Cuts.{split_free, split_none, split_some}
@@ -166,6 +168,14 @@ replace_plain c words = then_ok _ TellsNone (next_word (index_word c Replacer) w
     then_ok _ TellsNone (next_word (set_word c) words) _ (whatever (next_word (set_word c) words)) (λ (set, words) k.
     then_ok _ TellsNone (cut_at words) _ (whatever (cut_at words)) (λ cut l. refl)))
 
+offer_plain : (c : Cluster) (words : List (List ℕ)) → IfOk (offer_event c words) TellsNone
+unfolding offer_event
+offer_plain c words = then_ok _ TellsNone (next_word (index_word c Replica) words) _ (whatever (next_word (index_word c Replica) words))
+    (λ (replica, words) h.
+    then_ok _ TellsNone (next_word (other_word c Replica replica) words) _ (whatever (next_word (other_word c Replica replica) words))
+    (λ (to, words) k. then_ok _ TellsNone (next_word slot_word words) _ (whatever (next_word slot_word words)) (λ (slot, words) l.
+    ended_ok TellsNone (event.Offer replica to slot) words refl)))
+
 event_plain : (c : Cluster) (verb : List ℕ) (words : List (List ℕ)) → list_any has_slash words ≡ false
     → IfOk (event_of c verb words) TellsNone
 unfolding event_of
@@ -184,8 +194,9 @@ event_plain c verb words free =
     or_else (bytes_eq verb (codes "collect")) _ _ (collect_plain c words) (
     or_else (bytes_eq verb (codes "snap")) _ _ (snap_plain c words) (
     or_else (bytes_eq verb (codes "replace")) _ _ (replace_plain c words) (
+    or_else (bytes_eq verb (codes "offer")) _ _ (offer_plain c words) (
     or_else (bytes_eq verb (codes "crash")) _ _ (then_ok _ TellsNone (server_of c words) _ server (λ role h. refl)) (
-    or_else (bytes_eq verb (codes "restart")) _ _ (then_ok _ TellsNone (server_of c words) _ server (λ role h. refl)) tt)))))))))))
+    or_else (bytes_eq verb (codes "restart")) _ _ (then_ok _ TellsNone (server_of c words) _ server (λ role h. refl)) tt))))))))))))
 
 in_plain : (c : Cluster) (words : List (List ℕ)) → list_any has_slash words ≡ false → IfOk (event_in c words) (λ o. IfSome o TellsNone)
 in_plain c [] free = tt

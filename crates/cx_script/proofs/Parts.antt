@@ -1,7 +1,7 @@
 -- What holds of all that a part of a line may say.
 use Rattle.std.proofs.Common.{find}
 use Rattle.cx_base.proofs.Common.{◌≡◌, ℕ, Bool, true, false, not, nat_lt, List, [], ◌∷◌, Option, None, Some, option_map, option_and_then}
-use Rattle.cx_base.proofs.Common.{ok_or, Result, Ok, Err, IfOk, IfSome, is_none, length, refl, inl, inr, ◌-◌, ◌+◌, ◌*◌, ◌==◌, ◌&&◌}
+use Rattle.cx_base.proofs.Common.{ok_or, Result, Ok, Err, IfOk, IfSome, is_none, length, refl, inl, inr, ◌-◌, ◌+◌, ◌*◌, ◌==◌, ◌&&◌, nat_le}
 use Rattle.cx_base.proofs.Common.{if◌then◌else◌, ⊤, cases_Bool, and_parts, list_all, slice_split, bytes_eq, floor_fits, grid_fault}
 use Rattle.cx_base.proofs.Common.{make_grid, kind_text, role, is_rising, count_of, and_from}
 use Rattle.cx_base.specs.declared.cluster.Cluster.{Cluster}
@@ -14,7 +14,7 @@ use Rattle.cx_script.specs.Grammar.{◌>>=◌, next_word, ended, grid_at}
 use Rattle.cx_script.specs.Names.{is_client, names_server, names_members, names_set, names_snap}
 use Rattle.cx_script.specs.Places.{fitting, seq_and_floor, seq_word, number_if_below, index_below, kind_part, index_part, index_word}
 use Rattle.cx_script.specs.Places.{server_kinds, server_kind, server_in, server_word, sides_word, ids_of, grid_from_ids, members_word}
-use Rattle.cx_script.specs.Places.{server_named, set_in, set_word, if_puts_anew, renewing_word}
+use Rattle.cx_script.specs.Places.{server_named, set_in, set_word, if_puts_anew, renewing_word, if_slot, slot_word, other_than, other_word}
 use Rattle.cx_script.specs.Words.{word_number}
 
 pub then_ok : {A B : Type 0} (P : A → Type 0) (Q : B → Type 0) (r : Result A LineFault) (more : A → Result B LineFault) → IfOk r P
@@ -76,6 +76,12 @@ told_some (seq ∷ floor ∷ part ∷ parts) = tt
 pub seq_ok : (word : List ℕ) → IfOk (seq_word word) Fits
 seq_ok word = some_ok Fits (seq_and_floor (slice_split (λ b. b == 47) word)) Number (told_some (slice_split (λ b. b == 47) word))
 
+pub slot_ok : (word : List ℕ) → IfOk (slot_word word) (λ s. nat_le s 1099511627776 ≡ true)
+slot_ok word =
+    let P : ℕ → Type 0 = λ s. nat_le s 1099511627776 ≡ true in
+    some_ok P (option_and_then if_slot (word_number word)) Number (and_then_some (λ n. ⊤) P (word_number word) if_slot
+    (anything (word_number word)) (λ n h. tested (λ m. nat_le m 1099511627776) n (nat_le n 1099511627776) refl))
+
 index_below_some : (count : ℕ) (digits : List ℕ) → IfSome (index_below count digits) (λ i. nat_lt i count ≡ true)
 index_below_some count digits = and_then_some (λ n. ⊤) (λ i. nat_lt i count ≡ true) (word_number digits) (number_if_below count)
     (anything (word_number digits)) (λ n h. tested (λ m. nat_lt m count) n (nat_lt n count) refl)
@@ -85,6 +91,22 @@ index_ok c kind word = either_ok (λ i. nat_lt i (count_of c kind) ≡ true) (by
     (ok_or (index_below (count_of c kind) (index_part word)) Role) (Err Role)
     (some_ok (λ i. nat_lt i (count_of c kind) ≡ true) (index_below (count_of c kind) (index_part word)) Role
     (index_below_some (count_of c kind) (index_part word))) tt
+
+-- an index of the cluster, and another one
+abbrev pub IsOther : Cluster → Kind → ℕ → ℕ → Type 0
+IsOther c kind first i = (nat_lt i (count_of c kind) ≡ true) × (not (i == first) ≡ true)
+
+pub other_ok : (c : Cluster) (kind : Kind) (first : ℕ) (word : List ℕ) → IfOk (other_word c kind first word) (IsOther c kind first)
+other_ok c kind first word = go (index_word c kind word) (index_ok c kind word)
+  where
+    apart : (i : ℕ) (b : Bool) → (i == first) ≡ b → nat_lt i (count_of c kind) ≡ true
+        → IfOk (if b then Err Role else Ok i) (IsOther c kind first)
+    apart i true is h = tt
+    apart i false is h = (h, rw is refl)
+
+    go : (r : Result ℕ LineFault) → IfOk r (λ i. nat_lt i (count_of c kind) ≡ true) → IfOk (other_than first r) (IsOther c kind first)
+    go (Err fault) h = tt
+    go (Ok i) h = apart i (i == first) refl h
 
 found_server : (test : Kind → Bool) (kinds : List Kind) → list_all (λ kind. not (is_client kind)) kinds ≡ true
     → IfSome (find test kinds) (λ kind. not (is_client kind) ≡ true)

@@ -12,13 +12,14 @@ use Rattle.cx_base.specs.declared.role.Kind.TheVariants.{Client, Batcher, Leader
 use Rattle.cx_script.specs.declared.fault.LineFault.{LineFault}
 use Rattle.cx_script.specs.declared.fault.LineFault.TheVariants.{Long}
 use Rattle.cx_script.specs.Grammar.{◌>>=◌, next_word, op_at, cut_at, grid_at, write_event, read_event, session_event, deliver_event}
-use Rattle.cx_script.specs.Grammar.{grid_order_of, collect_event, snap_event, replace_event, server_of, event_of, is_comment, event_in}
-use Rattle.cx_script.specs.Grammar.{line_event}
+use Rattle.cx_script.specs.Grammar.{grid_order_of, collect_event, snap_event, replace_event, offer_event, server_of, event_of, is_comment}
+use Rattle.cx_script.specs.Grammar.{event_in, line_event}
 use Rattle.cx_script.specs.Lines.{ParsedLines, with_line, spelled_from, lines_of, schedule_of}
 use Rattle.cx_script.specs.Names.{names_event, names_members, names_server, names_set}
-use Rattle.cx_script.specs.Places.{seq_word, number_word, key_word, index_word, server_word, renewing_word, set_word}
+use Rattle.cx_script.specs.Places.{seq_word, number_word, key_word, index_word, server_word, renewing_word, set_word, other_word, slot_word}
 use Rattle.cx_script.specs.Words.{words_of}
 use Rattle.cx_script.proofs.Parts.{then_ok, either_ok, next_ok, ended_ok, whatever, seq_ok, index_ok, server_ok, snap_ok, grid_ok, set_ok}
+use Rattle.cx_script.proofs.Parts.{other_ok, slot_ok}
 
 -- the world takes the event, and its names lie in the cluster
 pub record IsGood (c : Cluster) (e : Event) : Type 0 where
@@ -90,6 +91,15 @@ replace_ok c words = then_ok _ (IsGood c) (next_word (index_word c Replacer) wor
     (λ (set, words) k.
     then_ok _ (IsGood c) (cut_at words) _ (whatever (cut_at words)) (λ cut l. record { taken = refl; named = rw (h, k) refl })))
 
+offer_ok : (c : Cluster) (words : List (List ℕ)) → IfOk (offer_event c words) (IsGood c)
+unfolding offer_event
+offer_ok c words = then_ok _ (IsGood c) (next_word (index_word c Replica) words)
+    _ (next_ok _ (index_word c Replica) (index_ok c Replica) words) (λ (replica, words) h.
+    then_ok _ (IsGood c) (next_word (other_word c Replica replica) words)
+    _ (next_ok _ (other_word c Replica replica) (other_ok c Replica replica) words) (λ (to, words) k.
+    then_ok _ (IsGood c) (next_word slot_word words) _ (next_ok _ slot_word slot_ok words) (λ (slot, words) l.
+    ended_ok (IsGood c) (event.Offer replica to slot) words (record { taken = refl; named = rw (h, k.0, k.1, l) refl }))))
+
 servers_ok : (c : Cluster) (words : List (List ℕ)) → IfOk (server_of c words) (λ role. names_server c role ≡ true)
 unfolding server_of
 servers_ok c words = then_ok _ (λ role. names_server c role ≡ true) (next_word (server_word c) words)
@@ -115,12 +125,13 @@ event_ok c verb words =
     or_else (bytes_eq verb (codes "collect")) _ _ (collect_ok c words) (
     or_else (bytes_eq verb (codes "snap")) _ _ (snaps_ok c words) (
     or_else (bytes_eq verb (codes "replace")) _ _ (replace_ok c words) (
+    or_else (bytes_eq verb (codes "offer")) _ _ (offer_ok c words) (
     or_else (bytes_eq verb (codes "crash"))
     _ _ (then_ok _ (IsGood c) (server_of c words) _ server (λ role h. record { taken = refl; named = h })) (
     or_else (bytes_eq verb (codes "restart")) _ _ (then_ok _ (IsGood c) (server_of c words) _ server (λ role h. record {
       taken = refl;
       named = h;
-    })) tt)))))))))))
+    })) tt))))))))))))
 
 -- the event of a line, if it has one
 abbrev IsGoodLine : Cluster → Option Event → Type 0

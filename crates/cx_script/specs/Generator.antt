@@ -33,6 +33,7 @@ gen_cluster =
       replacers = 0;
       one_entry_a_grid = false;
       own_proxies = false;
+      keep_sets = false;
       f_fits = lit≤ tt;
       some_leader = lit≤ tt;
       leaders_fit = lit≤ tt;

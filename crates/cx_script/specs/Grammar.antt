@@ -17,7 +17,7 @@ use Rattle.cx_base.specs.Grid.{Shape}
 use Rattle.cx_script.specs.declared.fault.LineFault.{LineFault}
 use Rattle.cx_script.specs.declared.fault.LineFault.TheVariants.{Long, Word}
 use Rattle.cx_script.specs.Places.{seq_word, number_word, key_word, text_word, index_word, server_word, renewing_word, set_word, sides_word}
-use Rattle.cx_script.specs.Places.{members_word}
+use Rattle.cx_script.specs.Places.{members_word, other_word, slot_word}
 use Rattle.cx_script.specs.Words.{words_of}
 
 -- what follows a part without a fault, or the part's fault
@@ -130,6 +130,14 @@ replace_event c words =
     cut_at words >>= (λ cut.
     Ok (event.Replace replacer set cut))))
 
+-- replica:P replica:Q S
+unfoldable pub offer_event : Cluster → List (List ℕ) → Result Event LineFault
+offer_event c words =
+    next_word (index_word c Replica) words >>= (λ (replica, words).
+    next_word (other_word c Replica replica) words >>= (λ (to, words).
+    next_word slot_word words >>= (λ (slot, words).
+    ended (event.Offer replica to slot) words)))
+
 -- ROLE
 unfoldable pub server_of : Cluster → List (List ℕ) → Result RoleId LineFault
 server_of c words = next_word (server_word c) words >>= (λ (role, words). ended role words)
@@ -147,6 +155,7 @@ event_of c verb words =
     else if bytes_eq verb (codes "collect") then collect_event c words
     else if bytes_eq verb (codes "snap") then snap_event c words
     else if bytes_eq verb (codes "replace") then replace_event c words
+    else if bytes_eq verb (codes "offer") then offer_event c words
     else if bytes_eq verb (codes "crash") then server_of c words >>= (λ role. Ok (Crash role))
     else if bytes_eq verb (codes "restart") then server_of c words >>= (λ role. Ok (Restart role))
     else Err Word

@@ -1,6 +1,6 @@
 -- What a word says in its place, or the place's fault.
 use Rattle.std.specs.Prelude.{ℕ, ◌-◌, ◌+◌, ◌*◌, Bool, ◌==◌, ◌&&◌, nat_le, nat_lt, List, [], ◌∷◌, length, find, is_none, Option, Some, None}
-use Rattle.std.specs.Prelude.{option_map, option_and_then, ok_or, Result, Err, if◌then◌else◌, bytes_eq}
+use Rattle.std.specs.Prelude.{option_map, option_and_then, ok_or, Result, Ok, Err, if◌then◌else◌, bytes_eq}
 use Rattle.cx_base.specs.Prelude.{before_first, after_first, slice_split, floor_fits, Shape, make_grid, grid_fault, kind_text, role}
 use Rattle.cx_base.specs.Prelude.{is_rising, count_of, puts_anew}
 use Rattle.cx_base.specs.declared.cluster.Cluster.{Cluster}
@@ -28,6 +28,13 @@ seq_word word = ok_or (seq_and_floor (slice_split (λ b. b == 47) word)) Number
 abbrev pub number_word : List ℕ → Result ℕ LineFault
 number_word word = ok_or (word_number word) Number
 
+-- S: a slot, at most 2^40
+abbrev pub if_slot : ℕ → Option ℕ
+if_slot slot = if nat_le slot 1099511627776 then Some slot else None
+
+abbrev pub slot_word : List ℕ → Result ℕ LineFault
+slot_word word = ok_or (option_and_then if_slot (word_number word)) Number
+
 -- K and T: a key, a text
 abbrev pub key_word : List ℕ → Result (List ℕ) LineFault
 key_word word = ok_or (as_name 32 word) Key
@@ -53,6 +60,14 @@ index_part word = after_first (λ b. b == 58) word
 abbrev pub index_word : Cluster → Kind → List ℕ → Result ℕ LineFault
 index_word c kind word =
     if bytes_eq (kind_part word) (kind_text kind) then ok_or (index_below (count_of c kind) (index_part word)) Role else Err Role
+
+-- the same, but for the role of one index
+abbrev pub other_than : ℕ → Result ℕ LineFault → Result ℕ LineFault
+other_than first (Ok index) = if index == first then Err Role else Ok index
+other_than first (Err fault) = Err fault
+
+abbrev pub other_word : Cluster → Kind → ℕ → List ℕ → Result ℕ LineFault
+other_word c kind first word = other_than first (index_word c kind word)
 
 -- ROLE: any role but a client
 abbrev pub server_kinds : List Kind

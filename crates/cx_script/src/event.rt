@@ -1,7 +1,7 @@
 //! The event of a line.
 
 ghost use Rattle.std.specs.Prelude.{◌≡◌};
-ghost use Rattle.cx_script.specs.Grammar.{write_event, read_event, session_event, deliver_event, grid_order_of, collect_event, snap_event, replace_event, server_of, event_of, line_event};
+ghost use Rattle.cx_script.specs.Grammar.{write_event, read_event, session_event, deliver_event, grid_order_of, collect_event, snap_event, replace_event, offer_event, server_of, event_of, line_event};
 
 use crate::fault::LineFault;
 use crate::place::is;
@@ -119,6 +119,17 @@ fn replace_event(cluster: &Cluster, mut words: Words) -> Result<Event, LineFault
     Ok(Event::Replace { replacer, set, cut })
 }
 
+#[tactic(auto, unfolding(crate::specs::Grammar::offer_event))]
+fn offer_event(cluster: &Cluster, mut words: Words) -> Result<Event, LineFault>
+    ensures { result ≡ offer_event cluster.now words.entry }
+{
+    let replica = words.index(cluster, Kind::Replica)?;
+    let to = words.other(cluster, Kind::Replica, replica)?;
+    let slot = words.slot()?;
+    words.end()?;
+    Ok(Event::Offer { replica, to, slot })
+}
+
 #[tactic(auto, unfolding(crate::specs::Grammar::server_of))]
 fn server(cluster: &Cluster, mut words: Words) -> Result<RoleId, LineFault>
     ensures { result ≡ server_of cluster.now words.entry }
@@ -156,6 +167,8 @@ fn event(cluster: &Cluster, verb: &[u8], words: Words) -> Result<Event, LineFaul
         snap_event(cluster, words)
     } else if is(verb, "replace") {
         replace_event(cluster, words)
+    } else if is(verb, "offer") {
+        offer_event(cluster, words)
     } else if is(verb, "crash") {
         Ok(Event::Crash(server(cluster, words)?))
     } else if is(verb, "restart") {
@@ -178,13 +191,15 @@ fn event(cluster: &Cluster, verb: &[u8], words: Words) -> Result<Event, LineFaul
 /// - `collect leader:L`
 /// - `snap replica:P`, the same with `torn` or `kept`
 /// - `replace replacer:X A,B,..`, the same with `torn` or `kept`
+/// - `offer replica:P replica:Q S`, where Q is another replica than P
 /// - `tick ROLE`, `crash ROLE` and `restart ROLE`, any role but a client
 ///
 /// Numbers are decimal digits, of 64 bits at most. SEQ is a request's number, at least 1, or its number and its floor, as in
-/// `5/3`: the floor is below the number, and at most 64 below it. A number alone has the number before it for a floor. K is a
-/// key and T a text; a grid has R rows and C columns; a set of matchmakers has 2f + 1 of them, its ids strictly rising. Every name lies in the cluster. A line of more than 1,024 bytes is too
-/// long, also a comment; else the first word from the left that its place doesn't take names the fault. Sides of a grid that no
-/// members fill are refused before the members are looked at.
+/// `5/3`: the floor is below the number, and at most 64 below it. A number alone has the number before it for a floor. S is a
+/// slot, at most 2^40. K is a key and T a text; a grid has R rows and C columns; a set of matchmakers has 2f + 1 of them, its
+/// ids strictly rising. Every name lies in the cluster. A line of more than 1,024 bytes is too long, also a comment; else the
+/// first word from the left that its place doesn't take names the fault. Sides of a grid that no members fill are refused
+/// before the members are looked at.
 #[tactic(auto, unfolding(crate::specs::Grammar::line_event))]
 pub fn line(cluster: &Cluster, bytes: &[u8]) -> Result<Option<Event>, LineFault>
     ensures { result ≡ line_event cluster.now bytes.now }

@@ -26,6 +26,7 @@ pub fn gen_cluster() -> Cluster
         replacers: 0,
         one_entry_a_grid: false,
         own_proxies: false,
+        keep_sets: false,
     }
 }
 

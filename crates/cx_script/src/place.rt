@@ -4,13 +4,13 @@ ghost use Rattle.std.specs.Prelude.{◌≡◌, ◌==◌, ◌-◌, Some, option_a
 ghost use Rattle.std.specs.List.{slice_split};
 ghost use Rattle.std.specs.Option.{option_copied, option_map_or};
 ghost use Rattle.std.specs.Str.{bytes_eq};
-ghost use Rattle.cx_script.specs.Places.{fitting, seq_and_floor, seq_word, number_word, key_word, text_word, index_below, index_word, server_kind, server_named, server_word, if_puts_anew, renewing_word};
+ghost use Rattle.cx_script.specs.Places.{fitting, seq_and_floor, seq_word, number_word, key_word, text_word, index_below, index_word, other_word, slot_word, server_kind, server_named, server_word, if_puts_anew, renewing_word};
 ghost use Rattle.cx_script.specs.Words.{word_number};
 
 use crate::decimal::number;
 use crate::fault::LineFault;
 use crate::split::{first_part, parted};
-use cx_base::{Cluster, Key, Kind, OUTSTANDING, RoleId, Text, count_of};
+use cx_base::{Cluster, Key, Kind, OUTSTANDING, RoleId, SLOTS, Text, count_of};
 
 /// Whether a word is a text.
 pub fn is(word: &[u8], text: &str) -> bool
@@ -62,6 +62,16 @@ pub fn number_word(word: &[u8]) -> Result<u64, LineFault>
     number(word).ok_or(LineFault::Number)
 }
 
+/// A slot, at most 2^40.
+pub fn slot_word(word: &[u8]) -> Result<u64, LineFault>
+    ensures { result ≡ slot_word word.now }
+{
+    match number(word) {
+        Some(slot) if slot <= SLOTS => Ok(slot),
+        _ => Err(LineFault::Number),
+    }
+}
+
 /// A key.
 pub fn key_word(word: &[u8]) -> Result<Key, LineFault>
     ensures { result ≡ key_word word.now }
@@ -97,6 +107,17 @@ pub fn index_word(cluster: &Cluster, kind: Kind, word: &[u8]) -> Result<u16, Lin
         return Err(LineFault::Role);
     }
     index_below(count_of(cluster, kind), digits).ok_or(LineFault::Role)
+}
+
+/// The index of another role of this kind than the one of this index.
+pub fn other_word(cluster: &Cluster, kind: Kind, first: u16, word: &[u8]) -> Result<u16, LineFault>
+    ensures { result ≡ other_word cluster.now kind first word.now }
+{
+    let index = index_word(cluster, kind, word)?;
+    if index == first {
+        return Err(LineFault::Role);
+    }
+    Ok(index)
 }
 
 /// The kinds of roles that may stop, restart and tick: all but clients.

@@ -3,13 +3,14 @@
 ghost use Rattle.std.specs.Prelude.{◌≡◌, ◌∷◌, [], MatchResult};
 ghost use Rattle.cx_script.specs.declared.fault.LineFault.TheVariants.{Word};
 ghost use Rattle.cx_script.specs.Grammar.{next_word, grid_at, op_at, ended, cut_at};
-ghost use Rattle.cx_script.specs.Places.{seq_word, number_word, key_word, text_word, index_word, server_word, renewing_word, set_word};
+ghost use Rattle.cx_script.specs.Places.{seq_word, number_word, key_word, text_word, index_word, other_word, slot_word, server_word, renewing_word, set_word};
 ghost use Rattle.cx_script.specs.Reading.{ReadsWords};
 
 use crate::fault::LineFault;
 use crate::grid::{members_word, sides_word};
 use crate::place::{
-    index_word, is, key_word, number_word, renewing_word, seq_word, server_word, text_word,
+    index_word, is, key_word, number_word, other_word, renewing_word, seq_word, server_word,
+    slot_word, text_word,
 };
 use crate::set::set_word;
 use crate::split::first_word;
@@ -65,6 +66,13 @@ impl<'a> Words<'a> {
         number_word(self.next()?)
     }
 
+    /// A slot.
+    pub fn slot(&mut self) -> Result<u64, LineFault>
+        ensures { ReadsWords result self.new (next_word slot_word self.old) }
+    {
+        slot_word(self.next()?)
+    }
+
     /// A key.
     pub fn key(&mut self) -> Result<Key, LineFault>
         ensures { ReadsWords result self.new (next_word key_word self.old) }
@@ -84,6 +92,14 @@ impl<'a> Words<'a> {
         ensures { ReadsWords result self.new (next_word (index_word cluster.now kind) self.old) }
     {
         index_word(cluster, kind, self.next()?)
+    }
+
+    /// The index of another role of this kind than the one of this index.
+    pub fn other(&mut self, cluster: &Cluster, kind: Kind, first: u16) -> Result<u16, LineFault>
+        ensures { ReadsWords result self.new
+            (next_word (other_word cluster.now kind first) self.old) }
+    {
+        other_word(cluster, kind, first, self.next()?)
     }
 
     /// Any role but a client.

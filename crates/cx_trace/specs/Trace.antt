@@ -1,7 +1,7 @@
 -- The lines of the trace: events, and the datagrams that they send.
 use Rattle.std.specs.Prelude.{ℕ, Bool, ◌+◌, ◌==◌, ◌||◌, List, [], ◌∷◌, ◌++◌, codes, decimal, Option, None, Some, if◌then◌else◌, bytes_eq}
-use Rattle.cx_letter.specs.Prelude.{role, role_text, Event, Lead, Change, Collect, Replace, RoleId, Client, Leader, Replacer}
-use Rattle.cx_letter.specs.Prelude.{Letter, body, name_of_message}
+use Rattle.cx_letter.specs.Prelude.{role, role_text, Event, Lead, Change, Collect, Offer, Replace, RoleId, Client, Leader, Replacer}
+use Rattle.cx_letter.specs.Prelude.{Replica, Letter, body, name_of_message}
 use Rattle.cx_base.specs.Why.{why_text}
 use Rattle.cx_base.specs.declared.event.Event.TheVariants as event
 use Rattle.cx_base.specs.declared.event.Order.{Order}
@@ -32,6 +32,7 @@ order_text (Lead grid) = codes "lead "
 order_text (Change grid) = codes "change "
 order_text Collect = codes "collect "
 order_text (Replace set) = codes "replace "
+order_text (Offer to slot) = codes "offer "
 
 -- whom a datagram reached, if it was sent before
 abbrev pub reached_text : Option RoleId → List ℕ
@@ -47,6 +48,7 @@ happening_text (event.Deliver number cut) who = codes "deliver " ++ decimal numb
 happening_text (event.Tick r) who = codes "tick " ++ role_text r
 happening_text (event.Order leader order cut) who = order_text order ++ role_text (role Leader leader)
 happening_text (event.Replace replacer set cut) who = codes "replace " ++ role_text (role Replacer replacer)
+happening_text (event.Offer replica to slot) who = codes "offer " ++ role_text (role Replica replica)
 happening_text (event.Snap r cut) who = codes "snap " ++ role_text r
 happening_text (event.Crash r) who = codes "crash " ++ role_text r
 happening_text (event.Restart r) who = codes "restart " ++ role_text r

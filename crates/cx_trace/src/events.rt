@@ -16,6 +16,7 @@ fn put_order(text: &mut Vec<u8>, order: &Order) -> Result<(), NoMemory>
         Order::Change(_) => put(text, b"change "),
         Order::Collect => put(text, b"collect "),
         Order::Replace(_) => put(text, b"replace "),
+        Order::Offer { .. } => put(text, b"offer "),
     }
 }
 
@@ -75,6 +76,10 @@ fn put_happening(text: &mut Vec<u8>, event: &Event, who: Option<RoleId>) -> Resu
         Event::Replace { replacer, .. } => {
             put(text, b"replace ")?;
             put_role_at(text, Kind::Replacer, u64::from(*replacer))
+        }
+        Event::Offer { replica, .. } => {
+            put(text, b"offer ")?;
+            put_role_at(text, Kind::Replica, u64::from(*replica))
         }
         Event::Snap { role, .. } => {
             put(text, b"snap ")?;

@@ -21,4 +21,5 @@ returns c = rw (
   c.in_ok-replacers.ensures.2,
   c.in_ok-one_entry_a_grid.ensures.2,
   c.in_ok-own_proxies.ensures.2,
+  c.in_ok-keep_sets.ensures.2,
 ) (ap Ok (same_cluster _ _ _))
