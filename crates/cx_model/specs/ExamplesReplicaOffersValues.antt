@@ -1,6 +1,6 @@
--- A replica is ordered to send another one the values that it keeps from a slot on: the greatest slot first, none that it has forgotten, and
--- nothing where it keeps none. The other one waits with those that come before their turn, and keeps all of them in one record when the first
--- comes. One that the cluster lacks, or the replica itself, is sent nothing.
+-- A replica is ordered to send another one the values that it keeps from a slot on: the greatest slot first, none that it has
+-- forgotten, and nothing where it keeps none. The other one waits with those that come before their turn, and keeps all of them in one
+-- record when the first comes. One that the cluster lacks, or the replica itself, is sent nothing.
 use Rattle.std.specs.Prelude.{true, ℕ, List, [], ◌∷◌, codes}
 use Rattle.std.proofs.Common.{lit≤}
 use Rattle.cx_letter.specs.Prelude.{Cluster, Command, Event, Okay, Whole, no_round, letter}

@@ -1,6 +1,6 @@
--- With the key a replacer keeps the set that it comes to know: the one that replaced the matchmakers keeps it as the last of them begins, and
--- a second one as it is told. After all stopped and started the second knows it, and tells it again, though nobody asked the first set. A
--- record that was lost with a crash is learnt again.
+-- With the key a replacer keeps the set that it comes to know: the one that replaced the matchmakers keeps it as the last of them
+-- begins, and a second one as it is told. After all stopped and started the second knows it, and tells it again, though nobody asked
+-- the first set. A record that was lost with a crash is learnt again.
 use Rattle.std.specs.Prelude.{true, ℕ, List, [], ◌∷◌}
 use Rattle.std.proofs.Common.{lit≤}
 use Rattle.cx_letter.specs.Prelude.{Cluster, Torn, no_round, letter}

@@ -7,7 +7,8 @@ use Rattle.cx_model.specs.Prelude.{ReadsAreRight, ReadsAreOfTheirReplica, ReadsC
 use Rattle.cx_model.specs.Prelude.{SessionsComeAfterHeard, RoundsAskLater, TurnsAskLater, ReadsAskLater, OneNextSet, SetsAreDecided}
 use Rattle.cx_model.specs.Prelude.{ForgottenIsKept, run, log_of}
 use Rattle.cx_model.specs.Promises.{ListIsChosen, ReplicasHoldIt, ReplicasSendWhatTheyKept, ListGrows, MapsAreFolds, TablesAreFolds}
-use Rattle.cx_model.specs.Promises.{NoneActsTwice, AnswersAreRight, ResultsAreRight, CommandsWereAsked, RequestsAreOnce, OrderIsKept, ChosenBelow, HeldBelow}
+use Rattle.cx_model.specs.Promises.{NoneActsTwice, AnswersAreRight, ResultsAreRight, CommandsWereAsked, RequestsAreOnce}
+use Rattle.cx_model.specs.Promises.{OrderIsKept, ChosenBelow, HeldBelow}
 use Rattle.cx_model.specs.Promises.{NothingIsLost, RenewalsKeepAll, SetsAreAChain, EachBeginsOnce, KeptSetsAreDecided}
 use Rattle.cx_inv_alive.specs.Alive.{NoDeadEnds}
 use Rattle.cx_inv_announce.specs.Announced.{Announced}
