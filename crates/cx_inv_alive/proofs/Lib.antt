@@ -17,3 +17,4 @@ pub mod Sound
 pub mod Waits
 pub mod Runs
 pub mod Uses
+pub mod OrderedGrids

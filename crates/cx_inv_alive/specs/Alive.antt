@@ -1,11 +1,13 @@
 -- NO DEAD ENDS. From each world that any list of events reaches, while room is left, further events bring an answer to each command that
 -- was submitted. Nothing of it is proved here.
-use Rattle.std.specs.Prelude.{◌≡◌, ℕ, ◌+◌, ◌==◌, ◌&&◌, ◌||◌, not, Bool, true, false, nat_lt, nat_le, filter, is_none, List, [], ◌∷◌, length}
-use Rattle.cx_model.specs.Prelude.{list_all, Cluster, Command, Reply, Value, Event, Lead, RoleId, commands_of, IsGrid, below, floor_of}
+use Rattle.std.specs.Prelude.{◌≡◌, ℕ, ◌+◌, ◌==◌, ◌&&◌, ◌||◌, not, Bool, true, false, nat_lt, nat_le, filter, is_none, List, [], ◌∷◌, length, Option, None, Some}
+use Rattle.cx_model.specs.Prelude.{list_all, Cluster, Command, Reply, Value, Event, Lead, Shape, RoleId, commands_of, IsGrid, below, floor_of}
 use Rattle.cx_model.specs.Prelude.{is_done, role, Entry, Vote, Letter, letter, AcceptorDurable, acceptor_rules, LeaderDurable, leader_rules}
 use Rattle.cx_model.specs.Prelude.{round_of, enough, first_set, MatchmakerDurable, matchmaker_rules, is_stopped, Member, ReplicaDurable}
 use Rattle.cx_model.specs.Prelude.{held, replica_rules, World, run, run_from, durable_part}
 use Rattle.cx_base.specs.declared.event.Event.TheVariants as event
+use Rattle.cx_base.specs.declared.event.Order.{Order}
+use Rattle.cx_base.specs.declared.event.Order.TheVariants.{Change}
 use Rattle.cx_base.specs.declared.role.Kind.TheVariants as kind
 use Rattle.cx_base.specs.Grid.{grid_fault, make_grid}
 use Rattle.cx_letter.specs.declared.message.Msg.TheVariants as msg
@@ -60,6 +62,24 @@ takes_a_round c d = not (is_stopped d) && has_place c (make_grid 1 1 (0 ∷ []))
 -- each grid that one recorded has rows, of which a first phase asks; the program's type of a grid says so
 abbrev pub HasGrids : Cluster → World → Type 0
 HasGrids c w = (m : ℕ) (e : Entry) → Member m (first_set c) → Member e (matchmaker_store w m).entries → IsGrid e.grid
+
+-- The grid of an order to a leader.
+abbrev pub grid_in : Order → Option Shape
+grid_in (Lead g) = Some g
+grid_in (Change g) = Some g
+grid_in other = None
+
+abbrev pub ordered_grid : Event → Option Shape
+ordered_grid (event.Order leader order cut) = grid_in order
+ordered_grid other = None
+
+-- the grids of all orders have rows
+abbrev pub OrdersHaveGrids : List Event → Type 0
+OrdersHaveGrids es = (e : Event) (g : Shape) → Member e es → ordered_grid e ≡ Some g → IsGrid g
+
+-- Then those that were recorded have: each one was ordered.
+abbrev pub GridsComeFromOrders : Type 0
+GridsComeFromOrders = (c : Cluster) (es : List Event) → OrdersHaveGrids es → HasGrids c (run c es)
 
 -- All rounds in the stores are below this one, which isn't past the last, 2^32 - 1: a leader begins it.
 pub record RoundsLeft (c : Cluster) (w : World) (r : ℕ) : Type 0 where

@@ -17,12 +17,17 @@
 #![tactic(auto)]
 
 ghost use Rattle.cx_model.specs.Promises.{OfEveryRun};
-ghost use Rattle.cx_inv_alive.specs.Alive.{NoDeadEnds};
+ghost use Rattle.cx_inv_alive.specs.Alive.{GridsComeFromOrders, NoDeadEnds};
 ghost use Rattle.cx_inv_alive.specs.Examples.{FirstCommandIsAnswered, VotedCommandIsAnswered};
 
 /// No list of events leads a cluster to a dead end, while room is left.
 pub fn no_dead_ends()
     ensures { OfEveryRun NoDeadEnds }
+{}
+
+/// The grids that matchmakers recorded have rows, where those of the orders have: each one was ordered.
+pub fn grids_come_from_orders()
+    ensures { GridsComeFromOrders }
 {}
 
 /// So three of each of matchmakers, acceptors and replicas can answer a first command.
