@@ -100,6 +100,7 @@ pub use Rattle.cx_inv_run.proofs.Members.{Member-all, Member-any, Member-at, Mem
 pub use Rattle.cx_inv_run.proofs.Members.{Member-first, Member-is_in, Member-map, Member-numbers, Member-one, Member-reverse, Member-second}
 pub use Rattle.cx_inv_run.proofs.Members.{Member-turned, all-Member, any-Member, below-Member, filter-Member, filter-older, is_in-Member}
 pub use Rattle.cx_inv_run.proofs.Members.{map-Member, none-Member}
+pub use Rattle.cx_inv_run.proofs.Opening.{by_order, known_left, offers_say, opened_set}
 pub use Rattle.cx_inv_run.proofs.Quorums.{column-Member, length-below, once_count, some_passes, wider}
 pub use Rattle.cx_inv_run.proofs.Rounds.{at_most-trans, before-both, before-from_at_most, before-higher, before-itself, before-not}
 pub use Rattle.cx_inv_run.proofs.Rounds.{before-to_at_least, before-trans, before_cases, itself-not_before, least, same_round-itself}
