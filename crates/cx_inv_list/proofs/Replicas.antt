@@ -14,6 +14,7 @@ use Rattle.cx_letter.specs.declared.message.Msg.TheVariants as msg
 use Rattle.cx_model.specs.Reader as reader
 use Rattle.cx_model.specs.Reader.{Batch}
 use Rattle.cx_model.specs.Replica as replica
+use Rattle.cx_inv_run.proofs.Opening.{by_order, offers_say}
 use Rattle.cx_inv_run.proofs.Tying.{tied_more}
 use Rattle.cx_inv_list.specs.Told.{AreWanted, BatchWanted, RequestPredicates, Wants, IsAnswerToRead, ListSays, InList, IsListed}
 use Rattle.cx_inv_list.proofs.Listed.{Sends, Heard, listed_if, listed_answered, listed_replied, one_send, each_send, both_send}
@@ -263,4 +264,7 @@ module _ (q : RequestPredicates) (c : Cluster) (history : List KeptRecord) (p : 
     replica_listed (Take l) says =
         listed_if (same_role l.to me && names c l) _ _ (replica_takes_listed l.from l.to l.msg says) (listed_answered ReplicaIn _ _ h)
     replica_listed Tick says = replica_tick_listed
-    replica_listed (Order order) says = listed_answered ReplicaIn _ _ h
+    replica_listed (Order order) says =
+        by_order ReplicaListed c me own v (listed_answered ReplicaIn _ _ h) (listed_answered ReplicaIn _ _ h)
+        (λ to s n. listed_replied ReplicaIn _ _ _ h (offers_say (λ (d : Letter). ListSays q history d.from d.to d.msg) me own
+        (λ to s value e. tt) to s n)) order
