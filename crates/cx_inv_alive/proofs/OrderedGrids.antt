@@ -4,14 +4,14 @@ use Rattle.cx_inv_run.proofs.Common.{◌&&◌, ◌||◌, not, nat_lt, nat_le, le
 use Rattle.cx_inv_run.proofs.Common.{Cluster, Lead, Collect, Replace, Offer, RoleId, Round, Shape, Kind, Why, Cut, Whole, Torn, Kept, Event}
 use Rattle.cx_inv_run.proofs.Common.{Command, Entry, Token, Letter, Act, Give, Snap, Stop, Wake, Input, Take, Tick, Order, Record, Written, Msg}
 use Rattle.cx_inv_run.proofs.Common.{KeptRecord, Member, Member-cases, Member-first, Member-second, Member-turned, IsConfig, IsKeeper}
-use Rattle.cx_inv_run.proofs.Common.{IsWriter, kinds_are_so, Outcome, either_way, only_word, replied, LeaderDurable, LeaderVolatile}
+use Rattle.cx_inv_run.proofs.Common.{kinds_are_so, Outcome, either_way, only_word, replied, LeaderDurable, LeaderVolatile}
 use Rattle.cx_inv_run.proofs.Common.{leader_rules, leader_row, leader_takes, leader_volatile, begin_in, lead_with, lead_after, change_after}
 use Rattle.cx_inv_run.proofs.Common.{matched_by, match_counted, promise_counted, propose_in, collect_in, informed_in, set_learnt, tick_in}
 use Rattle.cx_inv_run.proofs.Common.{order_row, round_of, is_matching, is_own, is_in, is_counted, is_idle, has_no_room, is_promising}
 use Rattle.cx_inv_run.proofs.Common.{is_member_of, live_entries, has_promised, is_leading, is_informing, is_collecting, is_above, is_off}
 use Rattle.cx_inv_run.proofs.Common.{is_settled, is_changed, is_past_window, enough, rows_whole, promised_by, plan, with_informed, names}
 use Rattle.cx_inv_run.proofs.Common.{names_grid, same_role, Mode, Idle, Matching, Phase1, Leading, Plan, State, LeaderIn, Turn, turn, turn_with}
-use Rattle.cx_inv_run.proofs.Common.{whole_turn, cut_turn, snap_turn, still, names_role, World, Change, nothing, changed, act_of, act_at, come, ask}
+use Rattle.cx_inv_run.proofs.Common.{whole_turn, cut_turn, snap_turn, still, names_role, World, nothing, changed, act_of, act_at, come, ask}
 use Rattle.cx_inv_run.proofs.Common.{change, durable_part, kept_by, is_stale, request, heard_by, role, run, run_append, run_cluster}
 use Rattle.cx_inv_run.proofs.Common.{durable_by_time, matchmaker_rules, first_set, IsGrid, HasRound}
 use Rattle.cx_base.specs.declared.event.Event.TheVariants as event
@@ -23,7 +23,8 @@ use Rattle.cx_letter.specs.declared.input.Input.TheVariants as input
 use Rattle.cx_letter.specs.declared.input.Written.TheVariants as written
 use Rattle.cx_letter.specs.declared.kept.Record.TheVariants as kept
 use Rattle.cx_letter.specs.declared.message.Msg.TheVariants as msg
-use Rattle.cx_model.specs.World.{step}
+use Rattle.cx_model.specs.World.{Change, step}
+use Rattle.cx_inv_run.specs.Kinds.{IsWriter}
 use Rattle.cx_inv_match.specs.Prelude.{Facts}
 use Rattle.cx_inv_vote.proofs.Steps.{facts_hold}
 use Rattle.cx_inv_alive.specs.Alive.{GridsComeFromOrders, HasGrids, OrdersHaveGrids, grid_in, matchmaker_store, ordered_grid}
@@ -181,11 +182,14 @@ module _ (c : Cluster) (me : RoleId) (d : LeaderDurable) where
       (λ j g e. nothing_kept e) (λ j g e. nothing_kept e)
   turn_says Wake (Some v) = λ j g e. nothing_kept e
 
--- what a change keeps at a leader is a round with this grid, if it keeps one
-abbrev ChangeSays : Option Shape → Change → Type 0
-ChangeSays x ch =
-    (k : KeptRecord) (i : Round) (g : Shape) → Member k ch.kept → k.what ≡ written.Record (kept.Round i g) → k.role.kind ≡ kind.Leader
+-- what is kept at a leader is a round with this grid, if one is kept
+abbrev KeptSays : Option Shape → List KeptRecord → Type 0
+KeptSays x ks =
+    (k : KeptRecord) (i : Round) (g : Shape) → Member k ks → k.what ≡ written.Record (kept.Round i g) → k.role.kind ≡ kind.Leader
     → x ≡ Some g
+
+abbrev ChangeSays : Option Shape → Change → Type 0
+ChangeSays x ch = KeptSays x ch.kept
 
 kept_own : (me : RoleId) (o : Option Written) (k : KeptRecord) → Member k (kept_by me o) → (k.role ≡ me) × (o ≡ Some k.what)
 kept_own me None k m = absurd m
@@ -193,10 +197,9 @@ kept_own me (Some w) k (inl e) = (ap (λ (x : KeptRecord). x.role) e, ap (λ (x 
 kept_own me (Some w) k (inr m) = absurd m
 
 -- no other role keeps a leader's record
-no_leader : (x : Option Shape) (a : RoleId) (k : Kind) → a.kind ≡ k → (k ≡ kind.Leader → ⊥) → (why : Why) (roles : RoleId → State)
-    (o : Option Written) (sends : List Letter)
-    → ChangeSays x (record { who = Some a; why = why; roles = roles; kept = kept_by a o; sends = sends })
-no_leader x a k is other why roles o sends = λ y i g m e l.
+no_leader : (x : Option Shape) (a : RoleId) (k : Kind) → a.kind ≡ k → (k ≡ kind.Leader → ⊥) → (o : Option Written)
+    → KeptSays x (kept_by a o)
+no_leader x a k is other o = λ y i g m e l.
     absurd (other (sym is ∙ ap (λ (z : RoleId). z.kind) (sym (kept_own a o y m).0) ∙ l))
 
 module _ (c : Cluster) (roles : RoleId → State) (history : List KeptRecord) where
@@ -205,14 +208,14 @@ module _ (c : Cluster) (roles : RoleId → State) (history : List KeptRecord) wh
   act_says act a kind.Leader is = λ y i g m e l.
       let p = kept_own a _ y m in
       turn_says c a (durable_part leader_rules a history) act (leader_volatile (roles a)) i g (p.1 ∙ ap (λ (w : Written). Some w) e)
-  act_says act a kind.Batcher is = no_leader (act_grid act) a kind.Batcher is (λ p. cc) _ _ _ _
-  act_says act a kind.Proxy is = no_leader (act_grid act) a kind.Proxy is (λ p. cc) _ _ _ _
-  act_says act a kind.Acceptor is = no_leader (act_grid act) a kind.Acceptor is (λ p. cc) _ _ _ _
-  act_says act a kind.Matchmaker is = no_leader (act_grid act) a kind.Matchmaker is (λ p. cc) _ _ _ _
-  act_says act a kind.Replica is = no_leader (act_grid act) a kind.Replica is (λ p. cc) _ _ _ _
-  act_says act a kind.Unbatcher is = no_leader (act_grid act) a kind.Unbatcher is (λ p. cc) _ _ _ _
-  act_says act a kind.Reader is = no_leader (act_grid act) a kind.Reader is (λ p. cc) _ _ _ _
-  act_says act a kind.Replacer is = no_leader (act_grid act) a kind.Replacer is (λ p. cc) _ _ _ _
+  act_says act a kind.Batcher is = no_leader (act_grid act) a kind.Batcher is (λ p. cc) _
+  act_says act a kind.Proxy is = no_leader (act_grid act) a kind.Proxy is (λ p. cc) _
+  act_says act a kind.Acceptor is = no_leader (act_grid act) a kind.Acceptor is (λ p. cc) _
+  act_says act a kind.Matchmaker is = no_leader (act_grid act) a kind.Matchmaker is (λ p. cc) _
+  act_says act a kind.Replica is = no_leader (act_grid act) a kind.Replica is (λ p. cc) _
+  act_says act a kind.Unbatcher is = no_leader (act_grid act) a kind.Unbatcher is (λ p. cc) _
+  act_says act a kind.Reader is = no_leader (act_grid act) a kind.Reader is (λ p. cc) _
+  act_says act a kind.Replacer is = no_leader (act_grid act) a kind.Replacer is (λ p. cc) _
 
 module _ (w : World) where
   at_says : (act : Act) (a : RoleId) → ChangeSays (act_grid act) (act_at w act a)
