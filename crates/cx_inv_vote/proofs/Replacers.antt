@@ -118,7 +118,7 @@ deciding-mode Stopping t = cc
 deciding-mode Deciding t = refl
 deciding-mode Booting t = cc
 
-booting-mode : (mode : Replacing) → is_booting mode ≡ true → mode ≡ Booting
+pub booting-mode : (mode : Replacing) → is_booting mode ≡ true → mode ≡ Booting
 booting-mode Idle t = cc
 booting-mode Stopping t = cc
 booting-mode Deciding t = cc
