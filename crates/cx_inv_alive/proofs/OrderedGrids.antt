@@ -1,8 +1,11 @@
 -- Each grid that a matchmaker recorded comes from an order to a leader.
 use Rattle.cx_inv_run.proofs.Common.{◌≡◌, ◌⊎◌, ◌∙◌, sym, subst, ap, inl, inr, refl, List, [], ◌∷◌, ◌++◌, reverse, append-nil, append_assoc}
-use Rattle.cx_inv_run.proofs.Common.{◌&&◌, ◌||◌, not, nat_lt, nat_le, length, map, slice_get, slice_index_or, Option, None, Some, option_map}
-use Rattle.cx_inv_run.proofs.Common.{Cluster, Lead, Collect, Replace, Offer, RoleId, Round, Shape, Kind, Why, Cut, Whole, Torn, Kept, Event}
-use Rattle.cx_inv_run.proofs.Common.{Command, Entry, Token, Letter, Act, Give, Snap, Stop, Wake, Input, Take, Tick, Order, Record, Written, Msg}
+use Rattle.cx_inv_run.proofs.Common.{◌&&◌, ◌||◌, not, nat_lt, nat_le, length, map, slice_get, slice_index_or, Option, None, Some}
+use Rattle.cx_inv_run.proofs.Common.{option_map}
+use Rattle.cx_inv_run.proofs.Common.{Cluster, Lead, Collect, Replace, Offer, RoleId, Round, Shape, Kind, Why, Cut, Whole, Torn, Kept}
+use Rattle.cx_inv_run.proofs.Common.{Event}
+use Rattle.cx_inv_run.proofs.Common.{Command, Entry, Token, Letter, Act, Give, Snap, Stop, Wake, Input, Take, Tick, Order, Record}
+use Rattle.cx_inv_run.proofs.Common.{Written, Msg}
 use Rattle.cx_inv_run.proofs.Common.{KeptRecord, Member, Member-cases, Member-first, Member-second, Member-turned, IsConfig, IsKeeper}
 use Rattle.cx_inv_run.proofs.Common.{kinds_are_so, Outcome, either_way, only_word, replied, LeaderDurable, LeaderVolatile}
 use Rattle.cx_inv_run.proofs.Common.{leader_rules, leader_row, leader_takes, leader_volatile, begin_in, lead_with, lead_after, change_after}
@@ -10,7 +13,8 @@ use Rattle.cx_inv_run.proofs.Common.{matched_by, match_counted, promise_counted,
 use Rattle.cx_inv_run.proofs.Common.{order_row, round_of, is_matching, is_own, is_in, is_counted, is_idle, has_no_room, is_promising}
 use Rattle.cx_inv_run.proofs.Common.{is_member_of, live_entries, has_promised, is_leading, is_informing, is_collecting, is_above, is_off}
 use Rattle.cx_inv_run.proofs.Common.{is_settled, is_changed, is_past_window, enough, rows_whole, promised_by, plan, with_informed, names}
-use Rattle.cx_inv_run.proofs.Common.{names_grid, same_role, Mode, Idle, Matching, Phase1, Leading, Plan, State, LeaderIn, Turn, turn, turn_with}
+use Rattle.cx_inv_run.proofs.Common.{names_grid, same_role, Mode, Idle, Matching, Phase1, Leading, Plan, State, LeaderIn, Turn, turn}
+use Rattle.cx_inv_run.proofs.Common.{turn_with}
 use Rattle.cx_inv_run.proofs.Common.{whole_turn, cut_turn, snap_turn, still, names_role, World, nothing, changed, act_of, act_at, come, ask}
 use Rattle.cx_inv_run.proofs.Common.{change, durable_part, kept_by, is_stale, request, heard_by, role, run, run_append, run_cluster}
 use Rattle.cx_inv_run.proofs.Common.{durable_by_time, matchmaker_rules, first_set, IsGrid, HasRound}
@@ -263,14 +267,14 @@ step_ordered : (c : Cluster) (then : List Event) (e : Event) → RoundsAreOrdere
     → RoundsAreOrdered c (then ++ e ∷ []) (step (run c then) e)
 unfolding step
 step_ordered c then e old k i g m is = elim (Member-cases k (run c then).kept (change (run c then) e).kept m) [
-    | inl o ↦ (let r = old k i g o is in (r.0, Member-first r.0 then (e ∷ []) r.1, r.2))
-    | inr n ↦ (
+  | inl o ↦ (let r = old k i g o is in (r.0, Member-first r.0 then (e ∷ []) r.1, r.2))
+  | inr n ↦ (
       let all : Member k (run c (then ++ e ∷ [])).kept = subst (λ (w : World). Member k w.kept) (sym (run_append c then (e ∷ []))) m in
       let writes = kinds_are_so.keepers c (then ++ e ∷ []) k all in
       let leads : k.role.kind ≡ kind.Leader = subst (λ (x : Written). IsWriter k.role.kind x) is writes in
       (e, Member-second e then (e ∷ []) (inl refl), event_says (run c then) e k i g n is leads)
-    )
-  ]
+      )
+]
 
 all_ordered : (c : Cluster) (then later : List Event) → RoundsAreOrdered c then (run c then)
     → RoundsAreOrdered c (then ++ later) (run c (then ++ later))
@@ -297,9 +301,9 @@ module _ (c : Cluster) (es : List Event) (m : RoleId) where
 
   entry_round : (e : Entry) → Member e (durable_part matchmaker_rules m (run c es).kept).entries → IsConfig history e.round e.grid
   entry_round e k = elim ((facts.logs m).only e (subst (λ d. Member e d.entries) (durable_by_time matchmaker_rules m (run c es).kept) k)) [
-      | inl x ↦ had_round e.round e.grid x
-      | inr x ↦ (facts.garbaged m e.round e.grid x).0
-    ]
+    | inl x ↦ had_round e.round e.grid x
+    | inr x ↦ (facts.garbaged m e.round e.grid x).0
+  ]
 
 pub grids_come_from_orders : GridsComeFromOrders
 grids_come_from_orders c es orders m e of k =

@@ -1,7 +1,9 @@
 -- NO DEAD ENDS. From each world that any list of events reaches, while room is left, further events bring an answer to each command that
 -- was submitted. Nothing of it is proved here.
-use Rattle.std.specs.Prelude.{◌≡◌, ℕ, ◌+◌, ◌==◌, ◌&&◌, ◌||◌, not, Bool, true, false, nat_lt, nat_le, filter, is_none, List, [], ◌∷◌, length, Option, None, Some}
-use Rattle.cx_model.specs.Prelude.{list_all, Cluster, Command, Reply, Value, Event, Lead, Shape, RoleId, commands_of, IsGrid, below, floor_of}
+use Rattle.std.specs.Prelude.{◌≡◌, ℕ, ◌+◌, ◌==◌, ◌&&◌, ◌||◌, not, Bool, true, false, nat_lt, nat_le, filter, is_none, List, [], ◌∷◌}
+use Rattle.std.specs.Prelude.{length, Option, None, Some}
+use Rattle.cx_model.specs.Prelude.{list_all, Cluster, Command, Reply, Value, Event, Lead, Shape, RoleId, commands_of, IsGrid, below}
+use Rattle.cx_model.specs.Prelude.{floor_of}
 use Rattle.cx_model.specs.Prelude.{is_done, role, Entry, Vote, Letter, letter, AcceptorDurable, acceptor_rules, LeaderDurable, leader_rules}
 use Rattle.cx_model.specs.Prelude.{round_of, enough, first_set, MatchmakerDurable, matchmaker_rules, is_stopped, Member, ReplicaDurable}
 use Rattle.cx_model.specs.Prelude.{held, replica_rules, World, run, run_from, durable_part}

@@ -3,7 +3,8 @@ use Rattle.cx_inv_run.proofs.Common.{◌≡◌, ℕ, List, [], ◌∷◌, inl, a
 use Rattle.cx_inv_run.proofs.Common.{Kind, RoleId, Why, role, Letter, KeptRecord, acceptor_rules, leader_rules, matchmaker_rules, Member}
 use Rattle.cx_inv_run.proofs.Common.{WasRead, WasSession, reader_rules, make_token, replacer_rules, request, token_of, World, change}
 use Rattle.cx_inv_run.proofs.Common.{run_from, run, Laws, AllAllowed, State, Down, BatcherIn, LeaderIn, ProxyIn, ReplicaIn, ReaderIn}
-use Rattle.cx_inv_run.proofs.Common.{ReplacerIn, plain, fresh_state, opened_state, set_state, durable_of, HoldsIn, Ties, Member-first, Member-second}
+use Rattle.cx_inv_run.proofs.Common.{ReplacerIn, plain, fresh_state, opened_state, set_state, durable_of, HoldsIn, Ties, Member-first}
+use Rattle.cx_inv_run.proofs.Common.{Member-second}
 use Rattle.cx_inv_run.proofs.Common.{Member-cases, matchmaker_kinds, replacer_kinds, along, run_keeps, ties_hold}
 use Rattle.cx_base.specs.declared.event.Event.TheVariants as event
 use Rattle.cx_base.specs.declared.role.Kind.TheVariants as kind

@@ -6,7 +6,8 @@ pub use Rattle.std.specs.Prelude.{option_to_list, position, refl, reverse, slice
 pub use Rattle.std.specs.Prelude.{◌&&◌, ◌*◌, ◌++◌, ◌+◌, ◌-◌, ◌<◌, ◌==◌, ◌^◌, ◌||◌, ◌∷◌, ◌≡◌, ◌≤◌, ◌⊎◌}
 pub use Rattle.cx_letter.specs.Prelude.{Acceptor, Answered, App, Asking, Cluster, Collect, Command, Cut, Del, Entry, Event, Happened}
 pub use Rattle.cx_letter.specs.Prelude.{IsGrid, Kept, Kind, Lead, Letter, NackReason, Noop, Offer, Op, Placed, Put, Replace, Reply, Rises}
-pub use Rattle.cx_letter.specs.Prelude.{RoleId, Round, Shape, Token, Torn, Value, Vote, Whole, Why, below, change_after, commands_of, floor_fits}
+pub use Rattle.cx_letter.specs.Prelude.{RoleId, Round, Shape, Token, Torn, Value, Vote, Whole, Why, below, change_after, commands_of}
+pub use Rattle.cx_letter.specs.Prelude.{floor_fits}
 pub use Rattle.cx_letter.specs.Prelude.{floor_of, fold, in_window, is_above, is_before, is_done, is_in, is_valid_event, lead_after, letter}
 pub use Rattle.cx_letter.specs.Prelude.{list_all, list_any, no_round, numbers, position_or_len, puts_anew, ready_values, role}
 pub use Rattle.cx_letter.specs.Prelude.{same_op, same_role, same_round, same_value, strip_carriage_return, text_at}

@@ -42,7 +42,7 @@ impl Replacer {
             known: *known,
             mode: Replacing::Idle,
             seen: Round::ZERO,
-            set: known_set(cluster, known),
+            set: opening_set(cluster, known),
             next: Set::empty(),
             halts: Vec::new(alloc),
             counted: Counted::new(),
@@ -53,7 +53,7 @@ impl Replacer {
 }
 
 /// The set that a replacer knows when it is opened: the one that it kept, or the first where it kept none.
-pub fn known_set(cluster: &Cluster, known: &Set) -> Set
+pub fn opening_set(cluster: &Cluster, known: &Set) -> Set
     ensures { result ≡ kept_or (first_set cluster.now) known.now }
 {
     match known.ids() {
@@ -75,7 +75,9 @@ fn fits(cluster: &Cluster, me: RoleId, own: Round, known: &Set, what: &Record) -
                 && round.s == 0
         }
         Record::Known { set } => {
-            cluster.keep_sets && names_set(cluster, set) && set.is_above(&known_set(cluster, known))
+            cluster.keep_sets
+                && names_set(cluster, set)
+                && set.is_above(&opening_set(cluster, known))
         }
         _ => false,
     }

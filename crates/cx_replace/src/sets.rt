@@ -9,7 +9,7 @@ ghost use Rattle.cx_letter.specs.declared.kept.Record.TheVariants as kept;
 ghost use Rattle.cx_model.specs.Replacer.{known_set, replacer_rules, sets_row};
 
 use crate::Replacer;
-use crate::opening::known_set;
+use crate::opening::opening_set;
 use cx_base::{Set, Why};
 use cx_field::set_fits;
 use cx_keep::Keeper;
@@ -41,7 +41,7 @@ impl Replacer {
         ensures { let s = self.now in result
             ≡ (s.cluster.keep_sets && is_above set.now (known_set s.cluster s.durable)) }
     {
-        self.cluster.keep_sets && set.is_above(&known_set(&self.cluster, &self.known))
+        self.cluster.keep_sets && set.is_above(&opening_set(&self.cluster, &self.known))
     }
 
     /// A set above the known one is known from now on, and what was asked of the known one is given up. It is kept first, where

@@ -1,5 +1,6 @@
 -- The map of the reads that wait, as their list.
-use Rattle.cx_role.proofs.Common.{◌≡◌, ◌+◌, ℕ, suc, zero, List, [], ◌∷◌, ◌++◌, Bool, true, false, ◌==◌, ◌&&◌, drop, filter, refl, ap, nat_lt}
+use Rattle.cx_role.proofs.Common.{◌≡◌, ◌+◌, ℕ, suc, zero, List, [], ◌∷◌, ◌++◌, Bool, true, false, ◌==◌, ◌&&◌, drop, filter, refl, ap}
+use Rattle.cx_role.proofs.Common.{nat_lt}
 use Rattle.cx_role.proofs.Common.{Option, Some, arith, list_any, by_test, still_deferred, Deferred, Token}
 use Rattle.cx_role.proofs.Common.{Letter, Pair, RoleId, append_assoc, ◌∙◌, nat_le}
 use Rattle.std.specs.Prelude.{slice_get, is_some}
@@ -8,7 +9,7 @@ use Rattle.std.proofs.lemmas.Option.{slice_get-map}
 use Rattle.indexmap.specs.IndexMap.{insert_entry}
 use Rattle.cx_model.specs.Request.{same_read}
 use Rattle.cx_replica.specs.Answering.{answer_at, answers_at}
-use Rattle.cx_replica.specs.Waiting.{deferred_by, number_of, question_of, reads_in}
+use Rattle.cx_replica.specs.Waiting.{deferred_by, read_number, question_of, reads_in}
 use Rattle.cx_replica.specs.declared.deferred.Number.{Number}
 use Rattle.cx_replica.specs.declared.deferred.Question.{Question}
 
@@ -35,15 +36,15 @@ read_at es k e is = rw (slice_get-map deferred_by es k, is) refl
 
 -- a key finds what some read has
 pub found : (t : Token) (es : Waiting)
-    → is_some (lookup (is_equal_number (number_of t)) es) ≡ list_any (λ (r : Deferred). same_read t r.token) (reads_in es)
+    → is_some (lookup (is_equal_number (read_number t)) es) ≡ list_any (λ (r : Deferred). same_read t r.token) (reads_in es)
 found t [] = refl
 found t (e ∷ es) =
     by_test (λ (o : Option Question). is_some o ≡ list_any (λ (r : Deferred). same_read t r.token) (reads_in (e ∷ es)))
-    (is_equal_number (number_of t) e.0) _ _ (λ same. rw same refl) (λ other. rw other (found t es))
+    (is_equal_number (read_number t) e.0) _ _ (λ same. rw same refl) (λ other. rw other (found t es))
 
 -- a new read goes last
 pub pushed : (r : Deferred) (es : Waiting) → list_any (λ (other : Deferred). same_read r.token other.token) (reads_in es) ≡ false
-    → reads_in (insert_entry is_equal_number es (number_of r.token) (question_of r)) ≡ reads_in es ++ r ∷ []
+    → reads_in (insert_entry is_equal_number es (read_number r.token) (question_of r)) ≡ reads_in es ++ r ∷ []
 pushed r [] new = refl
 pushed r (e ∷ es) new =
     let here : same_read r.token (deferred_by e).token ≡ false = grind arith in

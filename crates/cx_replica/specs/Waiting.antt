@@ -5,8 +5,8 @@ use Rattle.cx_role.specs.Prelude.{Deferred}
 use Rattle.cx_replica.specs.declared.deferred.Number.{Number}
 use Rattle.cx_replica.specs.declared.deferred.Question.{Question}
 
-abbrev pub number_of : Token → Number
-number_of t = record { client = t.client; seq = t.seq }
+abbrev pub read_number : Token → Number
+read_number t = record { client = t.client; seq = t.seq }
 
 abbrev pub question_of : Deferred → Question
 question_of r = record { mark = r.mark; key = r.key }

@@ -5,7 +5,7 @@ ghost use Rattle.std.specs.List.{list_any};
 ghost use Rattle.cx_model.specs.declared.states.Deferred.{Deferred as DeferredOf};
 ghost use Rattle.cx_model.specs.Replica.{still_deferred};
 ghost use Rattle.cx_model.specs.Request.{same_read};
-ghost use Rattle.cx_replica.specs.Waiting.{deferred_by, reads_in, number_of, question_of};
+ghost use Rattle.cx_replica.specs.Waiting.{deferred_by, reads_in, read_number, question_of};
 
 use cx_base::{Key, NoMemory};
 use cx_field::Token;
@@ -44,8 +44,8 @@ impl Model for DeferredReads {
     ghost view = { λ r. reads_in r.map.entries };
 }
 
-fn number_of(token: Token) -> Number
-    ensures { result ≡ number_of token }
+fn read_number(token: Token) -> Number
+    ensures { result ≡ read_number token }
 {
     Number {
         client: token.client,
@@ -106,7 +106,7 @@ impl DeferredReads {
     pub fn has(&self, token: Token) -> bool
         ensures { result ≡ list_any (λ (other : DeferredOf). same_read token other.token) self.now }
     {
-        self.map.contains_key(&number_of(token))
+        self.map.contains_key(&read_number(token))
     }
 
     /// One of them, by its place.
@@ -127,7 +127,7 @@ impl DeferredReads {
         ensures ok { OnOk result (self.new ≡ self.old ++ one ∷ []) }
         ensures err { OnErr result (self.new ≡ self.old) }
     {
-        self.map.insert(number_of(one.token), question_of(&one))?;
+        self.map.insert(read_number(one.token), question_of(&one))?;
         Ok(())
     }
 
