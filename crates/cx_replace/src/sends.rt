@@ -137,7 +137,8 @@ pub fn room_to_tell(cluster: &Cluster, out: &mut Outbox) -> Result<(), NoMemory>
 /// Tells a set to all leaders, readers and other replacers. Room was taken beforehand.
 pub fn tell_each(cluster: &Cluster, replacer: u16, set: &Set, out: &mut Outbox)
     requires empty { out.old.list ≡ [] }
-    requires spare { cluster.now.leaders + cluster.now.readers + cluster.now.replacers ≤ out.old.spare }
+    requires spare { cluster.now.leaders + cluster.now.readers + cluster.now.replacers
+        ≤ out.old.spare }
     ensures { out.new.list ≡ sets_to_all cluster.now (role kind.Replacer replacer) set.now }
 {
     tell_leaders(replacer, set, cluster.leaders, out);
