@@ -2,7 +2,8 @@
 use Rattle.cx_inv_run.proofs.Common.{◌≡◌, ℕ, false, ◌⊎◌, List, [], ◌∷◌, ◌++◌, Option, None, Some, sym, subst, inl, inr, append-nil, Cluster}
 use Rattle.cx_inv_run.proofs.Common.{Event, Kind, RoleId, role, same_role, Letter, KeptRecord, Record, LeaderDurable, LeaderVolatile}
 use Rattle.cx_inv_run.proofs.Common.{leader_rules, leader_row, round_of, Outcome, request, run, Lands, Laws, anything, State, Down, Plain}
-use Rattle.cx_inv_run.proofs.Common.{BatcherIn, LeaderIn, ProxyIn, ReplicaIn, ReaderIn, ReplacerIn, plain, fresh_state, opened_state, set_state, snap_by}
+use Rattle.cx_inv_run.proofs.Common.{BatcherIn, LeaderIn, ProxyIn, ReplicaIn, ReaderIn, ReplacerIn, plain, fresh_state, opened_state}
+use Rattle.cx_inv_run.proofs.Common.{set_state, snap_by}
 use Rattle.cx_inv_run.proofs.Common.{with_record, durable_of, HoldsIn, by_role, durable_own, durable_other, durable_else, set_running}
 use Rattle.cx_inv_run.proofs.Common.{always}
 use Rattle.cx_base.specs.declared.role.Kind.TheVariants as kind
@@ -66,15 +67,7 @@ fresh_full history sent c me kind.Replacer = tt
 opened_full : (history : List KeptRecord) (sent : List Letter) (c : Cluster) (me : RoleId) (k : Kind)
     → FullState history sent me (opened_state c me history k)
 opened_full history sent c me kind.Replacer = tt
-opened_full history sent c me kind.Client = fresh_full history sent c me kind.Client
-opened_full history sent c me kind.Batcher = fresh_full history sent c me kind.Batcher
-opened_full history sent c me kind.Leader = fresh_full history sent c me kind.Leader
-opened_full history sent c me kind.Proxy = fresh_full history sent c me kind.Proxy
-opened_full history sent c me kind.Acceptor = fresh_full history sent c me kind.Acceptor
-opened_full history sent c me kind.Matchmaker = fresh_full history sent c me kind.Matchmaker
-opened_full history sent c me kind.Replica = fresh_full history sent c me kind.Replica
-opened_full history sent c me kind.Unbatcher = fresh_full history sent c me kind.Unbatcher
-opened_full history sent c me kind.Reader = fresh_full history sent c me kind.Reader
+opened_full history sent c me other = fresh_full history sent c me other
 
 module _ (history : List KeptRecord) (sent : List Letter) (states : RoleId → State) (h : Full history sent states) where
   -- a role's step, with what it leaves of its own

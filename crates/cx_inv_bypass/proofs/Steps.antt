@@ -1,7 +1,8 @@
 -- The word `bypassed` of an event is that of a leader's row, so the event does what the row does.
 use Rattle.cx_inv_run.proofs.Common.{◌≡◌, ◌≤◌, ◌<◌, ℕ, ◌+◌, ◌-◌, Bool, true, false, List, [], ◌∷◌, ◌++◌, map, reverse, Option, Some, None}
 use Rattle.cx_inv_run.proofs.Common.{ap, sym, ◌∙◌, subst, refl, inl, inr, arith, slice_get, length, true≢false, same_Some, Cluster, Placed}
-use Rattle.cx_inv_run.proofs.Common.{Value, Cut, Whole, Torn, Kept, Event, Offer, Replace, Kind, RoleId, Round, Shape, below, role, change_after}
+use Rattle.cx_inv_run.proofs.Common.{Value, Cut, Whole, Torn, Kept, Event, Offer, Replace, Kind, RoleId, Round, Shape, below, role}
+use Rattle.cx_inv_run.proofs.Common.{change_after}
 use Rattle.cx_inv_run.proofs.Common.{Entry, Token, Letter, Act, Give, Snap, Stop, Wake, Input, Record, Msg, IsProposed, heard_by}
 use Rattle.cx_inv_run.proofs.Common.{finish_with, finish_by, LeaderDurable, LeaderVolatile, leader_rules, leader_row, round_of, bypass}
 use Rattle.cx_inv_run.proofs.Common.{leads_to, propose_to, Member, names_role, Outcome, either_way, OfEveryRun, is_stale, request, Turn}

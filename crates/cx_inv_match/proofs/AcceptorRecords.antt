@@ -10,7 +10,8 @@ use Rattle.cx_inv_run.proofs.Histories.{kept_else}
 use Rattle.cx_inv_match.proofs.Grow.{Grows}
 use Rattle.cx_inv_match.proofs.Parts.{put-itself, put-cases, put-older, from-member, from-there}
 use Rattle.cx_inv_match.proofs.Keep.{old_boots, old_nexts, old_matches, old_garbages, old_votes, old_marks, more_mark, more_low}
-use Rattle.cx_inv_match.proofs.KeepFacts.{old_known_sets, old_sets, old_accepted, old_balloter, old_last_ballot, kept_facts, new_acceptors, old_owner}
+use Rattle.cx_inv_match.proofs.KeepFacts.{old_known_sets, old_sets, old_accepted, old_balloter, old_last_ballot, kept_facts, new_acceptors}
+use Rattle.cx_inv_match.proofs.KeepFacts.{old_owner}
 use Rattle.cx_inv_match.proofs.KeepFacts.{old_one_grid, old_last, old_asked, old_garbaged, old_logs, old_voted, old_logged}
 use Rattle.cx_inv_match.proofs.Records.{no, grows_else}
 

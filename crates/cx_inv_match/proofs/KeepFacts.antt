@@ -18,7 +18,8 @@ use Rattle.cx_inv_match.proofs.Grow.{Grows, grown_config, grown_known, grown_nex
 use Rattle.cx_inv_match.proofs.Grow.{grown_mode, grown_work, grown_pending}
 use Rattle.cx_inv_match.proofs.SetLaws.{grown_sets}
 use Rattle.cx_inv_match.proofs.Keep.{IsRoundRecord, IsMatchRecord, IsGarbageRecord, IsPromiseRecord, IsVoteRecord, IsWaterRecord}
-use Rattle.cx_inv_match.proofs.Keep.{IsStopRecord, IsNextRecord, IsBootRecord, IsBallotRecord, IsKnownRecord, old_known, old_rounds, old_matches, old_garbages}
+use Rattle.cx_inv_match.proofs.Keep.{IsStopRecord, IsNextRecord, IsBootRecord, IsBallotRecord, IsKnownRecord, old_known, old_rounds}
+use Rattle.cx_inv_match.proofs.Keep.{old_matches, old_garbages}
 use Rattle.cx_inv_match.proofs.Keep.{old_votes, old_marks, old_promises, old_boots, old_nexts, old_ballots, old_begun, old_had, old_used}
 use Rattle.cx_inv_match.proofs.Keep.{other_had, other_ballots, other_votes, other_marks, other_promises, same_acceptor, same_last, same_log}
 

@@ -15,7 +15,8 @@ use Rattle.cx_inv_match.proofs.SetLaws.{grown_sets}
 use Rattle.cx_inv_match.proofs.Parts.{entries-member, entries-there, with-member, with-older, with-itself, beside-member, beside-water}
 use Rattle.cx_inv_match.proofs.Parts.{covers_itself, covers_beside}
 use Rattle.cx_inv_match.proofs.Keep.{old_boots, old_nexts, old_ballots, old_had, more_own, old_matches, old_garbages}
-use Rattle.cx_inv_match.proofs.KeepFacts.{old_known_sets, old_accepted, old_balloter, old_last_ballot, kept_facts, new_logs, old_owner, old_one_grid}
+use Rattle.cx_inv_match.proofs.KeepFacts.{old_known_sets, old_accepted, old_balloter, old_last_ballot, kept_facts, new_logs, old_owner}
+use Rattle.cx_inv_match.proofs.KeepFacts.{old_one_grid}
 use Rattle.cx_inv_match.proofs.KeepFacts.{old_last, old_asked, old_garbaged, old_acceptors, old_voted, old_logged}
 use Rattle.cx_inv_match.proofs.Records.{no, grows_with}
 

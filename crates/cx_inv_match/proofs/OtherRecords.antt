@@ -9,7 +9,8 @@ use Rattle.cx_base.specs.declared.role.Kind.TheVariants as kind
 use Rattle.cx_letter.specs.declared.kept.Record.TheVariants as kept
 use Rattle.cx_inv_match.proofs.Grow.{Grows, grown_chosen_somewhere}
 use Rattle.cx_inv_match.proofs.Parts.{get-cases}
-use Rattle.cx_inv_match.proofs.KeepFacts.{old_known_sets, old_sets, old_accepted, old_balloter, old_last_ballot, kept_facts, new_last, old_owner}
+use Rattle.cx_inv_match.proofs.KeepFacts.{old_known_sets, old_sets, old_accepted, old_balloter, old_last_ballot, kept_facts, new_last}
+use Rattle.cx_inv_match.proofs.KeepFacts.{old_owner}
 use Rattle.cx_inv_match.proofs.KeepFacts.{old_one_grid, old_last, old_asked, old_garbaged, old_logs, old_acceptors, old_voted, old_logged}
 use Rattle.cx_inv_match.proofs.Records.{no, grows_else}
 

@@ -12,7 +12,8 @@ use Rattle.cx_inv_match.proofs.Grow.{Grows, grown_known, grown_round, grown_ball
 use Rattle.cx_inv_match.proofs.Parts.{covers_itself}
 use Rattle.cx_inv_match.proofs.SetLaws.{grown_sets}
 use Rattle.cx_inv_match.proofs.Keep.{old_begun, old_boots, old_nexts, old_stops, old_ballots, old_had, more_own, old_matches, old_garbages}
-use Rattle.cx_inv_match.proofs.KeepFacts.{old_known_sets, old_sets, old_accepted, old_balloter, new_last_ballot, old_last_ballot, kept_facts, new_logs}
+use Rattle.cx_inv_match.proofs.KeepFacts.{old_known_sets, old_sets, old_accepted, old_balloter, new_last_ballot, old_last_ballot}
+use Rattle.cx_inv_match.proofs.KeepFacts.{kept_facts, new_logs}
 use Rattle.cx_inv_match.proofs.KeepFacts.{old_owner, old_one_grid, old_last, old_asked, old_garbaged, old_logs, old_acceptors, old_voted}
 use Rattle.cx_inv_match.proofs.KeepFacts.{old_logged}
 use Rattle.cx_inv_match.proofs.Records.{no, grows_with, grows_else}

@@ -10,7 +10,8 @@ pub use Rattle.cx_base.proofs.Common.{slice_set, subst, sym, take-append-le, tak
 pub use Rattle.cx_letter.specs.Prelude.{Floor, Pair, Sent, Unbatcher, before_following, command_list}
 pub use Rattle.cx_model.specs.Prelude.{AcceptorDurable, Act, Answered, Asked, Asking, BatcherIn, BatcherVolatile, Begins, Bool, Cluster}
 pub use Rattle.cx_model.specs.Prelude.{Collect, Collection, Command, Cut, DeliversOneOf, Down, Entry, Event, Give, Happened, HasKept}
-pub use Rattle.cx_model.specs.Prelude.{HasRound, HasTurn, HasVoted, Input, IsConfig, IsFinished, IsFit, IsGrid, IsInformed, IsProposed, Offer}
+pub use Rattle.cx_model.specs.Prelude.{HasRound, HasTurn, HasVoted, Input, IsConfig, IsFinished, IsFit, IsGrid, IsInformed, IsProposed}
+pub use Rattle.cx_model.specs.Prelude.{Offer}
 pub use Rattle.cx_model.specs.Prelude.{IsRetiring, IsRight, IsTied, Kept, KeptRecord, Kind, Lead, LeaderDurable, LeaderIn, LeaderVolatile}
 pub use Rattle.cx_model.specs.Prelude.{LeaderWasTold, Letter, List, Machine, MatchmakerDurable, Member, Msg, NackReason, None, Noop}
 pub use Rattle.cx_model.specs.Prelude.{OfEveryRun, Option, Order, Outcome, Placed, Plain, ProxyIn, ProxyVolatile, ReaderDurable, ReaderIn}

@@ -15,7 +15,8 @@ use Rattle.cx_model.specs.Prelude.{greatest_mark, has_acked, is_among, is_first,
 use Rattle.cx_model.specs.Prelude.{match_ack_row, match_read_to, pre_read_ack_row, pre_read_counted, pre_read_to, read_to, reader_row}
 use Rattle.cx_model.specs.Prelude.{reader_takes, reader_tick, request_over, make_token, ReplicaDurable, ReplicaVolatile, Machine, held}
 use Rattle.cx_model.specs.Prelude.{execute_value, machine_from, results_at, results_from, read_answer_to, read_answers, apply, read_row}
-use Rattle.cx_model.specs.Prelude.{fetched_by, fetch_found, held_to, fetch_to, replica_takes, replica_tick, replica_row, same_read, ◌||◌, zero, suc}
+use Rattle.cx_model.specs.Prelude.{fetched_by, fetch_found, held_to, fetch_to, replica_takes, replica_tick, replica_row, same_read, ◌||◌}
+use Rattle.cx_model.specs.Prelude.{zero, suc}
 use Rattle.cx_model.specs.Prelude.{answer_to, unbatcher_takes, unbatcher_row}
 use Rattle.cx_base.specs.declared.event.Order.{Order as OrderOf}
 use Rattle.cx_base.specs.declared.event.Order.TheVariants as order

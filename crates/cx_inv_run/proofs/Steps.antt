@@ -2,7 +2,8 @@
 use Rattle.std.proofs.Common.{ap, sym, ◌∙◌, subst, inl, inr, append-nil}
 use Rattle.std.proofs.lemmas.List.{reverse-append}
 use Rattle.cx_model.specs.Prelude.{◌≡◌, ℕ, Bool, true, false, ◌⊎◌, List, [], ◌∷◌, ◌++◌, reverse, Option, None, Some, refl, slice_get}
-use Rattle.cx_model.specs.Prelude.{if◌then◌else◌, Cluster, Cut, Whole, Torn, Kept, Event, Offer, Replace, Kind, RoleId, role, Letter, Act, Give}
+use Rattle.cx_model.specs.Prelude.{if◌then◌else◌, Cluster, Cut, Whole, Torn, Kept, Event, Offer, Replace, Kind, RoleId, role, Letter, Act}
+use Rattle.cx_model.specs.Prelude.{Give}
 use Rattle.cx_model.specs.Prelude.{Snap, Stop, Wake, Input, KeptRecord, Written, Record, Token, acceptor_rules, acceptor_row, batcher_rules}
 use Rattle.cx_model.specs.Prelude.{batcher_row, heard_by, leader_rules, leader_row, role_from_parts, matchmaker_rules, matchmaker_row}
 use Rattle.cx_model.specs.Prelude.{names_role, Outcome, proxy_rules, proxy_row, reader_rules, reader_row, replacer_rules, replacer_row}

@@ -169,7 +169,8 @@ module _ (c : Cluster) (me : RoleId) (dur : ReplacerDurable) (v : ReplacerVolati
       (λ t. same why.Same (λ e. cc))
       (λ g. by_test Says (nat_lt (length (with_mark from.index v.counted)) (enough c)) _ _
       (λ t. says_nothing v (record v { counted = with_mark from.index v.counted }) why.Counted (λ e. cc) (λ e. (e, refl))) (λ k. says_else v
-      (record v { mode = Idle; set = v.next }) why.Replaced (known_record c dur v.next) (sets_to_all c me v.next) (λ e. cc) (λ e. cc) (tells_no_boot v.next))))
+      (record v { mode = Idle; set = v.next }) why.Replaced (known_record c dur v.next) (sets_to_all c me v.next) (λ e. cc) (λ e. cc)
+      (tells_no_boot v.next))))
 
   -- a greater ballot, another set
 

@@ -1,6 +1,7 @@
 -- What an event does, by what its role's row says of sets.
 use Rattle.cx_inv_run.proofs.Common.{◌≡◌, ℕ, ◌&&◌, ◌⊎◌, List, [], Option, Some, None, inl, inr, ap, sym, subst, ◌∙◌, refl, ⊎_elim}
-use Rattle.cx_inv_run.proofs.Common.{slice_get, option_map, same_Some, Cut, Whole, Torn, Kept, Event, Offer, Replace, Kind, RoleId, Round, Why}
+use Rattle.cx_inv_run.proofs.Common.{slice_get, option_map, same_Some, Cut, Whole, Torn, Kept, Event, Offer, Replace, Kind, RoleId, Round}
+use Rattle.cx_inv_run.proofs.Common.{Why}
 use Rattle.cx_inv_run.proofs.Common.{role, same_role, Entry, Token, Letter, Act, Give, Snap, Stop, Wake, Input, KeptRecord, Written, Record}
 use Rattle.cx_inv_run.proofs.Common.{Booting, acceptor_rules, batcher_rules, heard_by, leader_rules, bool_cases, differ_role}
 use Rattle.cx_inv_run.proofs.Common.{same_role-true, MatchmakerDurable, matchmaker_rules, matchmaker_row, Member, names, names_role}
@@ -220,7 +221,10 @@ module _ (w : World) (Was : List ℕ → Type 0)
 
     idle : (v : ReplacerVolatile) → ◌≡◌ {A = Option ReplacerVolatile} (Some (replacer_rules.fresh w.cluster d)) (Some v)
         → v.mode ≡ Booting → ⊥
-    idle v e m = (let p : Idle ≡ Booting = ap (λ (x : ReplacerVolatile). x.mode) (same_Some (replacer_rules.fresh w.cluster d) v e) ∙ m in cc)
+    idle v e m =
+        let same = same_Some (replacer_rules.fresh w.cluster d) v e in
+        let p : Idle ≡ Booting = ap (λ (x : ReplacerVolatile). x.mode) same ∙ m in
+        cc
 
     turn_says : (act : Act) (running : Option ReplacerVolatile) → TurnSays running (turn replacer_rules w.cluster me d act running)
     turn_says (Give i cut) None = still_says None None why.Down (λ q. cc) (λ u q m. q)

@@ -1,9 +1,12 @@
 -- Each set that a replacer tells, keeps or comes to know was decided, but for the first.
 use Rattle.cx_inv_run.proofs.Common.{◌≡◌, ◌⊎◌, ◌<◌, ◌+◌, ◌*◌, ℕ, true, not, ◌&&◌, ◌||◌, nat_lt, bytes_eq, map, List, [], ◌∷◌, ◌++◌, length}
 use Rattle.cx_inv_run.proofs.Common.{Option, Some, None, inl, inr, ap, sym, ◌∙◌, subst, refl, arith, same_Some, and_parts, not-false}
-use Rattle.cx_inv_run.proofs.Common.{Cluster, Event, Kind, RoleId, Round, Why, Entry, Letter, Input, Take, Tick, Order, KeptRecord, Record, Msg}
-use Rattle.cx_inv_run.proofs.Common.{Lead, Collect, Offer, Replace, role, same_role, same_round, is_in, is_above, with_mark, lead_after, below}
-use Rattle.cx_inv_run.proofs.Common.{Member, HasKept, OfEveryRun, Outcome, only_word, replied, by_test, either_way, names, names_set, enough}
+use Rattle.cx_inv_run.proofs.Common.{Cluster, Event, Kind, RoleId, Round, Why, Entry, Letter, Input, Take, Tick, Order, KeptRecord, Record}
+use Rattle.cx_inv_run.proofs.Common.{Msg}
+use Rattle.cx_inv_run.proofs.Common.{Lead, Collect, Offer, Replace, role, same_role, same_round, is_in, is_above, with_mark, lead_after}
+use Rattle.cx_inv_run.proofs.Common.{below}
+use Rattle.cx_inv_run.proofs.Common.{Member, HasKept, OfEveryRun, Outcome, only_word, replied, by_test, either_way, names, names_set}
+use Rattle.cx_inv_run.proofs.Common.{enough}
 use Rattle.cx_inv_run.proofs.Common.{Replacing, Stopping, Deciding, Booting, ReplacerDurable, ReplacerVolatile, replacer_rules, is_stopping}
 use Rattle.cx_inv_run.proofs.Common.{is_deciding, is_booting, is_resting, has_halted, joined_entries, to_decide, decide, halt_counted}
 use Rattle.cx_inv_run.proofs.Common.{first_set, replacer_takes, replacer_orders, replacer_row, request, run, run_append, run_keeps}
@@ -48,7 +51,8 @@ module _ (P : List ℕ → Type 0) (c : Cluster) where
 
   -- which is known: the sets that replacers let begin are such
   abbrev BeginSuch : List KeptRecord → List Letter → (RoleId → State) → Type 0
-  BeginSuch history sent states = (x : ℕ) (v : ReplacerVolatile) → states (role kind.Replacer x) ≡ ReplacerIn v → v.mode ≡ Booting → P v.next
+  BeginSuch history sent states =
+      (x : ℕ) (v : ReplacerVolatile) → states (role kind.Replacer x) ≡ ReplacerIn v → v.mode ≡ Booting → P v.next
 
   -- THE ROWS OF A REPLACER
 
@@ -94,7 +98,8 @@ module _ (P : List ℕ → Type 0) (c : Cluster) where
 
     keeps_such : (s : List ℕ) → P s → (t : List ℕ) → known_record c d s ≡ Some (kept.Known t) → P t
     keeps_such s p t =
-        either_way (λ (o : Option Record). o ≡ Some (kept.Known t) → P t) (c.keep_sets && is_above s (known_set c d)) (Some (kept.Known s)) None
+        either_way (λ (o : Option Record). o ≡ Some (kept.Known t) → P t) (c.keep_sets && is_above s (known_set c d))
+        (Some (kept.Known s)) None
         (λ e. let r : kept.Known s ≡ kept.Known t = same_Some (kept.Known s) (kept.Known t) e in
         let q : s ≡ t = cc in
         subst P q p)
@@ -214,16 +219,8 @@ module _ (P : List ℕ → Type 0) (c : Cluster) where
 
   module _ (history : List KeptRecord) (sent : List Letter) (states : RoleId → State) (h : AreSuch history sent states) where
     opened_knows : (me : RoleId) (k : Kind) → Knows (opened_state c me history k)
-    opened_knows me kind.Client = tt
-    opened_knows me kind.Batcher = tt
-    opened_knows me kind.Leader = tt
-    opened_knows me kind.Proxy = tt
-    opened_knows me kind.Acceptor = tt
-    opened_knows me kind.Matchmaker = tt
-    opened_knows me kind.Replica = tt
-    opened_knows me kind.Unbatcher = tt
-    opened_knows me kind.Reader = tt
     opened_knows me kind.Replacer = opened_set IsFirstOr c me history (inl refl) (λ s k. inr (h.kept_sets me s k))
+    opened_knows me other = fresh_knows other
 
     -- a role's state
     with_state : (me : RoleId) (s : State) → Knows s → AreSuch history sent (set_state me s states)
@@ -316,7 +313,8 @@ module _ (P : List ℕ → Type 0) (c : Cluster) where
         let me = role kind.Replacer x in
         let row = row_is me (durable_of replacer_rules me history) v (subst (λ s. Knows s) is (h.known me)) (known x v is) sent h.told i
         (λ d e. (subst (λ y. Given sent me y) e given).1) in
-        landed history sent states h me ReplacerIn (replacer_row c me (durable_of replacer_rules me history) v i) row.tells row.keeps row.set;
+        landed history sent states h me ReplacerIn (replacer_row c me (durable_of replacer_rules me history) v i)
+        row.tells row.keeps row.set;
   }
 
 -- THE RUN

@@ -120,11 +120,14 @@ start_decided c = record {
   asks = λ d m. absurd m;
   begins = λ who t v xs m. absurd m;
   boots = λ x u e m. either_way (λ (s : State). s ≡ ReplacerIn u → IsOfChain c [] u.next) (names_role c (role kind.Replacer x))
-      (ReplacerIn (replacer_rules.fresh c replacer_rules.empty)) Down
-      (λ e. rests (subst (λ (y : ReplacerVolatile). y.mode ≡ Booting) (fresh_rests (replacer_rules.fresh c replacer_rules.empty) u e) m)) (λ e. never_up u e) e;
+      (ReplacerIn fresh) Down (λ e. rests (subst (λ (y : ReplacerVolatile). y.mode ≡ Booting) (fresh_rests fresh u e) m))
+      (λ e. never_up u e) e;
 }
   where
-    rests : {A : Type 0} → (replacer_rules.fresh c replacer_rules.empty).mode ≡ Booting → A
+    fresh : ReplacerVolatile
+    fresh = replacer_rules.fresh c replacer_rules.empty
+
+    rests : {A : Type 0} → fresh.mode ≡ Booting → A
     rests q = cc
 
 module _ (c : Cluster) (then : List Event) (e : Event) (old : AreDecided c then (run c then)) where

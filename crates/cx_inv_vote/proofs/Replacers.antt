@@ -3,10 +3,12 @@ use Rattle.std.proofs.lemmas.Slice.Eq.{bytes_eq-Decides}
 use Rattle.cx_inv_run.proofs.Common.{◌≡◌, ℕ, suc, ◌+◌, ◌<◌, ◌≤◌, Bool, true, false, not, ◌&&◌, ◌||◌, map, ◌⊎◌, List, [], ◌∷◌, ◌++◌, length}
 use Rattle.cx_inv_run.proofs.Common.{Option, Some, None, inl, inr, ap, sym, subst, ◌∙◌, refl, arith, max, ◌==◌, nat_lt, bytes_eq}
 use Rattle.cx_inv_run.proofs.Common.{if◌then◌else◌, same_Some, true≢false, and_parts, not-false, ltb-false, cond_both, Cluster, Value, Lead}
-use Rattle.cx_inv_run.proofs.Common.{Collect, Offer, Replace, Kind, RoleId, Round, Why, is_in, below, role, same_role, is_before, same_round}
+use Rattle.cx_inv_run.proofs.Common.{Collect, Offer, Replace, Kind, RoleId, Round, Why, is_in, below, role, same_role, is_before}
+use Rattle.cx_inv_run.proofs.Common.{same_round}
 use Rattle.cx_inv_run.proofs.Common.{no_round, lead_after, is_above, Entry, with_mark, Letter, letter, Input, Take, Tick, Order, KeptRecord}
 use Rattle.cx_inv_run.proofs.Common.{Msg, Halt, Replacing, Stopping, Deciding, Booting, IsProposed, IsRetiring, number_itself, enough}
-use Rattle.cx_inv_run.proofs.Common.{greatest_watermark, first_set, Member, names, names_set, Outcome, only_word, replied, by_test, either_way, HasKept, Record}
+use Rattle.cx_inv_run.proofs.Common.{greatest_watermark, first_set, Member, names, names_set, Outcome, only_word, replied, by_test}
+use Rattle.cx_inv_run.proofs.Common.{either_way, HasKept, Record}
 use Rattle.cx_inv_run.proofs.Common.{ReplacerDurable, ReplacerVolatile, replacer_rules, is_stopping, is_deciding, is_booting, is_resting}
 use Rattle.cx_inv_run.proofs.Common.{has_halted, joined_entries, to_decide, decide, halt_counted, next_counted, replacer_takes}
 use Rattle.cx_inv_run.proofs.Common.{replacer_orders, replacer_row, Kinds, Lands, State, ReplacerIn, entry_by, durable_of, Given}
@@ -20,7 +22,8 @@ use Rattle.cx_letter.specs.declared.kept.Record.TheVariants as kept
 use Rattle.cx_letter.specs.declared.message.Msg.TheVariants as msg
 use Rattle.cx_model.specs.declared.states.Replacing.TheVariants.{Idle}
 use Rattle.cx_model.specs.Replacer.{answers_of, latest, next_of, stop_a_to, next_a_to, boot_a_to, sets_to, others, sets_to_all, begin_in}
-use Rattle.cx_model.specs.Replacer.{known_record, known_set, replace_row, stop_b_row, next_b_row, boot_b_row, with_seen, stop_nack_row, sets_row, tick_in}
+use Rattle.cx_model.specs.Replacer.{known_record, known_set, replace_row, stop_b_row, next_b_row, boot_b_row, with_seen, stop_nack_row}
+use Rattle.cx_model.specs.Replacer.{sets_row, tick_in}
 use Rattle.cx_inv_match.specs.Words.{how_many, HasNext, IsKnown, IsNth, IsDecided, IsNextSet, IsBoot, IsHalt}
 use Rattle.cx_inv_match.specs.Facts.{Facts, Says, InState, InWork, IsStopping, IsDeciding, IsBooting, AreOnce, halted_by}
 use Rattle.cx_inv_match.proofs.Chains.{nth_meet}
@@ -208,7 +211,8 @@ module _ (c : Cluster) (history : List KeptRecord) (sent : List Letter) (states 
   -- it knows another set, and may keep it
   rests_kept : (w : Why) (v : ReplacerVolatile) → v.mode ≡ Idle → (s : List ℕ) → IsKnown c history s → (ds : List Letter)
       → IsKnown c history v.set → QuietSends ds
-      → ((longer : List KeptRecord) → IsKnown c longer s → (wider : List Letter) (d : Letter) → Member d ds → Says c longer wider d.from d.msg)
+      → ((longer : List KeptRecord) → IsKnown c longer s → (wider : List Letter) (d : Letter) → Member d ds
+      → Says c longer wider d.from d.msg)
       → Fine (record { why = w; kept = known_record c dur s; volatile = v; sends = ds })
   rests_kept w v is s known ds set quiet says =
       either_way (λ (o : Option Record). Fine (record { why = w; kept = o; volatile = v; sends = ds }))

@@ -2,7 +2,8 @@
 use Rattle.cx_inv_run.proofs.Common.{◌≡◌, ℕ, zero, suc, ◌⊎◌, List, [], ◌∷◌, ◌++◌, map, Some, inl, inr, sym, subst, refl, slice_get}
 use Rattle.cx_inv_run.proofs.Common.{none-some, same_Some, Cluster, Value, Event, Kind, RoleId, Round, below, role, no_round, Letter}
 use Rattle.cx_inv_run.proofs.Common.{letter, KeptRecord, acceptor_rules, leader_rules, matchmaker_rules, Member, replacer_rules, request}
-use Rattle.cx_inv_run.proofs.Common.{State, Down, HasKept, fresh_state, opened_set, opened_state, set_state, set_running, Member-one, before-both, least}
+use Rattle.cx_inv_run.proofs.Common.{State, Down, HasKept, fresh_state, opened_set, opened_state, set_state, set_running, Member-one}
+use Rattle.cx_inv_run.proofs.Common.{before-both, least}
 use Rattle.cx_base.specs.declared.event.Event.TheVariants as event
 use Rattle.cx_base.specs.declared.role.Kind.TheVariants as kind
 use Rattle.cx_letter.specs.declared.kept.Record.TheVariants as kept
@@ -49,18 +50,10 @@ fresh_holds c history sent me kind.Reader =
     (record { requests = λ r m. absurd m; batch = λ b e. absurd (none-some b e) }, λ b e f a k. absurd (none-some b e), (0, refl))
 fresh_holds c history sent me kind.Replacer = ((0, refl), tt)
 
-pub opened_holds : (c : Cluster) (history : List KeptRecord) (sent : List Letter) (me : RoleId) (k : Kind)
+opened_holds : (c : Cluster) (history : List KeptRecord) (sent : List Letter) (me : RoleId) (k : Kind)
     → ((t : List ℕ) → HasKept history me (kept.Known t) → IsKnown c history t) → InState c history sent me (opened_state c me history k)
-opened_holds c history sent me kind.Client known = fresh_holds c history sent me kind.Client
-opened_holds c history sent me kind.Batcher known = fresh_holds c history sent me kind.Batcher
-opened_holds c history sent me kind.Leader known = fresh_holds c history sent me kind.Leader
-opened_holds c history sent me kind.Proxy known = fresh_holds c history sent me kind.Proxy
-opened_holds c history sent me kind.Acceptor known = fresh_holds c history sent me kind.Acceptor
-opened_holds c history sent me kind.Matchmaker known = fresh_holds c history sent me kind.Matchmaker
-opened_holds c history sent me kind.Replica known = fresh_holds c history sent me kind.Replica
-opened_holds c history sent me kind.Unbatcher known = fresh_holds c history sent me kind.Unbatcher
-opened_holds c history sent me kind.Reader known = fresh_holds c history sent me kind.Reader
 opened_holds c history sent me kind.Replacer known = (opened_set (λ s. IsKnown c history s) c me history (0, refl) known, tt)
+opened_holds c history sent me other known = fresh_holds c history sent me other
 
 -- it doesn't matter in which state it was before
 pub wake : (c : Cluster) (history : List KeptRecord) (sent : List Letter) (states : RoleId → State) (me : RoleId)
