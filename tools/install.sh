@@ -17,6 +17,12 @@ usage() {
     fail "use: install.sh [--replace | --uninstall] PREFIX" 2
 }
 
+check_letters() {
+    case $1 in
+        *[!A-Za-z0-9/._+-]*) fail "$1 has a letter that a unit can't name: only A-Z a-z 0-9 / . _ + - are taken" 2 ;;
+    esac
+}
+
 # Whether this machine can run it.
 check_runs() {
     "$here/out/compax" gen 7 1 2>&1 | grep -q '^events 1$' || fail "the program doesn't run here: README says what it needs"
@@ -102,13 +108,15 @@ esac
 [ $# -eq 1 ] || usage
 case $1 in
     ""|-*) usage ;;
-    *[!A-Za-z0-9/._+-]*) fail "PREFIX has a letter that a unit can't name: only A-Z a-z 0-9 / . _ + - are taken" 2 ;;
+    /*) check_letters "$1" ;;
+    *) check_letters "$PWD/$1" ;;
 esac
 LC_ALL=C
 export LC_ALL
 here=$(cd "$(dirname "$0")" && pwd -P)
 [ "$mode" = --uninstall ] || mkdir -p "$1"
 prefix=$(cd "$1" && pwd -P)
+check_letters "$prefix"
 home="$prefix/lib/compax"
 list="$home/INSTALLED"
 if [ "$mode" = --uninstall ]; then uninstall; else install; fi

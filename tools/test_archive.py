@@ -21,7 +21,7 @@ from manual import completion, page, roff
 from trials import LONGEST, Trial, run, tool_of, until
 
 INPUT, RUNNING = TOP / "docs/INPUT.md", TOP / "docs/RUNNING.md"
-OF_A_CLONE = {"tools/build", "tools/kills"}             # what docs/RUNNING.md names and the archive lacks: they build, or try a cluster of their own
+OF_A_CLONE = {"tools/archive", "tools/build", "tools/kills"}    # what docs/RUNNING.md names for those who build, or try the project itself
 TOOLS = [command for command in COMMANDS if command is not PROGRAM]
 ENDS_WELL = "#!/bin/sh\n[ \"$*\" = \"gen 7 1\" ] && echo events 1\n"
 PLAIN = {"PATH": "/usr/bin:/bin", "LC_ALL": "C"}        # an environment that names no kit and no program
@@ -143,7 +143,8 @@ class ManualTest(unittest.TestCase):
         with tempfile.TemporaryDirectory() as name:
             file = pathlib.Path(name, "tools/none")
             file.parent.mkdir()
-            file.write_text('"""Says.\n\n    tools/none get KEY    gives\n\nIt asks tools/kv,\nand\n\n    a b    one\n           two\n\n    c\n      d\n"""\n')
+            file.write_text('"""Says.\n\n    tools/none get KEY    gives\n\nIt asks tools/kv,\nand\n\n'
+                            '    a b    one\n           two\n\n    c\n      d\n"""\n')
             text = page(command, pathlib.Path(name), "1.0", "2026-01-02")
         self.assertEqual(text.splitlines()[:6], ['.TH COMPAX-HASH 1 2026-01-02 "compax 1.0"', ".SH NAME", "compax-hash \\- says", ".SH SYNOPSIS",
                                                  ".B compax\\-hash get [\\-\\-far N] KEY", ".SH COMMANDS"])
@@ -156,7 +157,8 @@ class ManualTest(unittest.TestCase):
     def test_all_pages_are_read(self) -> None:
         """As the system reads them, and nothing of them is warned of."""
         for command in COMMANDS:
-            ran = subprocess.run(["groff", "-man", "-ww", "-Tutf8", "-P-cbou"], input=page(command, TOP, "1.0", "2026-01-02"), capture_output=True, text=True)
+            text = page(command, TOP, "1.0", "2026-01-02")
+            ran = subprocess.run(["groff", "-man", "-ww", "-Tutf8", "-P-cbou"], input=text, capture_output=True, text=True)
             self.assertEqual((ran.returncode, ran.stderr), (0, ""), command.name)
             for usage in command.usages:
                 self.assertIn(f" {usage} ", f" {' '.join(ran.stdout.split())} ")
@@ -174,11 +176,13 @@ class CompletionTest(unittest.TestCase):
         return ran.stdout.split()
 
     def test_what_is_offered(self) -> None:
-        for line, offered in (("compax ", "replay gen node"), ("compax n", "node"), ("compax node --t", "--turns --tend"), ("compax replay -", ""),
-                              ("compax node --turns --t", ""), ("compax-cluster ", "new up status down kill"), ("compax-cluster up c.toml --", "--upgrade --foreground"),
-                              ("compax-cluster up ", ""), ("compax-cluster down -", ""), ("compax-kv --c", "--cluster --client"), ("compax-kv --cluster ", ""),
-                              ("compax-kv --cluster get ", "put app del get"), ("compax-kv --cluster get get -", "--session"),
-                              ("compax-kv --cluster c.toml g", "get"), ("compax-linear -", "--most"), ("compax-hash ", ""), ("compax-hash -", "")):
+        for line, offered in (
+                ("compax ", "replay gen node"), ("compax n", "node"), ("compax node --t", "--turns --tend"), ("compax replay -", ""),
+                ("compax node --turns --t", ""), ("compax-cluster ", "new up status down kill"),
+                ("compax-cluster up c.toml --", "--upgrade --foreground"), ("compax-cluster up ", ""), ("compax-cluster down -", ""),
+                ("compax-kv --c", "--cluster --client"), ("compax-kv --cluster ", ""), ("compax-kv --cluster get ", "put app del get"),
+                ("compax-kv --cluster get get -", "--session"), ("compax-kv --cluster c.toml g", "get"), ("compax-linear -", "--most"),
+                ("compax-hash ", ""), ("compax-hash -", "")):
             with self.subTest(line):
                 self.assertEqual(self.completed(line), offered.split())
 
@@ -460,8 +464,13 @@ class InstallTest(Packing):
     def test_bad_words(self) -> None:
         for words in ([], ["--replace"], ["--other", self.prefix], [self.prefix, "more"], [""], ["--uninstall"]):
             self.refuses_to("use: install.sh", *words, status=2)
-        self.refuses_to("PREFIX has a letter that a unit can't name", f"{self.prefix} a", status=2)
-        self.refuses_to("PREFIX has a letter that a unit can't name", f"{self.prefix}%h", status=2)
+        for prefix in (f"{self.prefix} a", f"{self.prefix}%h", f"{self.prefix}/ä"):
+            self.refuses_to(f"{prefix} has a letter that a unit can't name", prefix, status=2)
+            self.assertFalse(pathlib.Path(prefix).exists())
+        real = self.room / "a real%one"
+        real.mkdir()
+        self.prefix.symlink_to(real)
+        self.refuses_to(f"{real} has a letter that a unit can't name", self.prefix, status=2)
 
 
 class InstalledTest(Trial):

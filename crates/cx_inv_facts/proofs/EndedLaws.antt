@@ -5,7 +5,8 @@ use Rattle.cx_inv_run.proofs.Common.{KeptRecord, Record, Msg, Stage, Off, Inform
 use Rattle.cx_inv_run.proofs.Common.{IsProposed, IsRetiring, LeaderDurable, LeaderVolatile, leader_rules, leader_row, leader_after}
 use Rattle.cx_inv_run.proofs.Common.{round_of, matchmaker_rules, Member, Outcome, HasKept, IsConfig, reader_rules, replacer_rules}
 use Rattle.cx_inv_run.proofs.Common.{replica_rules, request, IsSender, IsKept, OfKind, Lands, Laws, State, Down, BatcherIn, LeaderIn}
-use Rattle.cx_inv_run.proofs.Common.{ProxyIn, ReplicaIn, ReaderIn, ReplacerIn, plain, fresh_state, opened_state, set_state, entry_by, snap_by}
+use Rattle.cx_inv_run.proofs.Common.{ProxyIn, ReplicaIn, ReaderIn, ReplacerIn, plain, fresh_state, opened_state, set_state, entry_by}
+use Rattle.cx_inv_run.proofs.Common.{snap_by}
 use Rattle.cx_inv_run.proofs.Common.{with_record, durable_of, Given, durable_own, durable_other, set_running, kept_longer, Member-first}
 use Rattle.cx_inv_run.proofs.Common.{Member-one, before-itself, snap_same, batcher_kinds, proxy_kinds, acceptor_kinds, matchmaker_kinds}
 use Rattle.cx_inv_run.proofs.Common.{acceptor_snap_same, reader_snap_same}
