@@ -99,7 +99,9 @@ list_laws q c = record {
       states facts (role kind.Leader l) (LeaderIn v) e) i (heard q history sent facts.says (role kind.Leader l) i given));
   proxy = λ history sent states p v i known facts e given.
       listed_lands q history sent states facts (role kind.Proxy p) ProxyIn _
-      (proxy_listed q c history (role kind.Proxy p) refl v (running_in q history sent states facts (role kind.Proxy p) (ProxyIn v) e) i (heard q history sent facts.says (role kind.Proxy p) i given));
+      (proxy_listed q c history (role kind.Proxy p) refl v
+      (running_in q history sent states facts (role kind.Proxy p) (ProxyIn v) e) i
+      (heard q history sent facts.says (role kind.Proxy p) i given));
   acceptor = λ history sent states a i known facts e given.
       listed_lands q history sent states facts (role kind.Acceptor a) plain _
       (acceptor_listed q c history (role kind.Acceptor a) (durable_of acceptor_rules (role kind.Acceptor a) history)
