@@ -63,8 +63,8 @@ class ProgramTableTest(unittest.TestCase):
     """The table and docs/INPUT.md have the same words, options and statuses of the program."""
 
     def setUp(self) -> None:
-        rows = re.findall(r"^\| `(compax [^`]*)` \| (.*) \|$", section(INPUT, "The words of the command"), re.MULTILINE)
-        self.rows = dict(rows)
+        rows = re.findall(r"^\| `compax.*$", section(INPUT, "The words of the command"), re.MULTILINE)
+        self.rows = dict(re.fullmatch(r"\| `(compax [^`]*)` \| (.*) \|", row).groups() for row in rows)
         self.assertEqual(len(rows), len(self.rows))
 
     def test_words(self) -> None:
