@@ -4,6 +4,7 @@ $COMPAX may name the program. What is random has a seed, and times are bounds fo
 """
 
 import concurrent.futures
+import functools
 import itertools
 import json
 import os
@@ -518,7 +519,9 @@ class SupervisorTest(ClusterTrial):
         """The cluster, started by a tool that stays."""
         self.addCleanup(run, "cluster", "down", self.file)
         words = [TOOLS / "cluster", "up", "--foreground", self.file]
-        tool = subprocess.Popen(words, stdout=subprocess.PIPE, stderr=subprocess.PIPE, text=True)
+        # which shells have what they start in the background ignore
+        takes_interrupts = functools.partial(signal.signal, signal.SIGINT, signal.SIG_DFL)
+        tool = subprocess.Popen(words, stdout=subprocess.PIPE, stderr=subprocess.PIPE, text=True, preexec_fn=takes_interrupts)
         self.addCleanup(tool.communicate)
         self.addCleanup(tool.kill)
         assert tool.stdout
