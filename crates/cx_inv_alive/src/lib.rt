@@ -6,9 +6,11 @@
 //! submitted.
 //!
 //! Room is left while f + 1 of the first set of matchmakers haven't stopped and have fewer than 16 rounds
-//! recorded now, or, where the cluster has one entry a grid, one whose grid is acceptor 0 alone; a round is left above all in the stores, and a slot above all that are held or were voted
-//! in; recorded grids have rows, as the program's type of a grid says; and neither a replica nor a vote
-//! knows that the client is done with the number.
+//! recorded now, or, where the cluster has one entry a grid, one whose grid is acceptor 0 alone; a round
+//! is left above all in the stores, and a slot above all that are held or were voted in; recorded grids
+//! have rows, which they have where those of all orders have, as the program's type of a grid says
+//! (`grids_come_from_orders`); and neither a replica nor a vote knows that the client is done with the
+//! number.
 //!
 //! The further events stop and open roles, let them tick, deliver datagrams, and order leaders to lead
 //! over real grids (`may_help`); no client asks anew. So nothing that only runs matters, and what a restart
