@@ -3,9 +3,9 @@ use Rattle.cx_inv_run.proofs.Common.{◌≡◌, ℕ, true, false, List, [], ◌�
 use Rattle.cx_inv_run.proofs.Common.{Cluster, Event, Kind, RoleId, Round, Shape, role, same_role, same_round, Entry, Letter, Input}
 use Rattle.cx_inv_run.proofs.Common.{KeptRecord, Record, HasRound, LeaderDurable, LeaderVolatile, leader_rules, leader_row, round_of, entry}
 use Rattle.cx_inv_run.proofs.Common.{Member, Outcome, HasKept, IsConfig, ProxyVolatile, proxy_row, request, World, run, records_of, Lands}
-use Rattle.cx_inv_run.proofs.Common.{Laws, State, Down, BatcherIn, LeaderIn, ProxyIn, ReplicaIn, ReaderIn, ReplacerIn, plain, fresh_state, opened_state}
-use Rattle.cx_inv_run.proofs.Common.{set_state, snap_by, with_record, durable_of, Given, HoldsIn, durable_by_time, durable_other}
-use Rattle.cx_inv_run.proofs.Common.{set_running, kinds_hold, Member-first, any-Member, same_round-true, snap_same, always}
+use Rattle.cx_inv_run.proofs.Common.{Laws, State, Down, BatcherIn, LeaderIn, ProxyIn, ReplicaIn, ReaderIn, ReplacerIn, plain, fresh_state}
+use Rattle.cx_inv_run.proofs.Common.{opened_state, set_state, snap_by, with_record, durable_of, Given, HoldsIn, durable_by_time}
+use Rattle.cx_inv_run.proofs.Common.{durable_other, set_running, kinds_hold, Member-first, any-Member, same_round-true, snap_same, always}
 use Rattle.cx_inv_run.proofs.Common.{acceptor_snap_same, reader_snap_same}
 use Rattle.cx_base.specs.declared.role.Kind.TheVariants as kind
 use Rattle.cx_letter.specs.declared.kept.Record.TheVariants as kept
@@ -147,7 +147,8 @@ module _ (c : Cluster) where
     ];
     stop = λ history sent states me h. noted_after history sent sent (λ d m. m) states h me None Down tt;
     wake = λ history sent states me h down.
-        noted_after history sent sent (λ d m. m) states h me None (opened_state c me history me.kind) (opened_noted history sent me me.kind);
+        noted_after history sent sent (λ d m. m) states h me None (opened_state c me history me.kind)
+        (opened_noted history sent me me.kind);
     ask = λ history sent states n e allowed known h me.
         state_more sent (sent ++ request n e) (λ d m. Member-first d sent (request n e) m) me history history refl (states me) (h me);
     batcher = λ history sent states b v j known h at given. landed history sent states h (role kind.Batcher b) BatcherIn _ tt;

@@ -1,7 +1,8 @@
 -- Each step keeps the facts, so every role can be opened again from its records, in every run.
 use Rattle.cx_inv_run.proofs.Common.{◌≡◌, ◌⊎◌, ℕ, ◌<◌, List, sym, subst, refl, inl, inr, arith, Cluster, Event, Kind, role, LeaderVolatile}
 use Rattle.cx_inv_run.proofs.Common.{OfEveryRun, ReplacerVolatile, request, run, Laws, State, Down, BatcherIn, LeaderIn, ReplacerIn, plain}
-use Rattle.cx_inv_run.proofs.Common.{KeptRecord, RoleId, fresh_state, opened_state, HoldsIn, batcher_kinds, unbatcher_kinds, Ties, always, ties_hold}
+use Rattle.cx_inv_run.proofs.Common.{KeptRecord, RoleId, fresh_state, opened_state, HoldsIn, batcher_kinds, unbatcher_kinds, Ties, always}
+use Rattle.cx_inv_run.proofs.Common.{ties_hold}
 use Rattle.cx_inv_match.specs.Prelude.{Property, Facts}
 use Rattle.cx_base.specs.declared.event.Event.TheVariants as event
 use Rattle.cx_base.specs.declared.role.Kind.TheVariants as kind
