@@ -6,11 +6,10 @@ use Rattle.cx_inv_run.proofs.Common.{IsProposed, IsRetiring, LeaderDurable, Lead
 use Rattle.cx_inv_run.proofs.Common.{round_of, matchmaker_rules, Member, Outcome, HasKept, IsConfig, reader_rules, replacer_rules}
 use Rattle.cx_inv_run.proofs.Common.{replica_rules, request, IsSender, IsKept, OfKind, Lands, Laws, State, Down, BatcherIn, LeaderIn}
 use Rattle.cx_inv_run.proofs.Common.{ProxyIn, ReplicaIn, ReaderIn, ReplacerIn, plain, fresh_state, opened_state, set_state, entry_by}
-use Rattle.cx_inv_run.proofs.Common.{snap_by}
-use Rattle.cx_inv_run.proofs.Common.{with_record, durable_of, Given, durable_own, durable_other, set_running, kept_longer, Member-first}
-use Rattle.cx_inv_run.proofs.Common.{Member-one, before-itself, snap_same, batcher_kinds, proxy_kinds, acceptor_kinds, matchmaker_kinds}
-use Rattle.cx_inv_run.proofs.Common.{acceptor_snap_same, reader_snap_same}
-use Rattle.cx_inv_run.proofs.Common.{replica_kinds, unbatcher_kinds, reader_kinds, leader_kinds, replacer_kinds}
+use Rattle.cx_inv_run.proofs.Common.{snap_by, with_record, durable_of, Given, durable_own, durable_other, set_running, kept_longer}
+use Rattle.cx_inv_run.proofs.Common.{Member-first, Member-one, before-itself, snap_same, batcher_kinds, proxy_kinds, acceptor_kinds}
+use Rattle.cx_inv_run.proofs.Common.{matchmaker_kinds, acceptor_snap_same, reader_snap_same, replica_kinds, unbatcher_kinds, reader_kinds}
+use Rattle.cx_inv_run.proofs.Common.{leader_kinds, replacer_kinds}
 use Rattle.cx_inv_match.specs.Prelude.{InState, IsChosenIn}
 use Rattle.cx_base.specs.declared.event.Event.TheVariants as event
 use Rattle.cx_base.specs.declared.role.Kind.TheVariants as kind

@@ -4,9 +4,8 @@ use Rattle.cx_inv_run.proofs.Common.{Cluster, Event, Kind, RoleId, Round, Shape,
 use Rattle.cx_inv_run.proofs.Common.{KeptRecord, Record, HasRound, LeaderDurable, LeaderVolatile, leader_rules, leader_row, round_of, entry}
 use Rattle.cx_inv_run.proofs.Common.{Member, Outcome, HasKept, IsConfig, ProxyVolatile, proxy_row, request, World, run, records_of, Lands}
 use Rattle.cx_inv_run.proofs.Common.{Laws, State, Down, BatcherIn, LeaderIn, ProxyIn, ReplicaIn, ReaderIn, ReplacerIn, plain, fresh_state}
-use Rattle.cx_inv_run.proofs.Common.{opened_state}
-use Rattle.cx_inv_run.proofs.Common.{set_state, snap_by, with_record, durable_of, Given, HoldsIn, durable_by_time, durable_other}
-use Rattle.cx_inv_run.proofs.Common.{set_running, kinds_hold, Member-first, any-Member, same_round-true, snap_same, always}
+use Rattle.cx_inv_run.proofs.Common.{opened_state, set_state, snap_by, with_record, durable_of, Given, HoldsIn, durable_by_time}
+use Rattle.cx_inv_run.proofs.Common.{durable_other, set_running, kinds_hold, Member-first, any-Member, same_round-true, snap_same, always}
 use Rattle.cx_inv_run.proofs.Common.{acceptor_snap_same, reader_snap_same}
 use Rattle.cx_base.specs.declared.role.Kind.TheVariants as kind
 use Rattle.cx_letter.specs.declared.kept.Record.TheVariants as kept

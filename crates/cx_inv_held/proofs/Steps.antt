@@ -4,8 +4,7 @@ use Rattle.cx_inv_run.proofs.Common.{ties_hold, ◌≡◌, ◌⊎◌, ℕ, map, 
 use Rattle.cx_inv_run.proofs.Common.{inr, arith, Cluster, Event, Kind, RoleId, below, role, KeptRecord, acceptor_rules, leader_rules}
 use Rattle.cx_inv_run.proofs.Common.{matchmaker_rules, reader_rules, replacer_rules, request, run, Laws, State, Down, BatcherIn, LeaderIn}
 use Rattle.cx_inv_run.proofs.Common.{ProxyIn, ReplicaIn, ReaderIn, ReplacerIn, plain, fresh_state, opened_state, durable_of, HoldsIn}
-use Rattle.cx_inv_run.proofs.Common.{length-below}
-use Rattle.cx_inv_run.proofs.Common.{batcher_kinds, matchmaker_kinds, unbatcher_kinds, reader_kinds, replacer_kinds}
+use Rattle.cx_inv_run.proofs.Common.{length-below, batcher_kinds, matchmaker_kinds, unbatcher_kinds, reader_kinds, replacer_kinds}
 use Rattle.cx_model.specs.Promises.{ForgottenIsKept}
 use Rattle.cx_inv_run.proofs.TieLaws.{tied_in}
 use Rattle.cx_inv_held.proofs.Keep.{low_snap, AllSayLow, none_low, one_low, both_low, low_with, low_lands}

@@ -11,11 +11,10 @@ use Rattle.cx_inv_run.proofs.Common.{chosen_row, fetch_found, fetch_row, fetched
 use Rattle.cx_inv_run.proofs.Common.{replica_row, replica_rules, replica_takes, same_read, folded, list_after, list_of, log_of, run}
 use Rattle.cx_inv_run.proofs.Common.{IsKeeper, IsKept, OfKind, Lands, Laws, State, Down, BatcherIn, LeaderIn, ProxyIn, ReplicaIn, ReaderIn}
 use Rattle.cx_inv_run.proofs.Common.{ReplacerIn, plain, fresh_state, opened_state, set_state, entry_by, snap_by, with_record, durable_of}
-use Rattle.cx_inv_run.proofs.Common.{log_in, Given}
-use Rattle.cx_inv_run.proofs.Common.{HoldsIn, Ties, by_role, durable_by_time, durable_else, durable_other, durable_own, log_by_time}
-use Rattle.cx_inv_run.proofs.Common.{log_other, log_own, log_snap, set_running, acceptor_kinds, batcher_kinds, matchmaker_kinds}
-use Rattle.cx_inv_run.proofs.Common.{proxy_kinds, reader_kinds, replica_kinds, unbatcher_kinds, leader_kinds, replacer_kinds, always}
-use Rattle.cx_inv_run.proofs.Common.{ties_hold, held_is}
+use Rattle.cx_inv_run.proofs.Common.{log_in, Given, HoldsIn, Ties, by_role, durable_by_time, durable_else, durable_other, durable_own}
+use Rattle.cx_inv_run.proofs.Common.{log_by_time, log_other, log_own, log_snap, set_running, acceptor_kinds, batcher_kinds}
+use Rattle.cx_inv_run.proofs.Common.{matchmaker_kinds, proxy_kinds, reader_kinds, replica_kinds, unbatcher_kinds, leader_kinds}
+use Rattle.cx_inv_run.proofs.Common.{replacer_kinds, always, ties_hold, held_is}
 use Rattle.cx_base.specs.declared.role.Kind.TheVariants as kind
 use Rattle.cx_base.specs.Noted.{Table}
 use Rattle.cx_letter.specs.declared.input.Input.TheVariants as input

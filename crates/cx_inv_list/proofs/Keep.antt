@@ -1,15 +1,14 @@
 -- What is said of the list stays so when a record is kept; and what a row gives lands.
 use Rattle.cx_inv_run.proofs.Common.{◌≡◌, ◌⊎◌, ℕ, true, false, List, [], ◌∷◌, ◌++◌, take, length, inl, inr, ap, sym, subst, ◌∙◌, ⊎_elim}
 use Rattle.cx_inv_run.proofs.Common.{arith, append-nil, slice_get, Option, None, Some, cases_Bool, length-append, take-append-le, Reply}
-use Rattle.cx_inv_run.proofs.Common.{Value, RoleId, fold}
-use Rattle.cx_inv_run.proofs.Common.{text_at, role, same_role, Token, Letter, KeptRecord, Record, Msg, IsRight, Member, Begins, Outcome}
-use Rattle.cx_inv_run.proofs.Common.{make_token, values_in, Lands, State, Down, set_state, entry_by, snap_by, with_record, log_in}
-use Rattle.cx_inv_run.proofs.Common.{log_other, log_own, log_snap, same_role-true, set_running, Member-cases}
+use Rattle.cx_inv_run.proofs.Common.{Value, RoleId, fold, text_at, role, same_role, Token, Letter, KeptRecord, Record, Msg, IsRight, Member}
+use Rattle.cx_inv_run.proofs.Common.{Begins, Outcome, make_token, values_in, Lands, State, Down, set_state, entry_by, snap_by, with_record}
+use Rattle.cx_inv_run.proofs.Common.{log_in, log_other, log_own, log_snap, same_role-true, set_running, Member-cases}
 use Rattle.cx_base.specs.declared.role.Kind.TheVariants as kind
 use Rattle.cx_letter.specs.declared.input.Written.TheVariants as written
 use Rattle.cx_letter.specs.declared.message.Msg.TheVariants as msg
-use Rattle.cx_inv_list.specs.Told.{RequestPredicates, IsAsKept, IsRightByReplica, IsAnswerToRead, ListSays, ListKeeps, InList}
-use Rattle.cx_inv_list.specs.Told.{ListFacts, ListKeepsRecord, IsListed}
+use Rattle.cx_inv_list.specs.Told.{RequestPredicates, IsAsKept, IsRightByReplica, IsAnswerToRead, ListSays, ListKeeps, InList, ListFacts}
+use Rattle.cx_inv_list.specs.Told.{ListKeepsRecord, IsListed}
 use Rattle.cx_inv_list.proofs.Right.{get_front, grown_right}
 
 -- a replica's values only grow

@@ -5,10 +5,9 @@ use Rattle.cx_inv_run.proofs.Common.{list_any, length-append, take_all, Cluster,
 use Rattle.cx_inv_run.proofs.Common.{ready_values, role, same_role, is_in, same_round, is_above, Asking, Entry, Letter, Input, Take, Tick}
 use Rattle.cx_inv_run.proofs.Common.{Order, KeptRecord, Msg, Deferred, IsRight, is_counted, greatest_watermark, is_member_of, members_of}
 use Rattle.cx_inv_run.proofs.Common.{live_entries, rows_whole, Member, names, Outcome, by_test, either_way, Asked, ReaderDurable}
-use Rattle.cx_inv_run.proofs.Common.{ReaderVolatile}
-use Rattle.cx_inv_run.proofs.Common.{make_token, IsTied, Machine, ReplicaDurable, ReplicaVolatile, held, machine_from, machine_of}
-use Rattle.cx_inv_run.proofs.Common.{replica_after, replica_rules, same_read, ReplicaIn, ReaderIn, entry_by, durable_of, log_in, log_own}
-use Rattle.cx_inv_run.proofs.Common.{Member-both, Member-one, Member-filter, held_is}
+use Rattle.cx_inv_run.proofs.Common.{ReaderVolatile, make_token, IsTied, Machine, ReplicaDurable, ReplicaVolatile, held, machine_from}
+use Rattle.cx_inv_run.proofs.Common.{machine_of, replica_after, replica_rules, same_read, ReplicaIn, ReaderIn, entry_by, durable_of, log_in}
+use Rattle.cx_inv_run.proofs.Common.{log_own, Member-both, Member-one, Member-filter, held_is}
 use Rattle.cx_base.specs.declared.role.Kind.TheVariants as kind
 use Rattle.cx_letter.specs.declared.kept.Record.TheVariants as kept
 use Rattle.cx_letter.specs.declared.message.Msg.TheVariants as msg

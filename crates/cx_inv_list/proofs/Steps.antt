@@ -4,8 +4,7 @@ use Rattle.cx_inv_run.proofs.Common.{Kind, RoleId, Why, role, Letter, KeptRecord
 use Rattle.cx_inv_run.proofs.Common.{WasRead, WasSession, reader_rules, make_token, replacer_rules, request, token_of, World, change}
 use Rattle.cx_inv_run.proofs.Common.{run_from, run, Laws, AllAllowed, State, Down, BatcherIn, LeaderIn, ProxyIn, ReplicaIn, ReaderIn}
 use Rattle.cx_inv_run.proofs.Common.{ReplacerIn, plain, fresh_state, opened_state, set_state, durable_of, HoldsIn, Ties, Member-first}
-use Rattle.cx_inv_run.proofs.Common.{Member-second}
-use Rattle.cx_inv_run.proofs.Common.{Member-cases, matchmaker_kinds, replacer_kinds, along, run_keeps, ties_hold}
+use Rattle.cx_inv_run.proofs.Common.{Member-second, Member-cases, matchmaker_kinds, replacer_kinds, along, run_keeps, ties_hold}
 use Rattle.cx_base.specs.declared.event.Event.TheVariants as event
 use Rattle.cx_base.specs.declared.role.Kind.TheVariants as kind
 use Rattle.cx_base.specs.declared.why.Why.TheVariants as why
@@ -99,8 +98,7 @@ list_laws q c = record {
       states facts (role kind.Leader l) (LeaderIn v) e) i (heard q history sent facts.says (role kind.Leader l) i given));
   proxy = λ history sent states p v i known facts e given.
       listed_lands q history sent states facts (role kind.Proxy p) ProxyIn _
-      (proxy_listed q c history (role kind.Proxy p) refl v
-      (running_in q history sent states facts (role kind.Proxy p) (ProxyIn v) e) i
+      (proxy_listed q c history (role kind.Proxy p) refl v (running_in q history sent states facts (role kind.Proxy p) (ProxyIn v) e) i
       (heard q history sent facts.says (role kind.Proxy p) i given));
   acceptor = λ history sent states a i known facts e given.
       listed_lands q history sent states facts (role kind.Acceptor a) plain _

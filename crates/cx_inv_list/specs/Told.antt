@@ -2,9 +2,8 @@
 -- that a replica kept, each key in them is that of its request, and each value that a replica tells is the one that it kept.
 use Rattle.std.specs.Prelude.{◌≡◌, ◌⊎◌, ℕ, ◌≤◌, take, List, length, slice_get, Option, None, Some}
 use Rattle.cx_model.specs.Prelude.{Answered, Command, Placed, Reply, Value, RoleId, commands_of, fold, text_at, Token, Vote, Letter}
-use Rattle.cx_model.specs.Prelude.{KeptRecord}
-use Rattle.cx_model.specs.Prelude.{Written, Record, Msg, IsRight, Member, Outcome, Asked, Batch, make_token, State, BatcherIn, LeaderIn}
-use Rattle.cx_model.specs.Prelude.{ProxyIn, ReplicaIn, ReaderIn}
+use Rattle.cx_model.specs.Prelude.{KeptRecord, Written, Record, Msg, IsRight, Member, Outcome, Asked, Batch, make_token, State, BatcherIn}
+use Rattle.cx_model.specs.Prelude.{LeaderIn, ProxyIn, ReplicaIn, ReaderIn}
 use Rattle.cx_inv_match.specs.Prelude.{Deferred, Pending, Promised, with_record, log_in}
 use Rattle.cx_base.specs.declared.role.Kind.TheVariants as kind
 use Rattle.cx_letter.specs.declared.input.Written.TheVariants as written

@@ -2,15 +2,13 @@
 use Rattle.std.proofs.lemmas.Slice.Eq.{bytes_eq-Decides}
 use Rattle.cx_inv_run.proofs.Common.{◌≡◌, ℕ, ◌+◌, ◌<◌, ◌==◌, ◌&&◌, ◌||◌, Bool, true, false, max, not, bytes_eq, nat_lt, List, length}
 use Rattle.cx_inv_run.proofs.Common.{Option, None, Some, if◌then◌else◌, refl, subst, arith, and_from, and_parts, not-false, nat_tests}
-use Rattle.cx_inv_run.proofs.Common.{same_Some, Cluster, Lead}
-use Rattle.cx_inv_run.proofs.Common.{Collect, Replace, RoleId, Round, is_in, role, same_role, is_before, lead_after, same_round, is_above}
-use Rattle.cx_inv_run.proofs.Common.{Entry, with_mark, Letter, Input, KeptRecord, Msg, Replacing, Stopping, Deciding, Booting}
-use Rattle.cx_inv_run.proofs.Common.{number_itself, enough, first_set, names, names_body, names_role, names_set, Outcome, by_test}
-use Rattle.cx_inv_run.proofs.Common.{either_way}
-use Rattle.cx_inv_run.proofs.Common.{ReplacerDurable, ReplacerVolatile, decide, halt_counted, has_halted, is_booting, is_deciding}
-use Rattle.cx_inv_run.proofs.Common.{is_resting, is_stopping}
-use Rattle.cx_inv_run.proofs.Common.{joined_entries, next_counted, replacer_orders, replacer_row, replacer_rules, replacer_takes, to_decide}
-use Rattle.cx_inv_run.proofs.Common.{IsFit, Lands, State, ReplacerIn, durable_of, before-higher, replacer_kinds}
+use Rattle.cx_inv_run.proofs.Common.{same_Some, Cluster, Lead, Collect, Replace, RoleId, Round, is_in, role, same_role, is_before}
+use Rattle.cx_inv_run.proofs.Common.{lead_after, same_round, is_above, Entry, with_mark, Letter, Input, KeptRecord, Msg, Replacing}
+use Rattle.cx_inv_run.proofs.Common.{Stopping, Deciding, Booting, number_itself, enough, first_set, names, names_body, names_role}
+use Rattle.cx_inv_run.proofs.Common.{names_set, Outcome, by_test, either_way, ReplacerDurable, ReplacerVolatile, decide, halt_counted}
+use Rattle.cx_inv_run.proofs.Common.{has_halted, is_booting, is_deciding, is_resting, is_stopping, joined_entries, next_counted}
+use Rattle.cx_inv_run.proofs.Common.{replacer_orders, replacer_row, replacer_rules, replacer_takes, to_decide, IsFit, Lands, State}
+use Rattle.cx_inv_run.proofs.Common.{ReplacerIn, durable_of, before-higher, replacer_kinds}
 use Rattle.cx_base.specs.declared.event.Order.{Order as OrderOf}
 use Rattle.cx_base.specs.declared.event.Order.TheVariants.{Change, Offer}
 use Rattle.cx_base.specs.declared.role.Kind.TheVariants as kind

@@ -12,9 +12,8 @@ use Rattle.cx_inv_run.proofs.Common.{pre_read_counted, pre_read_to, read_to, rea
 use Rattle.cx_inv_run.proofs.Common.{request_over, request_row, make_token, asking_of, replacer_rules, replica_rules, request, run, Lands}
 use Rattle.cx_inv_run.proofs.Common.{Laws, anything, State, Down, BatcherIn, LeaderIn, ProxyIn, ReplicaIn, ReaderIn, ReplacerIn, plain}
 use Rattle.cx_inv_run.proofs.Common.{Given, durable_of, entry_by, snap_by, fresh_state, opened_state, with_record, HoldsIn, durable_else}
-use Rattle.cx_inv_run.proofs.Common.{durable_other}
-use Rattle.cx_inv_run.proofs.Common.{durable_own, kept_cases, kept_longer, kept_other, no_snap, same_role-true, set_running, Member-both}
-use Rattle.cx_inv_run.proofs.Common.{batcher_kinds, proxy_kinds, replica_kinds, unbatcher_kinds, leader_kinds, replacer_kinds}
+use Rattle.cx_inv_run.proofs.Common.{durable_other, durable_own, kept_cases, kept_longer, kept_other, no_snap, same_role-true, set_running}
+use Rattle.cx_inv_run.proofs.Common.{Member-both, batcher_kinds, proxy_kinds, replica_kinds, unbatcher_kinds, leader_kinds, replacer_kinds}
 use Rattle.cx_inv_run.proofs.Common.{batcher_sends, leader_sends, proxy_sends, replica_sends, unbatcher_sends, sends_only, run_keeps}
 use Rattle.cx_inv_run.proofs.Common.{all_allowed, reader_same}
 use Rattle.cx_base.specs.declared.role.Kind.TheVariants as kind

@@ -4,9 +4,8 @@ use Rattle.cx_inv_run.proofs.Common.{role, Asking, Entry, Letter, letter, KeptRe
 use Rattle.cx_inv_run.proofs.Common.{Member, IsConfig, proxy_row, replacer_rules, replacer_row, replica_rules, replica_row, unbatcher_row}
 use Rattle.cx_inv_run.proofs.Common.{World, change, run, run_from, Laws, HoldsAlong, State, Down, BatcherIn, ProxyIn, ReplicaIn, ReplacerIn}
 use Rattle.cx_inv_run.proofs.Common.{plain, fresh_state, opened_state, snap_by, durable_of, HoldsIn, kinds_hold, Member-first}
-use Rattle.cx_inv_run.proofs.Common.{Member-reverse}
-use Rattle.cx_inv_run.proofs.Common.{Member-turned, acceptor_kinds, batcher_kinds, unbatcher_kinds, proxy_kinds, replica_kinds}
-use Rattle.cx_inv_run.proofs.Common.{replacer_kinds, run_from_keeps, always, run_append, run_cluster, all_allowed, HasRound}
+use Rattle.cx_inv_run.proofs.Common.{Member-reverse, Member-turned, acceptor_kinds, batcher_kinds, unbatcher_kinds, proxy_kinds}
+use Rattle.cx_inv_run.proofs.Common.{replica_kinds, replacer_kinds, run_from_keeps, always, run_append, run_cluster, all_allowed, HasRound}
 use Rattle.cx_inv_match.specs.Prelude.{Facts, HasLog, HasGarbage, SetFacts}
 use Rattle.cx_base.specs.declared.role.Kind.TheVariants as kind
 use Rattle.cx_letter.specs.declared.message.Msg.TheVariants as msg
