@@ -26,6 +26,7 @@ mod apply;
 mod clients;
 mod deferred;
 mod machine;
+mod offer;
 mod opening;
 mod orders;
 mod reads;
