@@ -1,5 +1,5 @@
-pub mod Again
 pub mod Counted
+pub mod Entries
 pub mod FitLaws
 pub mod Live
 pub mod Memory

@@ -1,5 +1,5 @@
 -- The next turn is in its range.
-use Rattle.cx_role.proofs.Common.{◌≡◌, ◌<◌, ◌≤◌, ◌+◌, ◌^◌, ◌&&◌, ◌||◌, ◌==◌, ℕ, true, nat_le, nat_lt, max, arith, nat_tests, fits}
+use Rattle.cx_role.proofs.Common.{◌≡◌, ◌<◌, ◌≤◌, ◌+◌, ◌^◌, ◌&&◌, ◌||◌, ◌==◌, not, ℕ, true, nat_le, nat_lt, max, arith, nat_tests, fits}
 use Rattle.cx_role.proofs.Common.{last_turn}
 use Rattle.cx_role.proofs.Common.{refl, Cluster, RoleId, ReaderDurable, None, reader_rules, refused}
 use Rattle.cx_model.specs.Reader.{reader_renewed}
@@ -36,5 +36,12 @@ may_be_first n last range = grind (arith, nat_tests)
 pub renewable : (c : Cluster) (me : RoleId) (d : ReaderDurable) → d.turn ≤ last_turn → (first : ℕ)
     → refused reader_rules c me (reader_renewed d first) ≡ None
 renewable c me d range first = rw (may_be_first d.turn last_turn range) refl
+
+below : (n last waits : ℕ) → n ≤ last → (nat_lt 0 waits && not (n == last)) ≡ true → n < last
+below n last waits range some = grind (arith, nat_tests)
+
+-- where there is a next batch, there is a turn for it
+pub next_turn : (n waits : ℕ) → n ≤ last_turn → (nat_lt 0 waits && not (n == last_turn)) ≡ true → n < last_turn
+next_turn n waits range some = below n last_turn waits range some
 
 pub ruleset turns = (next_in_range, next_record_fits, next_is_greatest)

@@ -7,12 +7,14 @@ ghost use Rattle.cx_role.specs.Prelude.{greatest_watermark, is_counted, is_in, i
 ghost use Rattle.cx_role.specs.Prelude.{members_of, rows_whole, Entry};
 ghost use Rattle.cx_model.specs.Reader.{acked_by, ask_acceptors, ask_replicas, asking, greatest_mark, has_acked, is_among, is_first, is_matched};
 ghost use Rattle.cx_model.specs.Reader.{is_of_batch, new_batch, with_asked};
+ghost use Rattle.cx_reader.specs.Running.{are_apart};
 ghost use Rattle.cx_field.specs.Fields as field;
 
-use crate::asked::{self, Asked};
+use crate::asked::Asked;
 use crate::matched;
+use crate::reads::Reads;
 use crate::sends::asking;
-use cx_base::{Cluster, Duplicate, NoMemory, Round, Set, copy_all};
+use cx_base::{Cluster, Duplicate, NoMemory, Round, Set};
 use cx_field::{Asking, Token};
 use cx_grid::Marks;
 use cx_letter::pre_read;
@@ -27,7 +29,7 @@ use std::marker::Model;
 #[derive(Drop)]
 pub struct Batch {
     turn: u64,
-    reads: Vec<Asked>,
+    reads: Reads,
     told: Vec<MatchAnswer>,
     acks: Vec<Acked>,
     // The acceptors that were counted, as a set.
@@ -42,21 +44,21 @@ impl Model for Batch {
 
     ghost view = { λ b. record {
       turn = b.turn;
-      reads = b.reads.items;
+      reads = b.reads;
       told = b.told.items;
       acks = b.acks.items;
     } };
 
     ghost invariant = { λ b.
-        IsRunningBatch b.turn b.reads.items b.told.items b.acks.items b.counted };
+        IsRunningBatch b.turn b.reads b.told.items b.acks.items b.counted };
 }
 
 impl Batch {
     /// A batch that no answer was counted for. It takes no memory.
-    pub fn new(alloc: Global, turn: u64, reads: Vec<Asked>) -> Self
+    pub fn new(alloc: Global, turn: u64, reads: Reads) -> Self
         requires turn { IsTrue (field.seq.fits turn) }
-        requires few { length reads.items ≤ 64 }
-        ensures { result ≡ new_batch turn reads.items }
+        requires few { length reads ≤ 64 }
+        ensures { result ≡ new_batch turn reads }
     {
         Batch {
             turn,
@@ -87,29 +89,32 @@ impl Batch {
     pub fn has(&self, token: Token) -> bool
         ensures { result ≡ is_among token self.now.reads }
     {
-        asked::is_among(&self.reads, token)
+        self.reads.has(token)
     }
 
     /// Whether its first read has.
     pub fn is_first(&self, token: Token) -> bool
         ensures { result ≡ is_first token self.now.reads }
     {
-        asked::is_first(&self.reads, token)
+        self.reads.is_first(token)
     }
 
-    /// Its reads with one in the place of the earlier one of its client and number, and then those that wait.
-    pub fn again(
-        &self,
-        alloc: Global,
-        one: Asked,
-        waiting: &[Asked],
-    ) -> Result<Vec<Asked>, NoMemory>
-        ensures { IfOk result
-            (λ reads. reads.items ≡ with_asked one self.now.reads ++ waiting.now) }
+    /// Its reads, copied.
+    pub fn reads(&self, alloc: Global) -> Result<Reads, NoMemory>
+        ensures { IfOk result (λ reads. reads ≡ self.now.reads) }
     {
-        let mut reads = copy_all(alloc, &self.reads)?;
-        asked::put_again(&mut reads, one);
-        asked::add_all(alloc, &mut reads, waiting)?;
+        self.reads.copy(alloc)
+    }
+
+    /// Its reads with one in the place of the earlier one of its client and number, the first, and then those that wait.
+    pub fn again(&self, alloc: Global, one: Asked, waiting: &Reads) -> Result<Reads, NoMemory>
+        requires first { is_first one.read self.now.reads ≡ true }
+        requires apart { IsTrue (are_apart self.now.reads waiting.now) }
+        ensures { IfOk result (λ reads. reads ≡ with_asked one self.now.reads ++ waiting.now) }
+    {
+        let mut reads = self.reads(alloc)?;
+        reads.add_all(waiting)?;
+        reads.put_again(one);
         Ok(reads)
     }
 
@@ -244,7 +249,7 @@ impl Batch {
             ≡ out.old.list ++ ask_replicas (role kind.Reader reader) self.now mark }
         ensures spare { out.old.spare ≤ out.new.spare + length self.now.reads }
     {
-        asked::ask_all(&self.reads, reader, mark, out);
+        self.reads.ask_all(reader, mark, out);
     }
 
     /// Asks the members of live grids how far they voted, by rising index. Room was taken beforehand.
@@ -268,7 +273,7 @@ impl Duplicate for Batch {
     fn copy(&self, alloc: Global) -> Result<Self, NoMemory> {
         Ok(Batch {
             turn: self.turn,
-            reads: copy_all(alloc, &self.reads)?,
+            reads: self.reads(alloc)?,
             told: copied(alloc, &self.told)?,
             acks: Vec::from_slice(alloc, &self.acks)?,
             counted: self.counted.copy(alloc)?,

@@ -1,14 +1,14 @@
 //! How a batch begins, and how one ends. Memory is taken first, so that running out of it leaves everything as it was.
 
-ghost use Rattle.std.specs.Prelude.{◌≡◌, ◌≤◌, ◌<◌};
+ghost use Rattle.std.specs.Prelude.{◌≡◌, ◌==◌, ◌≤◌, ◌<◌, ◌&&◌, nat_lt, not};
 ghost use Rattle.cx_role.specs.Prelude.{[], false, length, IsTrue, IsStep};
 ghost use Rattle.cx_role.specs.Role.{takes_no_memory};
 ghost use Rattle.cx_model.specs.Reader.{begin, finish, last_turn, reader_rules};
 ghost use Rattle.cx_field.specs.Fields as field;
 
 use crate::Reader;
-use crate::asked::Asked;
 use crate::batch::Batch;
+use crate::reads::Reads;
 use crate::records::LAST_TURN;
 use crate::sends::ask_matchmakers;
 use cx_base::Why;
@@ -23,15 +23,15 @@ impl Reader {
         &mut self,
         keeper: &mut K,
         why: Why,
-        reads: Vec<Asked>,
+        reads: Reads,
         out: &mut Outbox,
     ) -> Result<Why, StepFault>
         requires next { self.old.durable.turn < last_turn }
-        requires few { length reads.items ≤ 64 }
+        requires few { length reads ≤ 64 }
         requires memory { takes_no_memory why ≡ false }
         requires empty { out.old.list ≡ [] }
         ensures { IsStep K.append_gives K.tells reader_rules self.old
-            (begin self.old.me self.old.durable self.old.volatile why [] reads.items)
+            (begin self.old.me self.old.durable self.old.volatile why [] reads)
             result self.new keeper.old keeper.new out.new.list }
     {
         out.room(self.set.ids().len())?;
@@ -42,6 +42,14 @@ impl Reader {
         self.running = Some(Batch::new(self.alloc, turn, reads));
         ask_matchmakers(self.index, turn, self.set.ids(), out);
         Ok(why)
+    }
+
+    // Whether reads wait, and there is a turn for them.
+    fn has_next(&self) -> bool
+        ensures { result ≡ (nat_lt 0 (length self.now.volatile.waiting)
+            && not (self.now.durable.turn == last_turn)) }
+    {
+        0 < self.waiting.len() && self.turn != LAST_TURN
     }
 
     // The batch has its number: the replicas are asked, and what waits is the next one, where there is a turn for it.
@@ -59,7 +67,7 @@ impl Reader {
             (finish self.old.me self.old.durable self.old.volatile batch mark)
             result self.new keeper.old keeper.new out.new.list }
     {
-        if self.waiting.is_empty() || self.turn == LAST_TURN {
+        if !self.has_next() {
             out.room(batch.len())?;
             batch.ask_replicas(self.index, mark, out);
             self.running = None;
@@ -69,7 +77,7 @@ impl Reader {
         let next = self.turn + 1;
         keep(keeper, &mut self.live, &Record::Turn { turn: next })?;
         self.turn = next;
-        let waiting = std::mem::replace(&mut self.waiting, Vec::new(self.alloc));
+        let waiting = std::mem::replace(&mut self.waiting, Reads::new(self.alloc));
         self.running = Some(Batch::new(self.alloc, next, waiting));
         batch.ask_replicas(self.index, mark, out);
         ask_matchmakers(self.index, next, self.set.ids(), out);

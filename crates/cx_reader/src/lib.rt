@@ -10,6 +10,7 @@ mod begins;
 mod learning;
 mod matched;
 mod reader;
+mod reads;
 mod records;
 mod requests;
 mod rows;

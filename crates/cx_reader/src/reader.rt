@@ -7,6 +7,7 @@ ghost use Rattle.cx_field.specs.Fields as field;
 
 use crate::asked::Asked;
 use crate::batch::Batch;
+use crate::reads::Reads;
 use cx_base::{Cluster, Kind, NoMemory, Order, RoleId, Set, Why};
 use cx_field::Token;
 use cx_keep::Keeper;
@@ -25,7 +26,7 @@ pub struct Reader {
     pub(crate) index: u16,
     pub(crate) live: bool,
     pub(crate) turn: u64,
-    pub(crate) waiting: Vec<Asked>,
+    pub(crate) waiting: Reads,
     pub(crate) running: Option<Batch>,
     // The matchmakers that are asked, and whose answers count.
     pub(crate) set: Set,
@@ -44,10 +45,10 @@ impl Model for Reader {
       me = role kind.Reader r.index;
       live = r.live;
       durable = record { turn = r.turn };
-      volatile = record { waiting = r.waiting.items; running = r.running; set = r.set };
+      volatile = record { waiting = r.waiting; running = r.running; set = r.set };
     } };
 
-    ghost invariant = { λ r. IsReader r.turn r.waiting.items r.running };
+    ghost invariant = { λ r. IsReader r.turn r.waiting r.running };
 }
 
 #[tactic(auto, unfolding(cx_field::specs::Fields::token, cx_wire::specs::Format::u16))]
@@ -76,7 +77,7 @@ impl Role for Reader {
             index: me.index,
             live: true,
             turn: 0,
-            waiting: Vec::new(alloc),
+            waiting: Reads::new(alloc),
             running: None,
             set: Set::first(cluster),
         })

@@ -1,13 +1,13 @@
 //! What a reader does with what clients ask.
 
 ghost use Rattle.std.specs.Prelude.{◌≡◌};
-ghost use Rattle.cx_role.specs.Prelude.{[], None, IsStep};
-ghost use Rattle.cx_model.specs.Reader.{reader_rules, request_over, request_row};
+ghost use Rattle.cx_role.specs.Prelude.{[], false, None, IsStep};
+ghost use Rattle.cx_model.specs.Reader.{is_among, reader_rules, request_over, request_row};
 
 use crate::Reader;
-use crate::asked::{Asked, is_among, put_again};
+use crate::asked::Asked;
 use crate::records::LAST_TURN;
-use cx_base::{READS, Why, copy_all};
+use cx_base::{Duplicate, READS, Why};
 use cx_keep::Keeper;
 use cx_role::{Outbox, StepFault};
 
@@ -24,8 +24,8 @@ impl Reader {
             (request_row self.old.me self.old.durable self.old.volatile one)
             result self.new keeper.old keeper.new out.new.list }
     {
-        if is_among(&self.waiting, one.token()) {
-            put_again(&mut self.waiting, one);
+        if self.waiting.has(one.token()) {
+            self.waiting.put_again(one);
             return Ok(Why::Again);
         }
         self.request_over(keeper, one, out)
@@ -38,6 +38,7 @@ impl Reader {
         one: Asked,
         out: &mut Outbox,
     ) -> Result<Why, StepFault>
+        requires new { is_among one.read self.old.volatile.waiting ≡ false }
         requires empty { out.old.list ≡ [] }
         ensures { IsStep K.append_gives K.tells reader_rules self.old
             (request_over self.old.me self.old.durable self.old.volatile one
@@ -70,6 +71,7 @@ impl Reader {
         one: Asked,
         out: &mut Outbox,
     ) -> Result<Why, StepFault>
+        requires new { is_among one.read self.old.volatile.waiting ≡ false }
         requires empty { out.old.list ≡ [] }
         ensures { IsStep K.append_gives K.tells reader_rules self.old
             (request_over self.old.me self.old.durable self.old.volatile one None)
@@ -81,7 +83,7 @@ impl Reader {
         if self.turn == LAST_TURN {
             return Ok(Why::End);
         }
-        let mut reads = copy_all(self.alloc, &self.waiting)?;
+        let mut reads = self.waiting.copy(self.alloc)?;
         reads.push(one)?;
         self.begin(keeper, Why::Started, reads, out)
     }

@@ -5,6 +5,7 @@ ghost use Rattle.std.specs.Prelude.{◌≡◌, ◌≤◌, ◌<◌, ◌+◌};
 ghost use Rattle.cx_role.specs.Prelude.{[], length, IsTrue, live_entries, IsReply, IsStep};
 ghost use Rattle.cx_model.specs.Reader.{match_ack_counted, match_ack_row, matched, pre_read_ack_row, pre_read_counted};
 ghost use Rattle.cx_model.specs.Reader.{reader_rules, reader_tick};
+ghost use Rattle.cx_reader.specs.Running.{are_apart};
 ghost use Rattle.cx_field.specs.Fields as field;
 
 use crate::Reader;
@@ -18,7 +19,7 @@ use cx_role::{Outbox, StepFault};
 
 impl Reader {
     /// A matchmaker answers with its retirement watermark and its entries. Only those of the known set are counted.
-    #[tactic(auto, using(crate::proofs::Ranges::few_with))]
+    #[tactic(auto, using(crate::proofs::Ranges::few_with, crate::proofs::Entries::apart_with))]
     pub(crate) fn match_answer<K: Keeper>(
         &mut self,
         keeper: &mut K,
@@ -61,6 +62,7 @@ impl Reader {
         out: &mut Outbox,
     ) -> Result<Why, StepFault>
         requires few { length self.old.volatile.waiting + length batch.reads ≤ 64 }
+        requires apart { IsTrue (are_apart batch.reads self.old.volatile.waiting) }
         requires empty { out.old.list ≡ [] }
         ensures { IsStep K.append_gives K.tells reader_rules self.old
             (match_ack_counted self.old.cluster self.old.me self.old.durable self.old.volatile
@@ -82,6 +84,7 @@ impl Reader {
         out: &mut Outbox,
     ) -> Result<Why, StepFault>
         requires few { length self.old.volatile.waiting + length batch.reads ≤ 64 }
+        requires apart { IsTrue (are_apart batch.reads self.old.volatile.waiting) }
         requires empty { out.old.list ≡ [] }
         ensures { IsStep K.append_gives K.tells reader_rules self.old
             (matched self.old.cluster self.old.me self.old.durable self.old.volatile batch
@@ -97,7 +100,7 @@ impl Reader {
     }
 
     /// An acceptor reports how far it voted.
-    #[tactic(auto, using(crate::proofs::Ranges::few_with))]
+    #[tactic(auto, using(crate::proofs::Ranges::few_with, crate::proofs::Entries::apart_with))]
     pub(crate) fn pre_read_answer<K: Keeper>(
         &mut self,
         keeper: &mut K,
@@ -143,6 +146,7 @@ impl Reader {
         out: &mut Outbox,
     ) -> Result<Why, StepFault>
         requires few { length self.old.volatile.waiting + length batch.reads ≤ 64 }
+        requires apart { IsTrue (are_apart batch.reads self.old.volatile.waiting) }
         requires empty { out.old.list ≡ [] }
         ensures { IsStep K.append_gives K.tells reader_rules self.old
             (pre_read_counted self.old.cluster self.old.me self.old.durable self.old.volatile batch)

@@ -1,7 +1,6 @@
 -- The map of the reads that wait, as their list.
 use Rattle.cx_role.proofs.Common.{◌≡◌, ◌+◌, ℕ, suc, zero, List, [], ◌∷◌, ◌++◌, Bool, true, false, ◌==◌, ◌&&◌, drop, filter, refl, ap}
-use Rattle.cx_role.proofs.Common.{nat_lt}
-use Rattle.cx_role.proofs.Common.{Option, Some, arith, list_any, by_test, still_deferred, Deferred, Token}
+use Rattle.cx_role.proofs.Common.{nat_lt, Option, Some, arith, list_any, by_test, still_deferred, Deferred, Token}
 use Rattle.cx_role.proofs.Common.{Letter, Pair, RoleId, append_assoc, ◌∙◌, nat_le}
 use Rattle.std.specs.Prelude.{slice_get, is_some}
 use Rattle.std.specs.Map.{lookup}
