@@ -1,2 +1,7 @@
+pub mod Finding
+pub mod Header
+pub mod Judging
+pub mod Meant
 pub mod Rules
+pub mod Saying
 pub mod Spots

@@ -1,6 +1,6 @@
 //! The lines of a text.
 
-ghost use Rattle.std.specs.Prelude.{◌≡◌, ◌∷◌, ◌<◌, ◌==◌, [], length, position, IfNone, IfSome, get_or};
+ghost use Rattle.std.specs.Prelude.{◌≡◌, ◌∷◌, ◌<◌, ◌≤◌, ◌==◌, [], length, position, IfNone, IfSome, get_or};
 ghost use Rattle.std.specs.List.{slice_split};
 ghost use Rattle.std.specs.Option.{option_copied, unwrap_or};
 ghost use Rattle.std.specs.Str.Lines.{strip_carriage_return};
@@ -57,7 +57,8 @@ pub fn first_line(bytes: &[u8]) -> Option<(&[u8], &[u8])>
 
 /// How many lines a text has.
 pub fn count_lines(bytes: &[u8]) -> u64
-    ensures { result ≡ length (lines_of bytes.now) }
+    ensures lines { result ≡ length (lines_of bytes.now) }
+    ensures inside { result ≤ length bytes.now }
 {
     let mut rest = bytes;
     let mut count = 0;

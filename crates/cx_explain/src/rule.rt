@@ -54,7 +54,8 @@ fn range_text(key: ClusterKey) -> &'static str
         ClusterKey::Pool => "outside its range, 2f + 1 to 64",
         ClusterKey::Replacers => "outside its range, 0 to 4",
         ClusterKey::OneEntryAGrid => "outside its range, 0 to 1",
-        ClusterKey::OwnProxies => "outside its range, 0 to 1, and 1 only where leaders divides proxies",
+        ClusterKey::OwnProxies =>
+            "outside its range, 0 to 1, and 1 only where leaders divides proxies",
     }
 }
 

@@ -61,7 +61,8 @@ impl<'a> Spot<'a> {
     }
 }
 
-fn is_blank(byte: u8) -> bool
+/// Whether a byte is a space or a tab.
+pub fn is_blank(byte: u8) -> bool
     ensures { result ≡ is_blank byte }
 {
     byte == b' ' || byte == b'\t'
@@ -283,11 +284,7 @@ fn node_spot<'a>(line: &'a [u8], event: &Option<Event>) -> Spot<'a>
     }
 }
 
-fn bad_spot<'a>(
-    alloc: Global,
-    cluster: &Cluster,
-    spelled: &'a [u8],
-) -> Result<Spot<'a>, NoMemory>
+fn bad_spot<'a>(alloc: Global, cluster: &Cluster, spelled: &'a [u8]) -> Result<Spot<'a>, NoMemory>
     ensures { IfOk result (λ spot. spot
         ≡ bad_spot cluster.now spelled.now (line_event cluster.now spelled.now)) }
 {
