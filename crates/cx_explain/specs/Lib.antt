@@ -1,3 +1,4 @@
+pub mod Checking
 pub mod Finding
 pub mod Header
 pub mod Judging

@@ -2,9 +2,10 @@
 //!
 //! Its theorems are: `explain` finds exactly the line that a replay or a node names as the first bad
 //! one, says where it stands in the file and which rule it breaks, and finds nothing where none is
-//! bad; `put_finding` says exactly that in one line.
+//! bad; `check` reads an input and says exactly that in one line.
 #![tactic(auto)]
 
+mod checking;
 mod finding;
 mod header;
 mod judging;
@@ -14,6 +15,7 @@ mod rule;
 mod saying;
 mod spot;
 
+pub use checking::check;
 pub use finding::{Finding, explain};
 pub use judging::{Unread, judge};
 pub use rule::Rule;
