@@ -3,14 +3,15 @@ use Rattle.cx_base.proofs.Common.{◌≡◌, ℕ, Bool, true, false, List, Optio
 use Rattle.cx_base.specs.declared.cluster.Cluster.{Cluster}
 use Rattle.cx_cluster.specs.declared.fault.ClusterFault.{ClusterFault}
 use Rattle.cx_cluster.specs.Reading.{header_cluster}
-use Rattle.cx_explain.specs.Finding.{Found, bad_behind, bad_in, bad_line, bad_of_node, found_behind, found_in, found_of, found_of_node, line_fault, no_end}
+use Rattle.cx_explain.specs.Finding.{FindingState, bad_behind, bad_in, first_bad_line, bad_of_node}
+use Rattle.cx_explain.specs.Finding.{found_behind, found_in, found_of, found_of_node, line_fault, no_end}
 use Rattle.cx_script.specs.Header.{header_and_rest}
 use Rattle.cx_script.specs.Input.{of_header, whole_input}
 use Rattle.cx_script.specs.Lines.{schedule_of}
 use Rattle.cx_script.specs.Requests.{requests_of}
 
-abbrev pub number_of : Option Found → Option ℕ
-number_of found = option_map (λ (f : Found). f.number) found
+abbrev pub number_of : Option FindingState → Option ℕ
+number_of found = option_map (λ (f : FindingState). f.number) found
 
 at_line : (c : Cluster) (header rest : List ℕ) (bad : Option ℕ) → number_of (option_map (line_fault c header rest) bad) ≡ bad
 at_line c header rest None = refl
@@ -29,7 +30,7 @@ inside : (node : Bool) (said : Result Cluster ClusterFault) (header rest : List 
 inside node (Err fault) header rest = refl
 inside node (Ok c) header rest = behind node c header rest
 
-abbrev split_found : Bool → Option (List ℕ × List ℕ) → Option Found
+abbrev split_found : Bool → Option (List ℕ × List ℕ) → Option FindingState
 split_found node parts = of_header (λ header rest. found_in node (header_cluster header) header rest) parts (Some no_end)
 
 abbrev split_bad : Bool → Option (List ℕ × List ℕ) → Option ℕ
@@ -39,6 +40,6 @@ whole : (node : Bool) (parts : Option (List ℕ × List ℕ)) → number_of (spl
 whole node None = refl
 whole node (Some parts) = inside node (header_cluster parts.0) parts.0 parts.1
 
-pub agrees : (node : Bool) (bytes : List ℕ) → number_of (found_of node bytes) ≡ bad_line node bytes
+pub agrees : (node : Bool) (bytes : List ℕ) → number_of (found_of node bytes) ≡ first_bad_line node bytes
 unfolding whole_input
 agrees node bytes = whole node (header_and_rest bytes)

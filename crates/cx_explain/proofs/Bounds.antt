@@ -1,5 +1,6 @@
 -- The number of a bad line is at most 65,536.
-use Rattle.cx_base.proofs.Common.{◌≡◌, ◌≤◌, ◌+◌, ℕ, Bool, true, false, List, [], ◌∷◌, Option, Some, Result, Ok, Err, is_none, nat_lt, if◌then◌else◌}
+use Rattle.cx_base.proofs.Common.{◌≡◌, ◌≤◌, ◌+◌, ℕ, Bool, true, false, List, []}
+use Rattle.cx_base.proofs.Common.{◌∷◌, Option, Some, Result, Ok, Err, is_none, nat_lt, if◌then◌else◌}
 use Rattle.cx_base.proofs.Common.{refl, ap, subst, true≢false, arith, nat_tests, same_Some}
 use Rattle.cx_base.specs.declared.cluster.Cluster.{Cluster}
 use Rattle.cx_base.specs.declared.event.Event.{Event}

@@ -33,35 +33,35 @@ is_toml_fault (Err fault.Toml) = true
 is_toml_fault other = false
 
 -- the place of the first line for a key, counted from 0; that of the line after the header where there is none
-abbrev pub key_place : List ℕ → List ℕ → ℕ
-key_place key header = position_or_len (λ line. names_key key line) (lines_of header)
+abbrev pub line_of_key : List ℕ → List ℕ → ℕ
+line_of_key key header = position_or_len (λ line. names_key key line) (lines_of header)
 
 -- the place of the first line that is no TOML by itself
-abbrev pub toml_place : List ℕ → ℕ
-toml_place header = position_or_len (λ line. is_toml_fault (header_cluster line)) (lines_of header)
+abbrev pub line_of_toml : List ℕ → ℕ
+line_of_toml header = position_or_len (λ line. is_toml_fault (header_cluster line)) (lines_of header)
 
 -- the place of the line with a fault
-abbrev pub fault_place : List ℕ → ClusterFault → ℕ
-fault_place header fault.Toml = toml_place header
-fault_place header (fault.Unknown key) = key_place key header
-fault_place header (fault.Missing key) = length (lines_of header)
-fault_place header (fault.NotNumber key) = key_place (key_name key) header
-fault_place header (fault.Range key number) = key_place (key_name key) header
-fault_place header fault.NoMemory = 0
+abbrev pub header_place : List ℕ → ClusterFault → ℕ
+header_place header fault.Toml = line_of_toml header
+header_place header (fault.Unknown key) = line_of_key key header
+header_place header (fault.Missing key) = length (lines_of header)
+header_place header (fault.NotNumber key) = line_of_key (key_name key) header
+header_place header (fault.Range key number) = line_of_key (key_name key) header
+header_place header fault.NoMemory = 0
 
-abbrev pub fault_rule : ClusterFault → Rule
-fault_rule fault.Toml = rule.NotToml
-fault_rule (fault.Unknown key) = rule.UnknownKey
-fault_rule (fault.Missing key) = rule.MissingKey
-fault_rule (fault.NotNumber key) = rule.NotNumber
-fault_rule (fault.Range key number) = rule.OutOfRange key
-fault_rule fault.NoMemory = rule.NotToml
+abbrev pub header_rule : ClusterFault → Rule
+header_rule fault.Toml = rule.NotToml
+header_rule (fault.Unknown key) = rule.UnknownKey
+header_rule (fault.Missing key) = rule.MissingKey
+header_rule (fault.NotNumber key) = rule.NotNumber
+header_rule (fault.Range key number) = rule.OutOfRange key
+header_rule fault.NoMemory = rule.NotToml
 
 -- the key that has the fault
-abbrev pub fault_word : ClusterFault → List ℕ
-fault_word fault.Toml = []
-fault_word (fault.Unknown key) = key
-fault_word (fault.Missing key) = key_name key
-fault_word (fault.NotNumber key) = key_name key
-fault_word (fault.Range key number) = key_name key
-fault_word fault.NoMemory = []
+abbrev pub header_word : ClusterFault → List ℕ
+header_word fault.Toml = []
+header_word (fault.Unknown key) = key
+header_word (fault.Missing key) = key_name key
+header_word (fault.NotNumber key) = key_name key
+header_word (fault.Range key number) = key_name key
+header_word fault.NoMemory = []

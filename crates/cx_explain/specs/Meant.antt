@@ -12,13 +12,13 @@ edits word other = levenshtein_row nat_eq word other (length other)
 abbrev pub at_distance : ℕ → List ℕ → List (List ℕ) → Option (List ℕ)
 at_distance count word known = find (λ other. edits word other == count) known
 
-abbrev pub or_else : Option (List ℕ) → Option (List ℕ) → Option (List ℕ)
-or_else None other = other
-or_else (Some word) other = Some word
+abbrev pub or_next : Option (List ℕ) → Option (List ℕ) → Option (List ℕ)
+or_next None other = other
+or_next (Some word) other = Some word
 
 -- the first of the nearest words, at most two edits away; none where the word is known itself
 abbrev pub nearest : List ℕ → List (List ℕ) → Option (List ℕ)
-nearest word known = if is_some (at_distance 0 word known) then None else or_else (at_distance 1 word known) (at_distance 2 word known)
+nearest word known = if is_some (at_distance 0 word known) then None else or_next (at_distance 1 word known) (at_distance 2 word known)
 
 abbrev pub events : List (List ℕ)
 events =

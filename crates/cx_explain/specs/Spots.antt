@@ -1,5 +1,6 @@
 -- Where in a line its first fault is, and the rule that it breaks.
-use Rattle.std.specs.Prelude.{ℕ, ◌+◌, Bool, true, false, ◌==◌, ◌&&◌, not, nat_lt, List, [], ◌++◌, length, take, drop, codes, find, position, slice_get}
+use Rattle.std.specs.Prelude.{ℕ, ◌+◌, Bool, true, false, ◌==◌, ◌&&◌, not, nat_lt}
+use Rattle.std.specs.Prelude.{List, [], ◌++◌, length, take, drop, codes, find, position, slice_get}
 use Rattle.std.specs.Prelude.{Option, None, Some, Result, Ok, Err, unwrap_or, if◌then◌else◌}
 use Rattle.std.specs.List.{list_all}
 use Rattle.std.specs.Option.{option_map_or}

@@ -2,11 +2,11 @@
 
 ghost use Rattle.std.specs.Prelude.{◌≡◌, IfOk};
 ghost use Rattle.cx_edge.specs.Sink.{SaysText};
-ghost use Rattle.cx_explain.specs.Checking.{Checks, Says};
+ghost use Rattle.cx_explain.specs.Checking.{Checks, SaysFinding};
 ghost use Rattle.cx_explain.specs.Saying.{finding_text};
 
 use crate::finding::Finding;
-use crate::judging::{Unread, judge};
+use crate::judging::{Unjudged, read_finding};
 use crate::saying::put_finding;
 use cx_base::{NoMemory, Status};
 use cx_edge::{Sink, Source, write_all};
@@ -30,8 +30,8 @@ fn say<E: Sink>(err: &mut E, text: &[u8])
 
 // Says what was found.
 fn say_finding<E: Sink>(alloc: Global, name: &[u8], finding: &Finding, err: &mut E) -> Status
-    ensures { Says name.now finding.now (E.taken err.old) (E.taken err.new) (E.faults err.old)
-        (E.faults err.new) result }
+    ensures { SaysFinding name.now finding.now (E.taken err.old) (E.taken err.new)
+        (E.faults err.old) (E.faults err.new) result }
 {
     match line_of(alloc, name, finding) {
         Ok(text) => {
@@ -60,10 +60,10 @@ pub fn check<S: Source, E: Sink>(
     ensures { Checks node name.now (S.left source.old) (S.left source.new) (E.taken err.old)
         (E.taken err.new) (E.faults err.old) (E.faults err.new) result }
 {
-    match judge(alloc, node, source) {
+    match read_finding(alloc, node, source) {
         Ok(Some(finding)) => say_finding(alloc, name, &finding, err),
         Ok(None) => Status::Done,
-        Err(Unread::ReadFault) => Status::ReadFault,
-        Err(Unread::NoMemory) => Status::NoMemory,
+        Err(Unjudged::ReadFault) => Status::ReadFault,
+        Err(Unjudged::NoMemory) => Status::NoMemory,
     }
 }

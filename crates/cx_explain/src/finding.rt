@@ -2,12 +2,12 @@
 
 ghost use Rattle.std.specs.Prelude.{◌≡◌, ◌≤◌, ◌<◌, ◌^◌, IfOk, IfSome, length, option_map};
 ghost use Rattle.cx_cluster.specs.Reading.{header_cluster};
-ghost use Rattle.cx_explain.specs.Finding.{Found, bad_line, found_behind, found_in, found_of, found_of_node, header_fault, line_fault, no_end, no_port};
+ghost use Rattle.cx_explain.specs.Finding.{FindingState, first_bad_line, found_behind, found_in, found_of, found_of_node, header_fault, line_fault, no_end, no_port};
 ghost use Rattle.cx_script.specs.Lines.{schedule_of};
 ghost use Rattle.cx_script.specs.Requests.{requests_of};
 
-use crate::header::{fault_place, fault_rule, fault_word};
-use crate::lines::{count_lines, first_line, line_at};
+use crate::header::{header_place, header_rule, header_word};
+use crate::lines::{count_lines, line_at, next_line};
 use crate::rule::Rule;
 use crate::spot::line_spot;
 use cx_base::{Cluster, MAX_LINES, NoMemory};
@@ -27,19 +27,25 @@ pub struct Finding {
 }
 
 impl Model for Finding {
-    ghost use Rattle.cx_explain.specs.Finding.{Found};
+    ghost use Rattle.cx_explain.specs.Finding.{FindingState};
 
-    ghost Value = { Found };
+    ghost Value = { FindingState };
 
-    ghost view = { λ f. record { number = f.number; line = f.line; column = f.column; rule = f.rule; word = f.word.items } };
+    ghost view = { λ f. record {
+      number = f.number;
+      line = f.line;
+      column = f.column;
+      rule = f.rule;
+      word = f.word.items;
+    } };
 }
 
 impl Finding {
-    ghost use Rattle.cx_explain.specs.Finding.{of_header};
+    ghost use Rattle.cx_explain.specs.Finding.{in_header};
 
     // What is wrong with a header.
-    fn of_header(alloc: Global, line: u64, rule: Rule, word: &[u8]) -> Result<Self, NoMemory>
-        ensures { IfOk result (λ f. f ≡ of_header line rule word.now) }
+    fn in_header(alloc: Global, line: u64, rule: Rule, word: &[u8]) -> Result<Self, NoMemory>
+        ensures { IfOk result (λ f. f ≡ in_header line rule word.now) }
     {
         let mut copied = Vec::new(alloc);
         copied.extend_from_slice(word)?;
@@ -120,32 +126,32 @@ impl Finding {
 fn no_end(alloc: Global) -> Result<Finding, NoMemory>
     ensures { IfOk result (λ f. f ≡ no_end) }
 {
-    Ok(Finding::of_header(alloc, 1, Rule::NoEnd, &[])?)
+    Ok(Finding::in_header(alloc, 1, Rule::NoEnd, &[])?)
 }
 
 fn no_port(alloc: Global, header: &[u8]) -> Result<Finding, NoMemory>
     ensures { IfOk result (λ f. f ≡ no_port header.now) }
 {
     let line = count_lines(header) + 1;
-    Ok(Finding::of_header(alloc, line, Rule::NoPort, b"base_port")?)
+    Ok(Finding::in_header(alloc, line, Rule::NoPort, b"base_port")?)
 }
 
 fn header_fault(alloc: Global, header: &[u8], fault: &ClusterFault) -> Result<Finding, NoMemory>
     ensures { IfOk result (λ f. f ≡ header_fault header.now fault.now) }
 {
-    let line = fault_place(alloc, header, fault)? + 1;
-    Ok(Finding::of_header(alloc, line, fault_rule(fault), fault_word(fault))?)
+    let line = header_place(alloc, header, fault)? + 1;
+    Ok(Finding::in_header(alloc, line, header_rule(fault), header_word(fault))?)
 }
 
 // The first bad line of a schedule.
 #[tactic(auto, unfolding(cx_script::specs::Lines::schedule_of))]
-fn bad_line(cluster: &Cluster, bytes: &[u8]) -> Option<u64>
+fn first_bad_line(cluster: &Cluster, bytes: &[u8]) -> Option<u64>
     ensures bad { result ≡ (schedule_of cluster.now bytes.now).bad }
     ensures counted { IfSome result (λ number. number ≤ 65536) }
 {
     let mut rest = bytes;
     let mut number = 0;
-    while let Some((text, behind)) = first_line(rest) {
+    while let Some((text, behind)) = next_line(rest) {
         number += 1;
         if number > MAX_LINES || line(cluster, text).is_err() {
             return Some(number);
@@ -191,7 +197,7 @@ fn found_of_schedule(
         ≡ option_map (line_fault cluster.now header.now rest.now)
         (schedule_of cluster.now rest.now).bad) }
 {
-    match bad_line(cluster, rest) {
+    match first_bad_line(cluster, rest) {
         Some(number) => Ok(Some(line_fault(alloc, cluster, header, rest, number)?)),
         None => Ok(None),
     }
@@ -266,7 +272,8 @@ fn found_in(
 pub fn explain(alloc: Global, node: bool, bytes: &[u8]) -> Result<Option<Finding>, NoMemory>
     ensures found { IfOk result (λ found. found ≡ found_of node bytes.now) }
     ensures bad { IfOk result
-        (λ found. option_map (λ (f : Found). f.number) found ≡ bad_line node bytes.now) }
+        (λ found. option_map (λ (f : FindingState). f.number) found
+        ≡ first_bad_line node bytes.now) }
 {
     match split_header(alloc, bytes)? {
         Some((header, rest)) => Ok(found_in(alloc, node, &header, rest)?),

@@ -2,10 +2,10 @@
 
 ghost use Rattle.std.specs.Prelude.{◌≡◌, ◌≤◌, ◌==◌, IfOk, length, not, position};
 ghost use Rattle.cx_cluster.specs.Reading.{header_cluster};
-ghost use Rattle.cx_explain.specs.Header.{ends_key, fault_place, fault_rule, fault_word, from_word, is_toml_fault, key_part, key_place, names_key, toml_place};
+ghost use Rattle.cx_explain.specs.Header.{ends_key, header_place, header_rule, header_word, from_word, is_toml_fault, key_part, line_of_key, names_key, line_of_toml};
 ghost use Rattle.cx_script.specs.Words.{is_blank};
 
-use crate::lines::{count_lines, first_line};
+use crate::lines::{count_lines, next_line};
 use crate::rule::Rule;
 use crate::spot::is_blank;
 use cx_base::NoMemory;
@@ -55,13 +55,13 @@ fn names_key(key: &[u8], line: &[u8]) -> bool
 }
 
 // The place of the first line for a key, counted from 0, or that of the line after the header.
-fn key_place(key: &[u8], header: &[u8]) -> u64
-    ensures place { result ≡ key_place key.now header.now }
+fn line_of_key(key: &[u8], header: &[u8]) -> u64
+    ensures place { result ≡ line_of_key key.now header.now }
     ensures inside { result ≤ length header.now }
 {
     let mut rest = header;
     let mut place = 0;
-    while let Some((line, behind)) = first_line(rest) {
+    while let Some((line, behind)) = next_line(rest) {
         if names_key(key, line) {
             return place;
         }
@@ -86,13 +86,13 @@ fn is_toml_fault(alloc: Global, line: &[u8]) -> Result<bool, NoMemory>
 }
 
 // The place of the first line that is no TOML by itself.
-fn toml_place(alloc: Global, header: &[u8]) -> Result<u64, NoMemory>
-    ensures place { IfOk result (λ place. place ≡ toml_place header.now) }
+fn line_of_toml(alloc: Global, header: &[u8]) -> Result<u64, NoMemory>
+    ensures place { IfOk result (λ place. place ≡ line_of_toml header.now) }
     ensures inside { IfOk result (λ place. place ≤ length header.now) }
 {
     let mut rest = header;
     let mut place = 0;
-    while let Some((line, behind)) = first_line(rest) {
+    while let Some((line, behind)) = next_line(rest) {
         if is_toml_fault(alloc, line)? {
             return Ok(place);
         }
@@ -103,23 +103,23 @@ fn toml_place(alloc: Global, header: &[u8]) -> Result<u64, NoMemory>
 }
 
 /// The place of the line of a header that has this fault, counted from 0.
-pub fn fault_place(alloc: Global, header: &[u8], fault: &ClusterFault) -> Result<u64, NoMemory>
-    ensures place { IfOk result (λ place. place ≡ fault_place header.now fault.now) }
+pub fn header_place(alloc: Global, header: &[u8], fault: &ClusterFault) -> Result<u64, NoMemory>
+    ensures place { IfOk result (λ place. place ≡ header_place header.now fault.now) }
     ensures inside { IfOk result (λ place. place ≤ length header.now) }
 {
     match fault {
-        ClusterFault::Toml => Ok(toml_place(alloc, header)?),
-        ClusterFault::Unknown(key) => Ok(key_place(key.as_str().as_bytes(), header)),
+        ClusterFault::Toml => Ok(line_of_toml(alloc, header)?),
+        ClusterFault::Unknown(key) => Ok(line_of_key(key.as_str().as_bytes(), header)),
         ClusterFault::Missing(_) => Ok(count_lines(header)),
-        ClusterFault::NotNumber(key) => Ok(key_place(key.name().as_bytes(), header)),
-        ClusterFault::Range(key, _) => Ok(key_place(key.name().as_bytes(), header)),
+        ClusterFault::NotNumber(key) => Ok(line_of_key(key.name().as_bytes(), header)),
+        ClusterFault::Range(key, _) => Ok(line_of_key(key.name().as_bytes(), header)),
         ClusterFault::NoMemory => Ok(0),
     }
 }
 
 /// The rule that is broken.
-pub fn fault_rule(fault: &ClusterFault) -> Rule
-    ensures { result ≡ fault_rule fault.now }
+pub fn header_rule(fault: &ClusterFault) -> Rule
+    ensures { result ≡ header_rule fault.now }
 {
     match fault {
         ClusterFault::Toml => Rule::NotToml,
@@ -132,8 +132,8 @@ pub fn fault_rule(fault: &ClusterFault) -> Rule
 }
 
 /// The key that has the fault.
-pub fn fault_word(fault: &ClusterFault) -> &[u8]
-    ensures { result.now ≡ fault_word fault.now }
+pub fn header_word(fault: &ClusterFault) -> &[u8]
+    ensures { result.now ≡ header_word fault.now }
 {
     match fault {
         ClusterFault::Toml => &[],

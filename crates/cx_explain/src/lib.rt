@@ -1,8 +1,7 @@
 //! What is wrong with an input, said in words: where in its file, which rule, and what may be meant.
 //!
-//! Its theorems are: `explain` finds exactly the line that a replay or a node names as the first bad
-//! one, says where it stands in the file and which rule it breaks, and finds nothing where none is
-//! bad; `check` reads an input and says exactly that in one line.
+//! Its theorems are: `explain` finds exactly the first bad line of a replay or a node, its place in
+//! the file and the rule that it breaks; `check` reads an input and says exactly that in one line.
 #![tactic(auto)]
 
 mod checking;
@@ -17,6 +16,6 @@ mod spot;
 
 pub use checking::check;
 pub use finding::{Finding, explain};
-pub use judging::{Unread, judge};
+pub use judging::{Unjudged, read_finding};
 pub use rule::Rule;
 pub use saying::put_finding;

@@ -43,7 +43,7 @@ fn or_empty(rest: Option<&[u8]>) -> &[u8]
 }
 
 /// The first line of a text, and what comes after it, or None at the end.
-pub fn first_line(bytes: &[u8]) -> Option<(&[u8], &[u8])>
+pub fn next_line(bytes: &[u8]) -> Option<(&[u8], &[u8])>
     ensures none { IfNone result (lines_of bytes.now ≡ []) }
     ensures some { IfSome result (λ p. lines_of bytes.now ≡ p.0.now ∷ lines_of p.1.now) }
     ensures shorter { IfSome result (λ p. length p.1.now < length bytes.now) }
@@ -62,7 +62,7 @@ pub fn count_lines(bytes: &[u8]) -> u64
 {
     let mut rest = bytes;
     let mut count = 0;
-    while let Some((_, behind)) = first_line(rest) {
+    while let Some((_, behind)) = next_line(rest) {
         count += 1;
         rest = behind;
     }
@@ -75,7 +75,7 @@ pub fn line_at(bytes: &[u8], place: u64) -> &[u8]
 {
     let mut rest = bytes;
     let mut left = place;
-    while let Some((line, behind)) = first_line(rest) {
+    while let Some((line, behind)) = next_line(rest) {
         if left == 0 {
             return line;
         }

@@ -90,25 +90,29 @@ fn nearest(
 }
 
 fn near_event(alloc: Global, word: &[u8]) -> Result<Option<&'static str>, NoMemory>
-    ensures { IfOk result (λ found. option_map (λ text. text.now) found ≡ nearest word.now events) }
+    ensures { IfOk result
+        (λ found. option_map (λ text. text.now) found ≡ nearest word.now events) }
 {
     Ok(nearest(alloc, word, &EVENTS)?)
 }
 
 fn near_word(alloc: Global, word: &[u8]) -> Result<Option<&'static str>, NoMemory>
-    ensures { IfOk result (λ found. option_map (λ text. text.now) found ≡ nearest word.now later_words) }
+    ensures { IfOk result
+        (λ found. option_map (λ text. text.now) found ≡ nearest word.now later_words) }
 {
     Ok(nearest(alloc, word, &LATER_WORDS)?)
 }
 
 fn near_kind(alloc: Global, word: &[u8]) -> Result<Option<&'static str>, NoMemory>
-    ensures { IfOk result (λ found. option_map (λ text. text.now) found ≡ nearest word.now kinds) }
+    ensures { IfOk result
+        (λ found. option_map (λ text. text.now) found ≡ nearest word.now kinds) }
 {
     Ok(nearest(alloc, word, &KINDS)?)
 }
 
 fn near_key(alloc: Global, word: &[u8]) -> Result<Option<&'static str>, NoMemory>
-    ensures { IfOk result (λ found. option_map (λ text. text.now) found ≡ nearest word.now keys) }
+    ensures { IfOk result
+        (λ found. option_map (λ text. text.now) found ≡ nearest word.now keys) }
 {
     Ok(nearest(alloc, word, &KEYS)?)
 }

@@ -2,7 +2,7 @@
 
 ghost use Rattle.std.specs.Prelude.{◌≡◌, ◌++◌, codes, decimal, map, option_map, OnOk};
 ghost use Rattle.cx_explain.specs.Meant.{meant};
-ghost use Rattle.cx_explain.specs.Saying.{between, finding_text, hint_text, meant_text, place_text, shown, word_text};
+ghost use Rattle.cx_explain.specs.Saying.{between, finding_text, hint_text, meant_text, place_text, shown_byte, word_text};
 
 use crate::finding::Finding;
 use crate::meant::meant;
@@ -26,8 +26,8 @@ fn put_number(text: &mut Vec<u8>, number: u64) -> Result<(), NoMemory>
     Ok(())
 }
 
-fn shown(byte: u8) -> u8
-    ensures { result ≡ shown byte }
+fn shown_byte(byte: u8) -> u8
+    ensures { result ≡ shown_byte byte }
 {
     if 33 <= byte && byte <= 126 {
         return byte;
@@ -36,10 +36,10 @@ fn shown(byte: u8) -> u8
 }
 
 fn put_shown(text: &mut Vec<u8>, word: &[u8]) -> Result<(), NoMemory>
-    ensures { OnOk result (text.new.items ≡ text.old.items ++ map shown word.now) }
+    ensures { OnOk result (text.new.items ≡ text.old.items ++ map shown_byte word.now) }
 {
     for byte in word {
-        text.push(shown(*byte))?;
+        text.push(shown_byte(*byte))?;
     }
     Ok(())
 }

@@ -3,7 +3,7 @@ use Rattle.std.specs.List.{position_or_len}
 use Rattle.cx_cluster.specs.Reading.{header_cluster}
 use Rattle.cx_explain.specs.Header.{is_toml_fault}
 use Rattle.cx_script.specs.Lines.{lines_of}
-use Rattle.cx_explain.proofs.header.toml_place.Given as goal
+use Rattle.cx_explain.proofs.header.line_of_toml.Given as goal
 
 abbrev pub invariant-loop-line : goal.invariant-loop-line
 invariant-loop-line l = record {

@@ -1,6 +1,6 @@
 use Rattle.cx_base.proofs.Common.{◌≡◌, ◌≤◌, ◌+◌, length}
 use Rattle.cx_script.specs.Lines.{lines_of, spelled_from}
-use Rattle.cx_explain.proofs.finding.bad_line.Given as goal
+use Rattle.cx_explain.proofs.finding.first_bad_line.Given as goal
 
 abbrev pub invariant-loop-text : goal.invariant-loop-text
 invariant-loop-text l = record {

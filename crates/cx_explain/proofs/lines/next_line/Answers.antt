@@ -1,6 +1,6 @@
 use Rattle.cx_base.proofs.Common.{◌≡◌, ◌==◌, ◌<◌, length, arith, false, sym, nat_tests, option_copied}
 use Rattle.cx_script.proofs.Schedules.{line_first}
-use Rattle.cx_explain.proofs.lines.first_line.Goals as goal
+use Rattle.cx_explain.proofs.lines.next_line.Goals as goal
 
 pub returns-clause-some : goal.returns-clause-some
 returns-clause-some c =

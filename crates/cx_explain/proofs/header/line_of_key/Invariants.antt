@@ -2,7 +2,7 @@ use Rattle.cx_base.proofs.Common.{◌≡◌, ◌≤◌, ◌+◌, length}
 use Rattle.std.specs.List.{position_or_len}
 use Rattle.cx_explain.specs.Header.{names_key}
 use Rattle.cx_script.specs.Lines.{lines_of}
-use Rattle.cx_explain.proofs.header.key_place.Given as goal
+use Rattle.cx_explain.proofs.header.line_of_key.Given as goal
 
 abbrev pub invariant-loop-line : goal.invariant-loop-line
 invariant-loop-line l = record {
