@@ -1,5 +1,7 @@
--- What is to be checked.
+-- What is to be checked, and which line of a node's input is bad.
 use Rattle.std.specs.Prelude.{ℕ, Bool, true, false, ◌==◌, ◌&&◌, not, List, [], ◌∷◌, codes, Option, None, Some, if◌then◌else◌, bytes_eq}
+use Rattle.cx_node.specs.declared.input.NodeInput.{NodeInput}
+use Rattle.cx_node.specs.declared.input.NodeInput.TheVariants.{Nothing, BadHeader, Lines}
 
 -- whether a word may name a file: an option begins with a hyphen
 abbrev pub is_file : List ℕ → Bool
@@ -15,3 +17,9 @@ check_asked (program ∷ verb ∷ file ∷ []) = if bytes_eq verb (codes "check"
 check_asked (program ∷ verb ∷ option ∷ file ∷ []) =
     if bytes_eq verb (codes "check") && bytes_eq option (codes "--node") then file_of true file else None
 check_asked other = None
+
+-- the first bad line of a node's input, which a node names that may host its roles
+abbrev pub bad_line_of_node : NodeInput → Option ℕ
+bad_line_of_node Nothing = None
+bad_line_of_node BadHeader = Some 0
+bad_line_of_node (Lines header c spelled) = spelled.bad

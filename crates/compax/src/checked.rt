@@ -1,7 +1,10 @@
 //! The words that ask for a check of a file.
 
-ghost use Rattle.std.specs.Prelude.{◌≡◌, map, option_map, string_bytes, bytes_eq};
-ghost use Rattle.compax.specs.Checked.{check_asked, file_of, is_file};
+ghost use Rattle.std.specs.Prelude.{◌≡◌, ℕ, List, bytes_eq, false, map, option_map, string_bytes, true};
+ghost use Rattle.compax.specs.Checked.{bad_line_of_node, check_asked, file_of, is_file};
+ghost use Rattle.cx_explain.specs.Finding.{first_bad_line};
+ghost use Rattle.cx_node.specs.Input.{input_of as node_input};
+ghost use Rattle.cx_replay.specs.Input.{bad_line, input_of as replay_input};
 
 /// A file to be checked: a schedule, or what a node gets.
 #[derive(Clone, Copy)]
@@ -58,3 +61,13 @@ pub fn check_asked(words: &[String]) -> Option<Checked<'_>>
         _ => None,
     }
 }
+
+/// A law, whatever the bytes: the bad line that a check finds is the one that a replay names, and of a node's input the one
+/// that a node names which may host its roles.
+#[tactic(auto, using(crate::proofs::Named::of_replay, crate::proofs::Named::of_node))]
+pub fn checks_name_the_same_line()
+    ensures replayed { (bytes : List ℕ)
+        → first_bad_line false bytes ≡ bad_line (replay_input bytes) }
+    ensures hosted { (bytes : List ℕ)
+        → first_bad_line true bytes ≡ bad_line_of_node (node_input bytes) }
+{}

@@ -33,9 +33,10 @@ kinds =
     codes "client" ∷ codes "batcher" ∷ codes "leader" ∷ codes "proxy" ∷ codes "acceptor" ∷ codes "match" ∷ codes "replica"
     ∷ codes "unbatcher" ∷ codes "reader" ∷ codes "replacer" ∷ []
 
+-- of more than one letter
 abbrev pub keys : List (List ℕ)
 keys =
-    codes "f" ∷ codes "leaders" ∷ codes "proxies" ∷ codes "acceptors" ∷ codes "replicas" ∷ codes "batchers" ∷ codes "unbatchers"
+    codes "leaders" ∷ codes "proxies" ∷ codes "acceptors" ∷ codes "replicas" ∷ codes "batchers" ∷ codes "unbatchers"
     ∷ codes "readers" ∷ codes "clients" ∷ codes "batch" ∷ codes "base_port" ∷ codes "pool" ∷ codes "replacers"
     ∷ codes "one_entry_a_grid" ∷ codes "own_proxies" ∷ []
 

@@ -31,8 +31,8 @@ const KINDS: [&str; 10] = [
     "replacer",
 ];
 
-const KEYS: [&str; 15] = [
-    "f",
+// Not `f`, which each other letter would be taken for.
+const KEYS: [&str; 14] = [
     "leaders",
     "proxies",
     "acceptors",
