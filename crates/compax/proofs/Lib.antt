@@ -1,6 +1,7 @@
 pub mod Flags
 pub mod Hosting
 pub mod Matching
+pub mod Named
 pub mod Naming
 pub mod Numbers
 pub mod Once

@@ -1,4 +1,5 @@
 pub mod Answer
+pub mod Checked
 pub mod Further
 pub mod Line
 pub mod Roles

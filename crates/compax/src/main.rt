@@ -1,4 +1,5 @@
-//! The program: `replay` runs a schedule, `gen` generated events, `node` roles over UDP and files.
+//! The program: `replay` runs a schedule, `gen` generated events, `node` roles over UDP and files;
+//! `check` says what is wrong with a file.
 //!
 //! Its theorem is the contract of `top`: Done only with the whole text of the run written, any other
 //! status with its cause and a prefix of it; the run is lawful (`IsLawful`: agreement, one command
@@ -6,12 +7,14 @@
 //! matchmakers, recovery, no dead ends); a node does exactly what the run of its roles says.
 #![tactic(auto)]
 
+mod checked;
 mod further;
 mod line;
 mod roles;
 mod top;
 mod words;
 
+use crate::checked::{Checked, check_asked};
 use crate::further::{Further, further_of};
 use crate::line::write_line;
 use crate::top::top;
@@ -20,9 +23,11 @@ use cx_base::{
     ACCEPTORS, CLIENTS, Kind, MATCHMAKERS, NoMemory, PROXIES, REPLACERS, ROLES, RoleId, Status,
 };
 use cx_edge::{FileDepot, ReaderSource, RemarkingSink, Sink, Trouble, UdpLink, WriterSink};
+use cx_explain::check;
 use std::alloc::Global;
 use std::env;
-use std::io::ErrorKind;
+use std::fs::File;
+use std::io::{self, ErrorKind};
 use std::process::ExitCode;
 
 // The words, the first of which is the program's name. Where they cannot be had, since one of them is no text or memory ran
@@ -109,6 +114,35 @@ fn run<E: Sink>(rt: &HostRuntime, words: &[String], err: &mut E) -> Result<Statu
     Ok(status)
 }
 
+// Checks a file, and says what is wrong with it.
+fn check_file<E: Sink>(rt: &HostRuntime, asked: &Checked<'_>, err: &mut E) -> io::Result<Status> {
+    let mut input = ReaderSource::new(File::open(rt, asked.file)?);
+    let name = asked.file.as_bytes();
+    Ok(check(rt.alloc(), asked.node, name, &mut input, err))
+}
+
+// The line of a bad input is said already.
+fn write_other<E: Sink>(err: &mut E, status: Status) -> Status {
+    match status {
+        Status::BadInput { .. } => {}
+        _ => write_line(err, &status),
+    }
+    status
+}
+
+// Checks a file; where it can't be opened, what the system said of it is one more line.
+fn checked_file<E: Sink>(rt: &HostRuntime, asked: &Checked<'_>, err: &mut E) -> Status {
+    match check_file(rt, asked, err) {
+        Ok(status) => write_other(err, status),
+        Err(error) => {
+            write_line(err, &Status::ReadFault);
+            let name = asked.file;
+            say(rt, Some(Trouble::File { name, error }));
+            Status::ReadFault
+        }
+    }
+}
+
 fn main(rt: HostRuntime) -> ExitCode {
     let mut err = WriterSink::new(rt.stderr());
     let words = match arguments(&rt) {
@@ -118,6 +152,9 @@ fn main(rt: HostRuntime) -> ExitCode {
             return ExitCode::from(status.exit());
         }
     };
+    if let Some(asked) = check_asked(&words) {
+        return ExitCode::from(checked_file(&rt, &asked, &mut err).exit());
+    }
     match run(&rt, &words, &mut err) {
         Ok(status) => ExitCode::from(status.exit()),
         Err(NoMemory) => {

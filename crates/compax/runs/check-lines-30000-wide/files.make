@@ -1,0 +1,1 @@
+a.schedule wide 30000

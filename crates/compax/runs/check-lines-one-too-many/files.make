@@ -1,0 +1,1 @@
+a.schedule ticks 65536

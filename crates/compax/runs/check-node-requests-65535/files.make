@@ -1,0 +1,1 @@
+node.input padded 65535

@@ -1,0 +1,4 @@
+use Rattle.cx_explain.proofs.meant.near_word.Goals as goal
+
+pub returns : goal.returns
+returns c = c.in_ok-nearest.ensures
