@@ -74,7 +74,7 @@ module _ (w : World) (batcher : ℕ) (command : Command) (counts : HasCounts w.c
       → Goes (IsAnswered command) c (record { kept = reverse w.kept; sent = w.sent; states = states })
   from_opened states fresh = caught_up (IsAnswered command) c Passes Free (record { kept = reverse w.kept; sent = w.sent; states = states })
       (positive c.f c.replicas counts.replicas)
-      (λ p low. (replica_rules.fresh c, fresh kind.Replica (inr (inr (inr (inr (inr (inl refl)))))) p low)) sound.ring
+      (λ p low. (replica_rules.fresh c replica_rules.empty, fresh kind.Replica (inr (inr (inr (inr (inr (inl refl)))))) p low)) sound.ring
       (λ v t. (and_parts (names_value c v) (tell_less command.client command.seq v) t).0) all_pass still_free all_free
       (λ y up.
       let left = up.left in
@@ -87,7 +87,7 @@ module _ (w : World) (batcher : ℕ) (command : Command) (counts : HasCounts w.c
         base = record {
           steady = λ p m. up.steady p (low p m);
           store = λ p m. refl;
-          proxies = λ q l. (proxy_rules.fresh c, left.states (role kind.Proxy q) refl ∙ fresh kind.Proxy (inr (inr (inl refl))) q l);
+          proxies = λ q l. (proxy_rules.fresh c tt, left.states (role kind.Proxy q) refl ∙ fresh kind.Proxy (inr (inr (inl refl))) q l);
           acceptors = λ q l. left.states (role kind.Acceptor q) refl ∙ fresh kind.Acceptor (inr (inr (inr (inl refl)))) q l;
           matchmakers = λ q l. left.states (role kind.Matchmaker q) refl ∙ fresh kind.Matchmaker (inr (inr (inr (inr (inl refl))))) q l;
           unbatchers =

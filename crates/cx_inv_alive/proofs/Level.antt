@@ -148,7 +148,7 @@ module _ (w : World) (h b : ℕ) (command : Command) (counts : HasCounts w.clust
     pub acceptors : (a : ℕ) → nat_lt a c.acceptors ≡ true → x.states (role kind.Acceptor a) ≡ Plain
     pub matchmakers : (m : ℕ) → nat_lt m c.pool ≡ true → x.states (role kind.Matchmaker m) ≡ Plain
     pub unbatchers : (u : ℕ) → nat_lt u c.unbatchers ≡ true → x.states (role kind.Unbatcher u) ≡ Plain
-    pub batcher : x.states (role kind.Batcher b) ≡ BatcherIn (batcher_rules.fresh c)
+    pub batcher : x.states (role kind.Batcher b) ≡ BatcherIn (batcher_rules.fresh c tt)
     pub handed : Member (submitted command b) x.sent
 
   -- all roles were just opened, and of the stores only replicas' have changed
@@ -256,7 +256,7 @@ module _ (w : World) (h b : ℕ) (command : Command) (counts : HasCounts w.clust
       let at_end : t.cw ≡ e = exact_end t.cw h e (le_plus h (length vs)) reached grown.top in
       let same : t ≡ settled_at t e = at_ready t e grown.mode at_end (grown.next ∙ ap (λ n. max e n) at_end ∙ max_same e) in
       answered c 0 r 0 e b command counts.leaders counts.acceptors replicated counts.unbatchers batched (values_end ps told)
-      known z t (batcher_rules.fresh c) (left.sent (submitted command b) (s.left.sent (submitted command b) base.handed))
+      known z t (batcher_rules.fresh c tt) (left.sent (submitted command b) (s.left.sent (submitted command b) base.handed))
       (left.leaders 0 refl ∙ s.left.leaders 0 refl ∙ own)
       (is ∙ ap (λ (q : LeaderVolatile). LeaderIn q) same)
       (left.states (role kind.Batcher b) refl ∙ s.left.states (role kind.Batcher b) refl ∙ base.batcher)

@@ -196,9 +196,9 @@ module _ (goal : World → Type 0) (c : Cluster) (x : Moment) (j : ℕ) where
       (λ w. refl) row
 
   -- a proxy is stopped and opened again
-  pub fresh_proxy : nat_lt j c.proxies ≡ true → Goes goal c (moved (role kind.Proxy j) (ProxyIn (proxy_rules.fresh c)) None [] x)
+  pub fresh_proxy : nat_lt j c.proxies ≡ true → Goes goal c (moved (role kind.Proxy j) (ProxyIn (proxy_rules.fresh c tt)) None [] x)
       → Goes goal c x
   fresh_proxy there next =
       reopened c x.kept x.sent kind.Proxy proxies goal j x.states there
-      (subst (λ l. CanReach goal c x.kept l (set_state (role kind.Proxy j) (ProxyIn (proxy_rules.fresh c)) x.states))
+      (subst (λ l. CanReach goal c x.kept l (set_state (role kind.Proxy j) (ProxyIn (proxy_rules.fresh c tt)) x.states))
       (append-nil x.sent) next)

@@ -68,7 +68,7 @@ held_after d x slot is = ap (λ n. d.first + n) (length-append d.log (x ∷ []))
 
 module _ (c : Cluster) (l r a q slot cw : ℕ) (value : Value) (led : nat_lt l c.leaders ≡ true) (there : nat_lt a c.acceptors ≡ true)
     (proxied : nat_lt q c.proxies ≡ true) (named : names_value c value ≡ true) (low : nat_lt slot cw ≡ false) where
-  row_propose : proxy_row c (role kind.Proxy q) tt (proxy_rules.fresh c)
+  row_propose : proxy_row c (role kind.Proxy q) tt (proxy_rules.fresh c tt)
       (input.Take (letter (role kind.Leader l) (role kind.Proxy q) (msg.Propose (lead_round l r) (single_grid a) slot cw value)))
       ≡ ask c (role kind.Proxy q) (record { known = max 0 cw; pending = [] }) (pending_of (lead_round l r) (single_grid a) slot cw value)
   row_propose = rw (led, there, proxied, named, same_role-itself (role kind.Proxy q), not_past slot cw low) refl
@@ -302,7 +302,7 @@ module _ (goal : World → Type 0) (c : Cluster) (l r a cw : ℕ) (led : nat_lt 
         rest)
 
     abbrev started : Moment → Moment
-    started x = moved proxy (ProxyIn (proxy_rules.fresh c)) None [] x
+    started x = moved proxy (ProxyIn (proxy_rules.fresh c tt)) None [] x
 
     abbrev asked : Outcome ProxyVolatile
     asked = ask c proxy (record { known = max 0 cw; pending = [] }) (pending_of i (single_grid a) slot cw value)
@@ -331,7 +331,7 @@ module _ (goal : World → Type 0) (c : Cluster) (l r a cw : ℕ) (led : nat_lt 
             runs =
                 state_other voter_role (role kind.Replica p) Plain (asking_at x).states refl
                 ∙ state_other proxy (role kind.Replica p) (ProxyIn waiting) (started x).states refl
-                ∙ state_other proxy (role kind.Replica p) (ProxyIn (proxy_rules.fresh c)) x.states refl ∙ h.runs;
+                ∙ state_other proxy (role kind.Replica p) (ProxyIn (proxy_rules.fresh c tt)) x.states refl ∙ h.runs;
             count = ap (λ e. held e) (same p) ∙ h.count;
           },
           same p,
@@ -340,7 +340,7 @@ module _ (goal : World → Type 0) (c : Cluster) (l r a cw : ℕ) (led : nat_lt 
         rest y
         (record {
           left = left_then keeps_served moves_served x (started x) y
-              (left_moved keeps_served moves_served proxy (ProxyIn (proxy_rules.fresh c)) [] x refl)
+              (left_moved keeps_served moves_served proxy (ProxyIn (proxy_rules.fresh c tt)) [] x refl)
               (left_then keeps_served moves_served (started x) (asking_at x) y (left_moved keeps_served moves_served proxy (ProxyIn waiting)
               asked.sends (started x) refl) (left_then keeps_served moves_served (asking_at x) u y step
               (left_then keeps_served moves_served u (announced u) y (left_moved keeps_served moves_served proxy (ProxyIn settled) news u
@@ -370,7 +370,7 @@ module _ (goal : World → Type 0) (c : Cluster) (l r a cw : ℕ) (led : nat_lt 
                       ∙ state_other proxy (role kind.Proxy n) (ProxyIn settled) u.states f
                       ∙ state_other voter_role (role kind.Proxy n) Plain (asking_at x).states refl
                       ∙ state_other proxy (role kind.Proxy n) (ProxyIn waiting) (started x).states f
-                      ∙ state_other proxy (role kind.Proxy n) (ProxyIn (proxy_rules.fresh c)) x.states f ∙ b.1,
+                      ∙ state_other proxy (role kind.Proxy n) (ProxyIn (proxy_rules.fresh c tt)) x.states f ∙ b.1,
                 )
           ];
         }))
@@ -386,11 +386,11 @@ module _ (goal : World → Type 0) (c : Cluster) (l r a cw : ℕ) (led : nat_lt 
         let d = proposed_over c l r a cw (record { slot = slot; value = value }) in
         let votes = durable_of acceptor_rules voter_role x.kept in
         let plain : (asking_at x).states voter_role ≡ Plain = state_other proxy voter_role (ProxyIn waiting) (started x).states refl
-        ∙ state_other proxy voter_role (ProxyIn (proxy_rules.fresh c)) x.states refl ∙ ready.plain in
+        ∙ state_other proxy voter_role (ProxyIn (proxy_rules.fresh c tt)) x.states refl ∙ ready.plain in
         let there2 : Member wanted (asking_at x).sent =
         Member-second wanted (started x).sent asked.sends (asks_acceptor c l r a q slot cw value led there proxied named low) in
-        fresh_proxy goal c x q proxied (to_proxy goal c (started x) q d (Member-first d x.sent [] m) (proxy_rules.fresh c) asked refl
-        (state_own proxy (ProxyIn (proxy_rules.fresh c)) x.states) (row_propose c l r a q slot cw value led there proxied named low)
+        fresh_proxy goal c x q proxied (to_proxy goal c (started x) q d (Member-first d x.sent [] m) (proxy_rules.fresh c tt) asked refl
+        (state_own proxy (ProxyIn (proxy_rules.fresh c tt)) x.states) (row_propose c l r a q slot cw value led there proxied named low)
         (elim (bool_cases (is_of_round i (vote_at slot votes.votes))) [
           | inl old ↦
               to_acceptor goal c (asking_at x) a wanted there2 (replied why.Same (tt {0}) (vote ∷ [])) refl plain

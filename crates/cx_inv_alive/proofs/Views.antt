@@ -98,6 +98,15 @@ module _ (c : Cluster) (kept : List KeptRecord) (sent : List Letter) where
     abbrev me : RoleId
     me = role k j
 
+    -- its volatile part when it is opened
+    abbrev fresh : V
+    fresh = the.rules.fresh c (durable_of the.rules me kept)
+
+    -- its durable part, by the records
+    left_in : (states : RoleId → State) (w : World) → View c kept sent states w
+        → durable_part the.rules me w.kept ≡ durable_of the.rules me kept
+    left_in states w view = durable_by_time the.rules me w.kept ∙ ap (λ h. durable_of the.rules me h) view.history
+
     taken : (states : RoleId → State) (w : World) → View c kept sent states w → (v : V) → states me ≡ the.make v
         → (i : Input) (o : Outcome V) → the.rules.row c me (durable_of the.rules me kept) v i ≡ o
         → (e : Event) → change w e ≡ act_at w (Give i Whole) me
@@ -106,8 +115,7 @@ module _ (c : Cluster) (kept : List KeptRecord) (sent : List Letter) where
     taken states w view v is i o row e means =
         let act = Give i Whole in
         let there : the.get (w.roles me) ≡ Some v = ap the.get (view.running me ∙ is) ∙ the.got v in
-        let durable : durable_part the.rules me w.kept ≡ durable_of the.rules me kept =
-        durable_by_time the.rules me w.kept ∙ ap (λ h. durable_of the.rules me h) view.history in
+        let durable = left_in states w view in
         let t : turn the.rules w.cluster me (durable_part the.rules me w.kept) act (Some v) ≡ whole_turn o =
         ap (λ x. turn the.rules x me (durable_part the.rules me w.kept) act (Some v)) view.cluster
         ∙ ap (λ d. turn the.rules c me d act (Some v)) durable
@@ -161,24 +169,27 @@ module _ (c : Cluster) (kept : List KeptRecord) (sent : List Letter) where
         (sym (the.acts w Stop j)) (after_stop states w view (the.get (w.roles me)))
 
     woken : (states : RoleId → State) (w : World) → View c kept sent states w → states me ≡ Down → names_role c me ≡ true
-        → View c kept sent (set_state me (the.make (the.rules.fresh c)) states) (step w (event.Restart me))
+        → View c kept sent (set_state me (the.make fresh) states) (step w (event.Restart me))
     unfolding step
     woken states w view is named =
-        let after = changed the.make me w.roles (still (Some (the.rules.fresh c)) why.Opened) in
+        let after = changed the.make me w.roles (still (Some fresh) why.Opened) in
         let there : the.get (w.roles me) ≡ None = ap the.get (view.running me ∙ is) ∙ the.down in
         let is_change : act_at w Wake me ≡ after =
         the.acts w Wake j
         ∙ ap (λ x. turned the.rules the.make w.cluster w.roles w.kept Wake me x) there ∙ ap (λ x. changed the.make me w.roles
-        (if names_role x me then still (Some (the.rules.fresh x)) why.Opened else still None why.Down)) view.cluster
-        ∙ ap (λ b. changed the.make me w.roles (if b then still (Some (the.rules.fresh c)) why.Opened else still None why.Down)) named in
-        subst (λ ch. View c kept sent (set_state me (the.make (the.rules.fresh c)) states) (world_after w (event.Restart me) ch))
-        (sym is_change) (set_view states w view (event.Restart me) after me (the.make (the.rules.fresh c)) refl refl refl)
+        (if names_role x me then still (Some (the.rules.fresh x (durable_part the.rules me w.kept))) why.Opened
+        else still None why.Down)) view.cluster
+        ∙ ap (λ d. changed the.make me w.roles
+        (if names_role c me then still (Some (the.rules.fresh c d)) why.Opened else still None why.Down)) (left_in states w view)
+        ∙ ap (λ b. changed the.make me w.roles (if b then still (Some fresh) why.Opened else still None why.Down)) named in
+        subst (λ ch. View c kept sent (set_state me (the.make fresh) states) (world_after w (event.Restart me) ch))
+        (sym is_change) (set_view states w view (event.Restart me) after me (the.make fresh) refl refl refl)
 
     -- a role is stopped and opened again
     pub reopened : (states : RoleId → State) → names_role c me ≡ true
-        → CanReach goal c kept sent (set_state me (the.make (the.rules.fresh c)) states) → CanReach goal c kept sent states
+        → CanReach goal c kept sent (set_state me (the.make fresh) states) → CanReach goal c kept sent states
     reopened states named next w view =
-        let s = the.make (the.rules.fresh c) in
+        let s = the.make fresh in
         let u = step w (event.Crash me) in
         let a = woken (set_state me Down states) u (stopped states w view) (state_own me Down states) named in
         let r = next (step u (event.Restart me)) (record {

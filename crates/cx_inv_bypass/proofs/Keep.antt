@@ -2,7 +2,8 @@
 use Rattle.cx_inv_run.proofs.Common.{◌≡◌, ℕ, false, ◌⊎◌, List, [], ◌∷◌, ◌++◌, Option, None, Some, sym, subst, inl, inr, append-nil, Cluster}
 use Rattle.cx_inv_run.proofs.Common.{Event, Kind, RoleId, role, same_role, Letter, KeptRecord, Record, LeaderDurable, LeaderVolatile}
 use Rattle.cx_inv_run.proofs.Common.{leader_rules, leader_row, round_of, Outcome, request, run, Lands, Laws, anything, State, Down, Plain}
-use Rattle.cx_inv_run.proofs.Common.{BatcherIn, LeaderIn, ProxyIn, ReplicaIn, ReaderIn, ReplacerIn, plain, fresh_state, set_state, snap_by}
+use Rattle.cx_inv_run.proofs.Common.{BatcherIn, LeaderIn, ProxyIn, ReplicaIn, ReaderIn, ReplacerIn, plain, fresh_state, opened_state}
+use Rattle.cx_inv_run.proofs.Common.{set_state, snap_by}
 use Rattle.cx_inv_run.proofs.Common.{with_record, durable_of, HoldsIn, by_role, durable_own, durable_other, durable_else, set_running}
 use Rattle.cx_inv_run.proofs.Common.{always}
 use Rattle.cx_base.specs.declared.role.Kind.TheVariants as kind
@@ -63,6 +64,11 @@ fresh_full history sent c me kind.Unbatcher = tt
 fresh_full history sent c me kind.Reader = tt
 fresh_full history sent c me kind.Replacer = tt
 
+opened_full : (history : List KeptRecord) (sent : List Letter) (c : Cluster) (me : RoleId) (k : Kind)
+    → FullState history sent me (opened_state c me history k)
+opened_full history sent c me kind.Replacer = tt
+opened_full history sent c me other = fresh_full history sent c me other
+
 module _ (history : List KeptRecord) (sent : List Letter) (states : RoleId → State) (h : Full history sent states) where
   -- a role's step, with what it leaves of its own
   after_step : (me : RoleId) (r : Option Record) (ds : List Letter) (s : State) → FullState (with_record me r history) (sent ++ ds) me s
@@ -102,7 +108,8 @@ full_laws c = record {
   same = λ kept sent states others same h a. subst (λ (s : State). FullState kept sent a s) (same a) (h a);
   start = λ states starts a. start_full c a a.kind (states a) (starts a);
   stop = λ kept sent states me h. calm_step kept sent states h me None Down tt;
-  wake = λ kept sent states me h down. calm_step kept sent states h me None (fresh_state c me.kind) (fresh_full kept sent c me me.kind);
+  wake = λ kept sent states me h down. calm_step kept sent states h me None (opened_state c me kept me.kind)
+      (opened_full kept sent c me me.kind);
   ask = λ kept sent states n e allowed known h a. sent_more kept sent (request n e) a (states a) (h a);
   batcher = λ kept sent states b v i known h is given. lands_full kept sent states h (role kind.Batcher b) BatcherIn _ tt;
   leader = λ kept sent states l v i known h is given.

@@ -3,7 +3,8 @@
 use Rattle.cx_inv_run.proofs.Common.{◌≡◌, ◌≤◌, ◌+◌, ◌-◌, ℕ, Bool, true, false, not, ◌&&◌, ◌||◌, max, ◌==◌, List, [], ◌∷◌, ◌++◌, map, filter}
 use Rattle.cx_inv_run.proofs.Common.{Option, None, Some, ap, sym, subst, ◌∙◌, refl, inl, inr, arith, nat_le, nat_lt, length, if◌then◌else◌}
 use Rattle.cx_inv_run.proofs.Common.{slice_index_or, slice_set, true≢false, and_parts, not-false, nat_tests, same_Some, Cluster, Command}
-use Rattle.cx_inv_run.proofs.Common.{Placed, Value, Lead, Collect, Replace, RoleId, Round, Why, Shape, is_in, below, numbers, same_role}
+use Rattle.cx_inv_run.proofs.Common.{Placed, Value, Lead, Collect, Offer, Replace, RoleId, Round, Why, Shape, is_in, below, numbers}
+use Rattle.cx_inv_run.proofs.Common.{same_role}
 use Rattle.cx_inv_run.proofs.Common.{lead_after, change_after, is_above, Entry, Letter, Input, Take, Tick, Order, Record, Msg, Mode, Idle}
 use Rattle.cx_inv_run.proofs.Common.{Matching, Phase1, Leading, Collection, with_informed, with_forgotten, is_off, is_informing}
 use Rattle.cx_inv_run.proofs.Common.{is_collecting, is_retired, IsProposed, LeaderDurable, LeaderVolatile, leader_after, round_of, is_own}
@@ -285,6 +286,7 @@ module _ (c : Cluster) (me : RoleId) (sent : List Letter) (d : LeaderDurable) (v
       (λ f. begin_full g (change_after (round_of d.own)) (λ i e t. (round_of d.own, e, while_leading (not-false _ f)))))
   order_full Collect = either_way Good (is_leading v.mode) _ _ (collect_full d.own) (same why.Idle refl)
   order_full (Replace s) = same why.Stranger refl
+  order_full (Offer to s) = same why.Stranger refl
 
   takes_full : (from : RoleId) (m : Msg) → Good (leader_takes c me d v from m)
   takes_full from (msg.MatchB i w es) =

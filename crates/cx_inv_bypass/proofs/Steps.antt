@@ -1,7 +1,8 @@
 -- The word `bypassed` of an event is that of a leader's row, so the event does what the row does.
 use Rattle.cx_inv_run.proofs.Common.{◌≡◌, ◌≤◌, ◌<◌, ℕ, ◌+◌, ◌-◌, Bool, true, false, List, [], ◌∷◌, ◌++◌, map, reverse, Option, Some, None}
 use Rattle.cx_inv_run.proofs.Common.{ap, sym, ◌∙◌, subst, refl, inl, inr, arith, slice_get, length, true≢false, same_Some, Cluster, Placed}
-use Rattle.cx_inv_run.proofs.Common.{Value, Cut, Whole, Torn, Kept, Event, Replace, Kind, RoleId, Round, Shape, below, role, change_after}
+use Rattle.cx_inv_run.proofs.Common.{Value, Cut, Whole, Torn, Kept, Event, Offer, Replace, Kind, RoleId, Round, Shape, below, role}
+use Rattle.cx_inv_run.proofs.Common.{change_after}
 use Rattle.cx_inv_run.proofs.Common.{Entry, Token, Letter, Act, Give, Snap, Stop, Wake, Input, Record, Msg, IsProposed, heard_by}
 use Rattle.cx_inv_run.proofs.Common.{finish_with, finish_by, LeaderDurable, LeaderVolatile, leader_rules, leader_row, round_of, bypass}
 use Rattle.cx_inv_run.proofs.Common.{leads_to, propose_to, Member, names_role, Outcome, either_way, OfEveryRun, is_stale, request, Turn}
@@ -184,7 +185,9 @@ module _ (c : Cluster) (w : World) (is_c : w.cluster ≡ c) (full : HoldsIn Full
     turn_did (Snap cut) None found word = other_word refl word
     turn_did (Snap cut) (Some v) found word = other_word refl word
     turn_did Wake None found word =
-        either_way DoneBy (names_role c (role kind.Leader l)) (still (Some (leader_rules.fresh c)) why.Opened) (still None why.Down)
+        let d = durable_part leader_rules (role kind.Leader l) w.kept in
+        either_way DoneBy (names_role c (role kind.Leader l)) (still (Some (leader_rules.fresh c d)) why.Opened)
+        (still None why.Down)
         (λ word. other_word refl word) (λ word. other_word refl word) word
     turn_did Wake (Some v) found word = other_word refl word
 
@@ -244,6 +247,7 @@ module _ (c : Cluster) (w : World) (is_c : w.cluster ≡ c) (full : HoldsIn Full
     event_did (event.Tick r) = at_did (Give input.Tick Whole) r
     event_did (event.Order l order cut) = at_did (Give (input.Order order) cut) (role kind.Leader l)
     event_did (event.Replace x s cut) = at_did (Give (input.Order (Replace s)) cut) (role kind.Replacer x)
+    event_did (event.Offer p to s) = at_did (Give (input.Order (Offer to s)) Whole) (role kind.Replica p)
     event_did (event.Crash r) = at_did Stop r
     event_did (event.Snap r cut) = at_did (Snap cut) r
     event_did (event.Restart r) = at_did Wake r

@@ -1,6 +1,6 @@
 -- Each step keeps what matchmakers' and acceptors' answers say, so they say it in every run.
 use Rattle.cx_inv_run.proofs.Common.{◌≡◌, ℕ, true, false, ◌&&◌, ◌⊎◌, List, [], ◌∷◌, Option, None, Some, sym, subst, refl, inl, inr, arith}
-use Rattle.cx_inv_run.proofs.Common.{bytes_eq, if◌then◌else◌, nat_le, nat_lt, length, list_any, and_parts, Cluster, Event, Kind, RoleId}
+use Rattle.cx_inv_run.proofs.Common.{bytes_eq, if◌then◌else◌, nat_le, nat_lt, list_any, and_parts, Cluster, Event, Kind, RoleId}
 use Rattle.cx_inv_run.proofs.Common.{Round, is_in, role, same_role, is_before, same_round, no_round, Entry, Letter, Input, KeptRecord}
 use Rattle.cx_inv_run.proofs.Common.{Record, Msg, AcceptorDurable, acceptor_rules, acceptor_takes, acceptor_row, vote_at, is_of_round}
 use Rattle.cx_inv_run.proofs.Common.{leader_rules, MatchmakerDurable, matchmaker_rules, matchmaker_takes, matchmaker_row, entry}

@@ -5,11 +5,11 @@ use Rattle.cx_inv_run.proofs.Common.{KeptRecord, Record, Msg, Stage, Off, Inform
 use Rattle.cx_inv_run.proofs.Common.{IsProposed, IsRetiring, LeaderDurable, LeaderVolatile, leader_rules, leader_row, leader_after}
 use Rattle.cx_inv_run.proofs.Common.{round_of, matchmaker_rules, Member, Outcome, HasKept, IsConfig, reader_rules, replacer_rules}
 use Rattle.cx_inv_run.proofs.Common.{replica_rules, request, IsSender, IsKept, OfKind, Lands, Laws, State, Down, BatcherIn, LeaderIn}
-use Rattle.cx_inv_run.proofs.Common.{ProxyIn, ReplicaIn, ReaderIn, ReplacerIn, plain, fresh_state, set_state, entry_by, snap_by}
-use Rattle.cx_inv_run.proofs.Common.{with_record, durable_of, Given, durable_own, durable_other, set_running, kept_longer, Member-first}
-use Rattle.cx_inv_run.proofs.Common.{Member-one, before-itself, snap_same, batcher_kinds, proxy_kinds, acceptor_kinds, matchmaker_kinds}
-use Rattle.cx_inv_run.proofs.Common.{acceptor_snap_same, reader_snap_same}
-use Rattle.cx_inv_run.proofs.Common.{replica_kinds, unbatcher_kinds, reader_kinds, leader_kinds, replacer_kinds}
+use Rattle.cx_inv_run.proofs.Common.{ProxyIn, ReplicaIn, ReaderIn, ReplacerIn, plain, fresh_state, opened_state, set_state, entry_by}
+use Rattle.cx_inv_run.proofs.Common.{snap_by, with_record, durable_of, Given, durable_own, durable_other, set_running, kept_longer}
+use Rattle.cx_inv_run.proofs.Common.{Member-first, Member-one, before-itself, snap_same, batcher_kinds, proxy_kinds, acceptor_kinds}
+use Rattle.cx_inv_run.proofs.Common.{matchmaker_kinds, acceptor_snap_same, reader_snap_same, replica_kinds, unbatcher_kinds, reader_kinds}
+use Rattle.cx_inv_run.proofs.Common.{leader_kinds, replacer_kinds}
 use Rattle.cx_inv_match.specs.Prelude.{InState, IsChosenIn}
 use Rattle.cx_base.specs.declared.event.Event.TheVariants as event
 use Rattle.cx_base.specs.declared.role.Kind.TheVariants as kind
@@ -185,6 +185,11 @@ module _ (i : Round) (cw end : ℕ) where
     fresh_ended c history sent a kind.Leader = λ e. inl refl
     fresh_ended c history sent a other = tt
 
+    opened_ended : (c : Cluster) (history : List KeptRecord) (sent : List Letter) (me : RoleId) (k : Kind)
+        → EndedState history sent i cw end me (opened_state c me history k)
+    opened_ended c history sent a kind.Replacer = tt
+    opened_ended c history sent a other = fresh_ended c history sent a other
+
     pub ended_laws : (c : Cluster) (g : Shape) → IsConfig past i g → Laws c (λ n e. Unit {0}) (Known c past) (EndedSince past i cw end)
     ended_laws c g config = record {
       same = λ history sent states others same h has.
@@ -198,7 +203,7 @@ module _ (i : Round) (cw end : ℕ) where
       stop = λ history sent states me h has.
           ended_after history history sent sent (λ k m. m) (λ d m. m) states (h has) me Down (λ t v x. inl x) (λ x. inl x) tt (λ a e. refl);
       wake = λ history sent states me h down has. ended_after history history sent sent (λ k m. m) (λ d m. m) states (h has) me
-          (fresh_state c me.kind) (λ t v x. inl x) (λ x. inl x) (fresh_ended c history sent me me.kind) (λ a e. refl);
+          (opened_state c me history me.kind) (λ t v x. inl x) (λ x. inl x) (opened_ended c history sent me me.kind) (λ a e. refl);
       ask = λ history sent states n e allowed known h has.
           let x = h has in
           record {

@@ -40,6 +40,7 @@ request_proposes n (event.Deliver number cut) j s v x = x.4
 request_proposes n (event.Tick r) j s v x = x.4
 request_proposes n (event.Order leader order cut) j s v x = x.4
 request_proposes n (event.Replace replacer set cut) j s v x = x.4
+request_proposes n (event.Offer replica to slot) j s v x = x.4
 request_proposes n (event.Crash r) j s v x = x.4
 request_proposes n (event.Snap r cut) j s v x = x.4
 request_proposes n (event.Restart r) j s v x = x.4

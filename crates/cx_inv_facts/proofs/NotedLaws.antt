@@ -4,8 +4,8 @@ use Rattle.cx_inv_run.proofs.Common.{Cluster, Event, Kind, RoleId, Round, Shape,
 use Rattle.cx_inv_run.proofs.Common.{KeptRecord, Record, HasRound, LeaderDurable, LeaderVolatile, leader_rules, leader_row, round_of, entry}
 use Rattle.cx_inv_run.proofs.Common.{Member, Outcome, HasKept, IsConfig, ProxyVolatile, proxy_row, request, World, run, records_of, Lands}
 use Rattle.cx_inv_run.proofs.Common.{Laws, State, Down, BatcherIn, LeaderIn, ProxyIn, ReplicaIn, ReaderIn, ReplacerIn, plain, fresh_state}
-use Rattle.cx_inv_run.proofs.Common.{set_state, snap_by, with_record, durable_of, Given, HoldsIn, durable_by_time, durable_other}
-use Rattle.cx_inv_run.proofs.Common.{set_running, kinds_hold, Member-first, any-Member, same_round-true, snap_same, always}
+use Rattle.cx_inv_run.proofs.Common.{opened_state, set_state, snap_by, with_record, durable_of, Given, HoldsIn, durable_by_time}
+use Rattle.cx_inv_run.proofs.Common.{durable_other, set_running, kinds_hold, Member-first, any-Member, same_round-true, snap_same, always}
 use Rattle.cx_inv_run.proofs.Common.{acceptor_snap_same, reader_snap_same}
 use Rattle.cx_base.specs.declared.role.Kind.TheVariants as kind
 use Rattle.cx_letter.specs.declared.kept.Record.TheVariants as kept
@@ -133,6 +133,11 @@ module _ (c : Cluster) where
   fresh_noted history sent me kind.Proxy = inl refl
   fresh_noted history sent me other = tt
 
+  opened_noted : (history : List KeptRecord) (sent : List Letter) (me : RoleId) (k : Kind)
+      → NotedState history sent me (opened_state c me history k)
+  opened_noted history sent a kind.Replacer = tt
+  opened_noted history sent a other = fresh_noted history sent a other
+
   noted_laws : Laws c (λ n e. Unit {0}) (Known c []) AreNoted
   noted_laws = record {
     same = λ history sent states others same h me. subst (λ (s : State). NotedState history sent me s) (same me) (h me);
@@ -142,7 +147,8 @@ module _ (c : Cluster) where
     ];
     stop = λ history sent states me h. noted_after history sent sent (λ d m. m) states h me None Down tt;
     wake = λ history sent states me h down.
-        noted_after history sent sent (λ d m. m) states h me None (fresh_state c me.kind) (fresh_noted history sent me me.kind);
+        noted_after history sent sent (λ d m. m) states h me None (opened_state c me history me.kind)
+        (opened_noted history sent me me.kind);
     ask = λ history sent states n e allowed known h me.
         state_more sent (sent ++ request n e) (λ d m. Member-first d sent (request n e) m) me history history refl (states me) (h me);
     batcher = λ history sent states b v j known h at given. landed history sent states h (role kind.Batcher b) BatcherIn _ tt;

@@ -18,7 +18,7 @@ use Rattle.cx_inv_run.proofs.Common.{vote_for, proxy_takes, proxy_tick, proxy_ro
 use Rattle.cx_inv_run.proofs.Common.{Member-filter, Member-is_in, same_round-true}
 use Rattle.cx_base.specs.declared.command.Value.TheVariants.{Batch}
 use Rattle.cx_base.specs.declared.event.Order.{Order as OrderOf}
-use Rattle.cx_base.specs.declared.event.Order.TheVariants.{Change}
+use Rattle.cx_base.specs.declared.event.Order.TheVariants.{Change, Offer}
 use Rattle.cx_base.specs.declared.role.Kind.TheVariants as kind
 use Rattle.cx_base.specs.declared.why.Why.TheVariants as why
 use Rattle.cx_letter.specs.declared.message.Msg.TheVariants as msg
@@ -387,6 +387,7 @@ module _ (c : Cluster) (history : List KeptRecord) (sent : List Letter) (states 
       (either_way NotesOn (not (is_leading v.mode)) _ _ (stays why.Idle) (begun g (change_after (round_of d.own))))
   ordered Collect = either_way NotesOn (is_leading v.mode) _ _ (collection_begun d.own) (stays why.Idle)
   ordered (Replace s) = stays why.Stranger
+  ordered (Offer to s) = stays why.Stranger
 
   pub notes_on : (j : Input) → Given sent me j → NotesOn (leader_row c me d v j)
   notes_on (Take x) given = either_way NotesOn (same_role x.to me && names c x)

@@ -7,12 +7,12 @@ use Rattle.cx_inv_run.proofs.Common.{replacer_rules, is_resting, is_stopping, is
 use Rattle.cx_inv_run.proofs.Common.{halt_counted, next_counted, replacer_takes, replacer_orders, replacer_row, State, durable_of}
 use Rattle.cx_inv_run.proofs.Common.{before-from_at_most}
 use Rattle.cx_base.specs.declared.event.Order.{Order as OrderOf}
-use Rattle.cx_base.specs.declared.event.Order.TheVariants.{Change}
+use Rattle.cx_base.specs.declared.event.Order.TheVariants.{Change, Offer}
 use Rattle.cx_base.specs.declared.role.Kind.TheVariants as kind
 use Rattle.cx_letter.specs.declared.kept.Record.TheVariants as kept
 use Rattle.cx_letter.specs.declared.message.Msg.TheVariants as msg
 use Rattle.cx_model.specs.declared.states.Replacing.TheVariants.{Idle}
-use Rattle.cx_model.specs.Replacer.{begin_in, boot_counted, tick_in}
+use Rattle.cx_model.specs.Replacer.{begin_in, boot_counted, known_record, known_set, tick_in}
 use Rattle.cx_inv_match.specs.Facts.{Facts}
 use Rattle.cx_inv_facts.proofs.Next.{AllNext, lead_after-above}
 
@@ -41,8 +41,11 @@ module _ (c : Cluster) (history : List KeptRecord) (sent : List Letter) (states 
   next_fine : (counted : List ℕ) → Fine (next_counted c me v counted)
   next_fine counted = either_way Fine (nat_lt (length counted) (enough c)) _ _ tt tt
 
-  boot_fine : (counted : List ℕ) → Fine (boot_counted c me v counted)
-  boot_fine counted = either_way Fine (nat_lt (length counted) (enough c)) _ _ tt tt
+  known_fine : (s : List ℕ) → AllNext history me (known_record c dur s)
+  known_fine s = either_way (AllNext history me) (c.keep_sets && is_above s (known_set c dur)) (Some (kept.Known s)) None tt tt
+
+  boot_fine : (counted : List ℕ) → Fine (boot_counted c me dur v counted)
+  boot_fine counted = either_way Fine (nat_lt (length counted) (enough c)) _ _ tt (known_fine v.next)
 
   takes_fine : (from : RoleId) (m : Msg) → Fine (replacer_takes c me dur v from m)
   takes_fine from (msg.StopB b w es a s) =
@@ -56,7 +59,7 @@ module _ (c : Cluster) (history : List KeptRecord) (sent : List Letter) (states 
       (either_way Fine (is_in from.index v.counted) _ _ tt (boot_fine (with_mark from.index v.counted)))
   takes_fine from (msg.StopNack b other) =
       either_way Fine (not (same_round b dur.own) || is_resting v.mode || is_booting v.mode) _ _ tt tt
-  takes_fine from (msg.Sets s) = either_way Fine (is_above s v.set) _ _ tt tt
+  takes_fine from (msg.Sets s) = either_way Fine (is_above s v.set) _ _ (known_fine s) tt
   takes_fine from other = tt
 
   tick_fine : (mode : Replacing) → Fine (tick_in c me dur v mode)
@@ -73,6 +76,7 @@ module _ (c : Cluster) (history : List KeptRecord) (sent : List Letter) (states 
   order_fine (Lead g) = tt
   order_fine (Change g) = tt
   order_fine Collect = tt
+  order_fine (Offer to s) = tt
 
   pub replacer_next : (i : Input) → AllNext history me (replacer_row c me dur v i).kept
   replacer_next (Take d) = either_way Fine (same_role d.to me && names c d) _ _ (takes_fine d.from d.msg) tt

@@ -1,10 +1,10 @@
 -- Each step keeps the facts on watermarks, so they hold in every run.
 use Rattle.cx_inv_run.proofs.Common.{ap, OfEveryRun, ReplicaDurable, before, replica_rules, Ties, durable_by_time, log_by_time, always}
 use Rattle.cx_inv_run.proofs.Common.{ties_hold, ◌≡◌, ◌⊎◌, ℕ, map, List, [], ◌∷◌, length, slice_get, Some, refl, zero, suc, sym, subst, inl}
-use Rattle.cx_inv_run.proofs.Common.{inr, arith, Cluster, Event, Kind, below, role, KeptRecord, acceptor_rules, leader_rules}
+use Rattle.cx_inv_run.proofs.Common.{inr, arith, Cluster, Event, Kind, RoleId, below, role, KeptRecord, acceptor_rules, leader_rules}
 use Rattle.cx_inv_run.proofs.Common.{matchmaker_rules, reader_rules, replacer_rules, request, run, Laws, State, Down, BatcherIn, LeaderIn}
-use Rattle.cx_inv_run.proofs.Common.{ProxyIn, ReplicaIn, ReaderIn, ReplacerIn, plain, fresh_state, durable_of, HoldsIn, length-below}
-use Rattle.cx_inv_run.proofs.Common.{batcher_kinds, matchmaker_kinds, unbatcher_kinds, reader_kinds, replacer_kinds}
+use Rattle.cx_inv_run.proofs.Common.{ProxyIn, ReplicaIn, ReaderIn, ReplacerIn, plain, fresh_state, opened_state, durable_of, HoldsIn}
+use Rattle.cx_inv_run.proofs.Common.{length-below, batcher_kinds, matchmaker_kinds, unbatcher_kinds, reader_kinds, replacer_kinds}
 use Rattle.cx_model.specs.Promises.{ForgottenIsKept}
 use Rattle.cx_inv_run.proofs.TieLaws.{tied_in}
 use Rattle.cx_inv_held.proofs.Keep.{low_snap, AllSayLow, none_low, one_low, both_low, low_with, low_lands}
@@ -46,6 +46,10 @@ module _ (c : Cluster) (kept : List KeptRecord) where
   fresh_low kind.Proxy = record { known = none_stored c kept; pending = λ p m. absurd m }
   fresh_low other = tt
 
+  opened_low : (me : RoleId) (k : Kind) → LowState c kept (opened_state c me kept k)
+  opened_low me kind.Replacer = tt
+  opened_low me other = fresh_low other
+
   request_low : (n : ℕ) (e : Event) → AllSayLow c kept (request n e)
   request_low n (event.Write command batcher) = one_low c kept _ tt
   request_low n (event.Read client seq floor reader replica key) = one_low c kept _ tt
@@ -63,7 +67,8 @@ low_laws c = record {
   start = λ states starts.
       record { records = λ who r m. absurd m; says = λ d m. absurd m; running = λ a. start_state c a.kind (states a) (starts a) };
   stop = λ kept sent states me h. low_with c kept sent states h me Down tt;
-  wake = λ kept sent states me h down. low_with c kept sent states h me (fresh_state c me.kind) (fresh_low c kept me.kind);
+  wake = λ kept sent states me h down.
+      low_with c kept sent states h me (opened_state c me kept me.kind) (opened_low c kept me me.kind);
   ask = λ kept sent states n e allowed known h.
       record { records = h.records; says = both_low c kept sent (request n e) h.says (request_low c kept n e); running = h.running };
   batcher = λ kept sent states b v i known h is given. low_lands c kept sent states h (role kind.Batcher b) BatcherIn

@@ -10,11 +10,11 @@ use Rattle.cx_inv_run.proofs.Common.{held_in, reader_rules, replacer_rules, IsTi
 use Rattle.cx_inv_run.proofs.Common.{chosen_row, fetch_found, fetch_row, fetched_by, held, read_row, replica_after, replica_renewed}
 use Rattle.cx_inv_run.proofs.Common.{replica_row, replica_rules, replica_takes, same_read, folded, list_after, list_of, log_of, run}
 use Rattle.cx_inv_run.proofs.Common.{IsKeeper, IsKept, OfKind, Lands, Laws, State, Down, BatcherIn, LeaderIn, ProxyIn, ReplicaIn, ReaderIn}
-use Rattle.cx_inv_run.proofs.Common.{ReplacerIn, plain, fresh_state, set_state, entry_by, snap_by, with_record, durable_of, log_in, Given}
-use Rattle.cx_inv_run.proofs.Common.{HoldsIn, Ties, by_role, durable_by_time, durable_else, durable_other, durable_own, log_by_time}
-use Rattle.cx_inv_run.proofs.Common.{log_other, log_own, log_snap, set_running, acceptor_kinds, batcher_kinds, matchmaker_kinds}
-use Rattle.cx_inv_run.proofs.Common.{proxy_kinds, reader_kinds, replica_kinds, unbatcher_kinds, leader_kinds, replacer_kinds, always}
-use Rattle.cx_inv_run.proofs.Common.{ties_hold, held_is}
+use Rattle.cx_inv_run.proofs.Common.{ReplacerIn, plain, fresh_state, opened_state, set_state, entry_by, snap_by, with_record, durable_of}
+use Rattle.cx_inv_run.proofs.Common.{log_in, Given, HoldsIn, Ties, by_role, durable_by_time, durable_else, durable_other, durable_own}
+use Rattle.cx_inv_run.proofs.Common.{log_by_time, log_other, log_own, log_snap, set_running, acceptor_kinds, batcher_kinds}
+use Rattle.cx_inv_run.proofs.Common.{matchmaker_kinds, proxy_kinds, reader_kinds, replica_kinds, unbatcher_kinds, leader_kinds}
+use Rattle.cx_inv_run.proofs.Common.{replacer_kinds, always, ties_hold, held_is}
 use Rattle.cx_base.specs.declared.role.Kind.TheVariants as kind
 use Rattle.cx_base.specs.Noted.{Table}
 use Rattle.cx_letter.specs.declared.input.Input.TheVariants as input
@@ -25,6 +25,7 @@ use Rattle.cx_model.specs.Promises.{appended}
 use Rattle.cx_model.specs.Replica.{notes_of, pieces, snap_limit}
 use Rattle.cx_inv_run.specs.States.{Property}
 use Rattle.cx_inv_run.proofs.Histories.{durable_none, durable_snap, log_none}
+use Rattle.cx_inv_run.proofs.Opening.{by_order}
 use Rattle.cx_inv_run.proofs.Sends.{keeps_only, replica_keeps}
 use Rattle.cx_inv_run.proofs.TieLaws.{by_replica}
 use Rattle.cx_inv_run.proofs.Tying.{snap_is}
@@ -145,7 +146,8 @@ module _ (c : Cluster) (history : List KeptRecord) (me : RoleId) (d : ReplicaDur
   row_few sent says (input.Take x) given =
       either_way IsFew (same_role x.to me && names c x) _ _ (takes_few x.from x.msg (says x given.1)) few
   row_few sent says input.Tick given = few
-  row_few sent says (input.Order order) given = few
+  row_few sent says (input.Order order) given =
+      by_order IsFew c me d v few few (λ to s n. few) order
 
 module _ (c : Cluster) (history : List KeptRecord) (sent : List Letter) (states : RoleId → State) (h : Stores c history sent states) where
   abbrev IsListedIn : List KeptRecord → ℕ → Type 0
@@ -340,6 +342,11 @@ fresh_fetched : (c : Cluster) (history : List KeptRecord) (p : ℕ) (k : Kind) �
 fresh_fetched c history p kind.Replica = omega arith
 fresh_fetched c history p other = tt
 
+opened_fetched : (c : Cluster) (a : RoleId) (history : List KeptRecord) (p : ℕ) (k : Kind)
+    → IsFetched c history p (opened_state c a history k)
+opened_fetched c a history p kind.Replacer = tt
+opened_fetched c a history p other = fresh_fetched c history p other
+
 start_fetched : (c : Cluster) (p : ℕ) (k : Kind) (s : State) → (s ≡ Down) ⊎ (s ≡ fresh_state c k) → IsFetched c [] p s
 start_fetched c p k s (inl e) = subst (λ x. IsFetched c [] p x) (sym e) tt
 start_fetched c p k s (inr e) = subst (λ x. IsFetched c [] p x) (sym e) (fresh_fetched c [] p k)
@@ -370,7 +377,7 @@ stores_laws c = record {
   };
   stop = λ history sent states me h. set_stores c history sent states h me Down (λ p. tt);
   wake = λ history sent states me h down.
-      set_stores c history sent states h me (fresh_state c me.kind) (λ p. fresh_fetched c history p me.kind);
+      set_stores c history sent states h me (opened_state c me history me.kind) (λ p. opened_fetched c me history p me.kind);
   ask = λ history sent states n e allowed known h. record { lists = h.lists; fetched = h.fetched; forgotten = h.forgotten };
   batcher = λ history sent states b v i known h is given. elsewhere c history sent states h (role kind.Batcher b) BatcherIn
       _ (batcher_kinds c (role kind.Batcher b) refl v i) (λ p. refl) (λ p. tt);

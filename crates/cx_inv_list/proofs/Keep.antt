@@ -1,15 +1,15 @@
 -- What is said of the list stays so when a record is kept; and what a row gives lands.
 use Rattle.cx_inv_run.proofs.Common.{◌≡◌, ◌⊎◌, ℕ, true, false, List, [], ◌∷◌, ◌++◌, take, length, inl, inr, ap, sym, subst, ◌∙◌, ⊎_elim}
-use Rattle.cx_inv_run.proofs.Common.{arith, append-nil, Option, None, Some, cases_Bool, length-append, take-append-le, Reply, RoleId, fold}
-use Rattle.cx_inv_run.proofs.Common.{text_at, role, same_role, Token, Letter, KeptRecord, Record, Msg, IsRight, Member, Begins, Outcome}
-use Rattle.cx_inv_run.proofs.Common.{make_token, values_in, Lands, State, Down, set_state, entry_by, snap_by, with_record, log_in}
-use Rattle.cx_inv_run.proofs.Common.{log_other, log_own, log_snap, same_role-true, set_running, Member-cases}
+use Rattle.cx_inv_run.proofs.Common.{arith, append-nil, slice_get, Option, None, Some, cases_Bool, length-append, take-append-le, Reply}
+use Rattle.cx_inv_run.proofs.Common.{Value, RoleId, fold, text_at, role, same_role, Token, Letter, KeptRecord, Record, Msg, IsRight, Member}
+use Rattle.cx_inv_run.proofs.Common.{Begins, Outcome, make_token, values_in, Lands, State, Down, set_state, entry_by, snap_by, with_record}
+use Rattle.cx_inv_run.proofs.Common.{log_in, log_other, log_own, log_snap, same_role-true, set_running, Member-cases}
 use Rattle.cx_base.specs.declared.role.Kind.TheVariants as kind
 use Rattle.cx_letter.specs.declared.input.Written.TheVariants as written
 use Rattle.cx_letter.specs.declared.message.Msg.TheVariants as msg
-use Rattle.cx_inv_list.specs.Told.{RequestPredicates, IsRightByReplica, IsAnswerToRead, ListSays, ListKeeps, InList, ListFacts}
+use Rattle.cx_inv_list.specs.Told.{RequestPredicates, IsAsKept, IsRightByReplica, IsAnswerToRead, ListSays, ListKeeps, InList, ListFacts}
 use Rattle.cx_inv_list.specs.Told.{ListKeepsRecord, IsListed}
-use Rattle.cx_inv_list.proofs.Right.{grown_right}
+use Rattle.cx_inv_list.proofs.Right.{get_front, grown_right}
 
 -- a replica's values only grow
 
@@ -51,12 +51,18 @@ module _ (q : RequestPredicates) (history longer : List KeptRecord) (grows : (p 
             ∙ ap (λ vs. text_at h.key (fold vs)) (sym (ap (λ vs. take n vs) more.1 ∙ take-append-le n (log_in history p) more.0 l));
       }
 
+  still_kept : (from : RoleId) (s : ℕ) (v : Value) → IsAsKept history from s v → IsAsKept longer from s v
+  still_kept from s v h is =
+      let more = grows from.index in
+      subst (λ vs. slice_get vs s ≡ Some v) (sym more.1) (get_front (log_in history from.index) more.0 s v (h is))
+
   pub still_says : (from to : RoleId) (m : Msg) → ListSays q history from to m → ListSays q longer from to m
   still_says from to (msg.Submit k) h = h
   still_says from to (msg.Batch ks) h = h
   still_says from to (msg.Phase1B i cw votes) h = h
   still_says from to (msg.Propose i g s cw v) h = h
   still_says from to (msg.Phase2A i s cw v) h = h
+  still_says from to (msg.Chosen s v) h = still_kept from s v h
   still_says from to (msg.Results s answers) h = λ a m. still_right from.index a.client a.seq a.at a.reply (h a m)
   still_says from to (msg.Answer seq at reply) h = still_noted to.index seq at reply h
   still_says from to (msg.ReadReq seq replica key) h = h

@@ -80,6 +80,8 @@ module _ (q : RequestPredicates) (k : Kind) (calm : IsCalm k) where
   calm_says history from to (msg.Phase1B i cw votes) s = absurd (subst IsCalm s calm)
   calm_says history from to (msg.Propose i g s cw v) e = absurd (subst IsCalm e calm)
   calm_says history from to (msg.Phase2A i s cw v) e = absurd (subst IsCalm e calm)
+  calm_says history from to (msg.Chosen at v) (inl e) = absurd (subst IsCalm e calm)
+  calm_says history from to (msg.Chosen at v) (inr e) = absurd (subst IsCalm e calm)
   calm_says history from to (msg.Results at answers) s = absurd (subst IsCalm s calm)
   calm_says history from to (msg.Answer seq at reply) s = absurd (subst IsCalm s calm)
   calm_says history from to (msg.ReadReq seq replica key) s = absurd (subst IsCalm s calm)

@@ -4,17 +4,19 @@ use Rattle.cx_inv_run.proofs.Common.{subst, ◌∙◌, ⊎_elim, refl, arith, ap
 use Rattle.cx_inv_run.proofs.Common.{list_any, length-append, take_all, Cluster, Value, RoleId, Round, Why, fold, text_at, below}
 use Rattle.cx_inv_run.proofs.Common.{ready_values, role, same_role, is_in, same_round, is_above, Asking, Entry, Letter, Input, Take, Tick}
 use Rattle.cx_inv_run.proofs.Common.{Order, KeptRecord, Msg, Deferred, IsRight, is_counted, greatest_watermark, is_member_of, members_of}
-use Rattle.cx_inv_run.proofs.Common.{live_entries, rows_whole, Member, names, Outcome, either_way, Asked, ReaderDurable, ReaderVolatile}
-use Rattle.cx_inv_run.proofs.Common.{make_token, IsTied, Machine, ReplicaDurable, ReplicaVolatile, held, machine_from, machine_of}
-use Rattle.cx_inv_run.proofs.Common.{replica_after, replica_rules, same_read, ReplicaIn, ReaderIn, entry_by, durable_of, log_in, log_own}
-use Rattle.cx_inv_run.proofs.Common.{Member-both, Member-one, Member-filter, held_is}
+use Rattle.cx_inv_run.proofs.Common.{live_entries, rows_whole, Member, names, Outcome, by_test, either_way, Asked, ReaderDurable}
+use Rattle.cx_inv_run.proofs.Common.{ReaderVolatile, make_token, IsTied, Machine, ReplicaDurable, ReplicaVolatile, held, machine_from}
+use Rattle.cx_inv_run.proofs.Common.{machine_of, replica_after, replica_rules, same_read, ReplicaIn, ReaderIn, entry_by, durable_of, log_in}
+use Rattle.cx_inv_run.proofs.Common.{log_own, Member-both, Member-one, Member-filter, held_is}
 use Rattle.cx_base.specs.declared.role.Kind.TheVariants as kind
 use Rattle.cx_letter.specs.declared.kept.Record.TheVariants as kept
 use Rattle.cx_letter.specs.declared.message.Msg.TheVariants as msg
 use Rattle.cx_model.specs.Reader as reader
 use Rattle.cx_model.specs.Reader.{Batch}
 use Rattle.cx_model.specs.Replica as replica
+use Rattle.cx_inv_run.proofs.Opening.{by_order, offers_say}
 use Rattle.cx_inv_run.proofs.Tying.{tied_more}
+use Rattle.cx_inv_vote.proofs.Replicas.{kept_at}
 use Rattle.cx_inv_list.specs.Told.{AreWanted, BatchWanted, RequestPredicates, Wants, IsAnswerToRead, ListSays, InList, IsListed}
 use Rattle.cx_inv_list.proofs.Listed.{Sends, Heard, listed_if, listed_answered, listed_replied, one_send, each_send, both_send}
 use Rattle.cx_inv_list.proofs.Right.{are_at, log_right, results_right, map_is_fold}
@@ -234,9 +236,11 @@ module _ (q : RequestPredicates) (c : Cluster) (history : List KeptRecord) (p : 
     still_deferred from s = either_way (λ (x : ReplicaVolatile). AreDeferred x.deferred) (from.index == replica.before c me)
         (record v { fetched = max v.fetched s }) v h h
 
-    fetch_listed : (from : RoleId) (s : ℕ) (o : Option Value) → ReplicaListed (replica.fetch_found me (asked_by from s) from s o)
-    fetch_listed from s None = listed_answered ReplicaIn _ _ (still_deferred from s)
-    fetch_listed from s (Some value) = listed_replied ReplicaIn _ _ _ (still_deferred from s) (one_send q history me _ _ tt)
+    fetch_listed : (from : RoleId) (s : ℕ) (o : Option Value) → ((value : Value) → o ≡ Some value → slice_get log s ≡ Some value)
+        → ReplicaListed (replica.fetch_found me (asked_by from s) from s o)
+    fetch_listed from s None there = listed_answered ReplicaIn _ _ (still_deferred from s)
+    fetch_listed from s (Some value) there =
+        listed_replied ReplicaIn _ _ _ (still_deferred from s) (one_send q history me _ _ (λ is. there value refl))
 
     replica_takes_listed : (from to : RoleId) (m : Msg) → ListSays q history from to m
         → ReplicaListed (replica.replica_takes c me own v from m)
@@ -244,8 +248,9 @@ module _ (q : RequestPredicates) (c : Cluster) (history : List KeptRecord) (p : 
     replica_takes_listed from to (msg.Read t n key) says = read_listed (record { token = t; mark = n; key = key }) (inl says)
     replica_takes_listed from to (msg.SessRead seq n key) says =
         read_listed (record { token = make_token from.index seq; mark = n; key = key }) (inr says)
-    replica_takes_listed from to (msg.Fetch s) says = listed_if (nat_lt s own.first)
-        _ _ (listed_answered ReplicaIn _ _ (still_deferred from s)) (fetch_listed from s (slice_get own.log (s - own.first)))
+    replica_takes_listed from to (msg.Fetch s) says =
+        by_test ReplicaListed (nat_lt s own.first) _ _ (λ t. listed_answered ReplicaIn _ _ (still_deferred from s))
+        (λ f. fetch_listed from s (slice_get own.log (s - own.first)) (λ value e. kept_at own log tied s value f e))
     replica_takes_listed from to other says = listed_answered ReplicaIn _ _ h
 
     fetches_listed : (held : ℕ) → Sends q history (replica.fetch_to c me held)
@@ -258,9 +263,17 @@ module _ (q : RequestPredicates) (c : Cluster) (history : List KeptRecord) (p : 
         (both_send q history (map (replica.held_to me (held own)) (below c.leaders)) (replica.fetch_to c me (held own))
         (each_send q history (replica.held_to me (held own)) (below c.leaders) (λ l m. tt)) (fetches_listed (held own)))
 
+    offered_at : (s : ℕ) (value : Value) → replica.value_kept own s ≡ Some value → slice_get log s ≡ Some value
+    offered_at s value e =
+        by_test (λ (o : Option Value). o ≡ Some value → slice_get log s ≡ Some value) (nat_lt s own.first) None
+        (slice_get own.log (s - own.first)) (λ t n. cc) (λ f x. kept_at own log tied s value f x) e
+
     pub replica_listed : (i : Input) → Heard q history i → IsListed q history (role kind.Replica p) ReplicaIn
         (replica.replica_row c (role kind.Replica p) (durable_of replica_rules (role kind.Replica p) history) v i)
     replica_listed (Take l) says =
         listed_if (same_role l.to me && names c l) _ _ (replica_takes_listed l.from l.to l.msg says) (listed_answered ReplicaIn _ _ h)
     replica_listed Tick says = replica_tick_listed
-    replica_listed (Order order) says = listed_answered ReplicaIn _ _ h
+    replica_listed (Order order) says =
+        by_order ReplicaListed c me own v (listed_answered ReplicaIn _ _ h) (listed_answered ReplicaIn _ _ h)
+        (λ to s n. listed_replied ReplicaIn _ _ _ h (offers_say (λ (d : Letter). ListSays q history d.from d.to d.msg) me own
+        (λ to s value e is. offered_at s value e) to s n)) order

@@ -3,8 +3,8 @@ use Rattle.cx_inv_run.proofs.Common.{◌≡◌, ℕ, List, [], ◌∷◌, inl, a
 use Rattle.cx_inv_run.proofs.Common.{Kind, RoleId, Why, role, Letter, KeptRecord, acceptor_rules, leader_rules, matchmaker_rules, Member}
 use Rattle.cx_inv_run.proofs.Common.{WasRead, WasSession, reader_rules, make_token, replacer_rules, request, token_of, World, change}
 use Rattle.cx_inv_run.proofs.Common.{run_from, run, Laws, AllAllowed, State, Down, BatcherIn, LeaderIn, ProxyIn, ReplicaIn, ReaderIn}
-use Rattle.cx_inv_run.proofs.Common.{ReplacerIn, plain, fresh_state, set_state, durable_of, HoldsIn, Ties, Member-first, Member-second}
-use Rattle.cx_inv_run.proofs.Common.{Member-cases, matchmaker_kinds, replacer_kinds, along, run_keeps, ties_hold}
+use Rattle.cx_inv_run.proofs.Common.{ReplacerIn, plain, fresh_state, opened_state, set_state, durable_of, HoldsIn, Ties, Member-first}
+use Rattle.cx_inv_run.proofs.Common.{Member-second, Member-cases, matchmaker_kinds, replacer_kinds, along, run_keeps, ties_hold}
 use Rattle.cx_base.specs.declared.event.Event.TheVariants as event
 use Rattle.cx_base.specs.declared.role.Kind.TheVariants as kind
 use Rattle.cx_base.specs.declared.why.Why.TheVariants as why
@@ -36,6 +36,7 @@ request_says q history n (event.Deliver k cut) h = λ d m. absurd m
 request_says q history n (event.Tick r) h = λ d m. absurd m
 request_says q history n (event.Order l order cut) h = λ d m. absurd m
 request_says q history n (event.Replace x s cut) h = λ d m. absurd m
+request_says q history n (event.Offer p to s) h = λ d m. absurd m
 request_says q history n (event.Snap r cut) h = λ d m. absurd m
 request_says q history n (event.Crash r) h = λ d m. absurd m
 request_says q history n (event.Restart r) h = λ d m. absurd m
@@ -51,6 +52,11 @@ fresh_in q c kind.Replica = λ r m. absurd m
 fresh_in q c kind.Unbatcher = tt
 fresh_in q c kind.Reader = (λ r m. absurd m, tt)
 fresh_in q c kind.Replacer = tt
+
+opened_in : (q : RequestPredicates) (c : Cluster) (me : RoleId) (history : List KeptRecord) (k : Kind)
+    → InList q (opened_state c me history k)
+opened_in q c me history kind.Replacer = tt
+opened_in q c me history other = fresh_in q c other
 
 -- one role's new state, and nothing else
 new_state : (q : RequestPredicates) (history : List KeptRecord) (sent : List Letter) (states : RoleId → State)
@@ -75,7 +81,8 @@ list_laws q c = record {
     running = λ me. ⊎_elim (λ e. subst (λ s. InList q s) (sym e) tt) (λ e. subst (λ s. InList q s) (sym e) (fresh_in q c me.kind)) (h me);
   };
   stop = λ history sent states me facts. new_state q history sent states facts me Down tt;
-  wake = λ history sent states me facts e. new_state q history sent states facts me (fresh_state c me.kind) (fresh_in q c me.kind);
+  wake = λ history sent states me facts e.
+      new_state q history sent states facts me (opened_state c me history me.kind) (opened_in q c me history me.kind);
   ask = λ history sent states n e allowed known facts. record {
     keeps = facts.keeps;
     says = λ d m. ⊎_elim (facts.says d) (request_says q history n e allowed d) (Member-cases d sent (request n e) m);
@@ -90,8 +97,9 @@ list_laws q c = record {
       (leader_listed q c history (role kind.Leader l) (durable_of leader_rules (role kind.Leader l) history) v (running_in q history sent
       states facts (role kind.Leader l) (LeaderIn v) e) i (heard q history sent facts.says (role kind.Leader l) i given));
   proxy = λ history sent states p v i known facts e given.
-      listed_lands q history sent states facts (role kind.Proxy p) ProxyIn _ (proxy_listed q c history (role kind.Proxy p) v (running_in q
-      history sent states facts (role kind.Proxy p) (ProxyIn v) e) i (heard q history sent facts.says (role kind.Proxy p) i given));
+      listed_lands q history sent states facts (role kind.Proxy p) ProxyIn _
+      (proxy_listed q c history (role kind.Proxy p) refl v (running_in q history sent states facts (role kind.Proxy p) (ProxyIn v) e) i
+      (heard q history sent facts.says (role kind.Proxy p) i given));
   acceptor = λ history sent states a i known facts e given.
       listed_lands q history sent states facts (role kind.Acceptor a) plain _
       (acceptor_listed q c history (role kind.Acceptor a) (durable_of acceptor_rules (role kind.Acceptor a) history)
@@ -157,6 +165,7 @@ allowed_by events n (event.Deliver k cut) m = tt
 allowed_by events n (event.Tick r) m = tt
 allowed_by events n (event.Order l order cut) m = tt
 allowed_by events n (event.Replace x s cut) m = tt
+allowed_by events n (event.Offer p to s) m = tt
 allowed_by events n (event.Snap r cut) m = tt
 allowed_by events n (event.Crash r) m = tt
 allowed_by events n (event.Restart r) m = tt

@@ -1,10 +1,11 @@
 -- What datagrams, records and roles say of the command list: each command in them was asked for, each answer in them is right by the values
--- that a replica kept, and each key in them is that of its request.
-use Rattle.std.specs.Prelude.{◌≡◌, ◌⊎◌, ℕ, ◌≤◌, take, List, length, Option, None, Some}
-use Rattle.cx_model.specs.Prelude.{Answered, Command, Placed, Reply, RoleId, commands_of, fold, text_at, Token, Vote, Letter, KeptRecord}
-use Rattle.cx_model.specs.Prelude.{Written, Record, Msg, IsRight, Member, Outcome, Asked, Batch, make_token, State, BatcherIn, LeaderIn}
-use Rattle.cx_model.specs.Prelude.{ProxyIn, ReplicaIn, ReaderIn}
+-- that a replica kept, each key in them is that of its request, and each value that a replica tells is the one that it kept.
+use Rattle.std.specs.Prelude.{◌≡◌, ◌⊎◌, ℕ, ◌≤◌, take, List, length, slice_get, Option, None, Some}
+use Rattle.cx_model.specs.Prelude.{Answered, Command, Placed, Reply, Value, RoleId, commands_of, fold, text_at, Token, Vote, Letter}
+use Rattle.cx_model.specs.Prelude.{KeptRecord, Written, Record, Msg, IsRight, Member, Outcome, Asked, Batch, make_token, State, BatcherIn}
+use Rattle.cx_model.specs.Prelude.{LeaderIn, ProxyIn, ReplicaIn, ReaderIn}
 use Rattle.cx_inv_match.specs.Prelude.{Deferred, Pending, Promised, with_record, log_in}
+use Rattle.cx_base.specs.declared.role.Kind.TheVariants as kind
 use Rattle.cx_letter.specs.declared.input.Written.TheVariants as written
 use Rattle.cx_letter.specs.declared.kept.Record.TheVariants as kept
 use Rattle.cx_letter.specs.declared.message.Msg.TheVariants as msg
@@ -38,12 +39,17 @@ pub record IsAnswerToRead (q : RequestPredicates) (history : List KeptRecord) (r
   pub within : n ≤ length (log_in history replica)
   pub found_is : found ≡ text_at key (fold (take n (log_in history replica)))
 
+-- a value that a replica tells as chosen is the one that it kept in that slot
+abbrev pub IsAsKept : List KeptRecord → RoleId → ℕ → Value → Type 0
+IsAsKept history from s v = from.kind ≡ kind.Replica → slice_get (log_in history from.index) s ≡ Some v
+
 abbrev pub ListSays : RequestPredicates → List KeptRecord → RoleId → RoleId → Msg → Type 0
 ListSays q history from to (msg.Submit k) = q.asked k
 ListSays q history from to (msg.Batch ks) = AreAsked q ks
 ListSays q history from to (msg.Phase1B i cw votes) = AreVotesAsked q votes
 ListSays q history from to (msg.Propose i g s cw v) = AreAsked q (commands_of v)
 ListSays q history from to (msg.Phase2A i s cw v) = AreAsked q (commands_of v)
+ListSays q history from to (msg.Chosen s v) = IsAsKept history from s v
 ListSays q history from to (msg.Results s answers) =
     (a : Answered) → Member a answers → IsRight (log_in history from.index) a.client a.seq a.at a.reply
 ListSays q history from to (msg.Answer seq at reply) = IsRightByReplica history to.index seq at reply

@@ -10,7 +10,8 @@ use Rattle.cx_inv_run.proofs.Histories.{kept_else}
 use Rattle.cx_inv_match.proofs.Grow.{Grows}
 use Rattle.cx_inv_match.proofs.Parts.{put-itself, put-cases, put-older, from-member, from-there}
 use Rattle.cx_inv_match.proofs.Keep.{old_boots, old_nexts, old_matches, old_garbages, old_votes, old_marks, more_mark, more_low}
-use Rattle.cx_inv_match.proofs.KeepFacts.{old_sets, old_accepted, old_balloter, old_last_ballot, kept_facts, new_acceptors, old_owner}
+use Rattle.cx_inv_match.proofs.KeepFacts.{old_known_sets, old_sets, old_accepted, old_balloter, old_last_ballot, kept_facts, new_acceptors}
+use Rattle.cx_inv_match.proofs.KeepFacts.{old_owner}
 use Rattle.cx_inv_match.proofs.KeepFacts.{old_one_grid, old_last, old_asked, old_garbaged, old_logs, old_voted, old_logged}
 use Rattle.cx_inv_match.proofs.Records.{no, grows_else}
 
@@ -67,6 +68,7 @@ module _ (c : Cluster) (history : List KeptRecord) (sent : List Letter) (states 
       (old_accepted c history sent states facts me (kept.Promise i) grows_promise no)
       (old_balloter c history sent states facts me (kept.Promise i) grows_promise no)
       (old_last_ballot c history sent states facts me (kept.Promise i) grows_promise no refl)
+      (old_known_sets c history sent states facts me (kept.Promise i) grows_promise no)
 
 max_cases : (a b : ℕ) → (max a b ≡ a) ⊎ (max a b ≡ b)
 max_cases a b = ⊎_elim (λ l. inr (omega arith)) (λ l. inl (omega arith)) (cases_lt a b)
@@ -213,6 +215,7 @@ module _ (c : Cluster) (history : List KeptRecord) (sent : List Letter) (states 
       (old_accepted c history sent states facts me (kept.Vote i s low v) grows_vote no)
       (old_balloter c history sent states facts me (kept.Vote i s low v) grows_vote no)
       (old_last_ballot c history sent states facts me (kept.Vote i s low v) grows_vote no refl)
+      (old_known_sets c history sent states facts me (kept.Vote i s low v) grows_vote no)
 
 -- a watermark
 
@@ -316,3 +319,4 @@ module _ (c : Cluster) (history : List KeptRecord) (sent : List Letter) (states 
       (old_accepted c history sent states facts me (kept.Water i low) grows_water no)
       (old_balloter c history sent states facts me (kept.Water i low) grows_water no)
       (old_last_ballot c history sent states facts me (kept.Water i low) grows_water no refl)
+      (old_known_sets c history sent states facts me (kept.Water i low) grows_water no)

@@ -11,8 +11,8 @@ use Rattle.cx_inv_run.proofs.Quorums.{most_meet}
 use Rattle.cx_inv_match.specs.Words.{how_many, HasBoot, HasTaken, HasNext, IsDecided, IsNth, IsClosed, IsMatched, IsMatchable, CanTake}
 use Rattle.cx_inv_match.specs.Words.{IsShut, IsWatermark, IsJoin, IsMember, SetFacts}
 use Rattle.cx_inv_run.proofs.Rounds.{before-from_at_most}
-use Rattle.cx_inv_match.specs.Words.{IsPassed, HasStopped, IsGridTold}
-use Rattle.cx_inv_match.proofs.Parts.{covers_itself, covers_on}
+use Rattle.cx_inv_match.specs.Words.{HasStopped, IsGridTold}
+use Rattle.cx_inv_match.proofs.Parts.{covers_on}
 
 -- sets without a common member
 

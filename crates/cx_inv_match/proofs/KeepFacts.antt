@@ -1,5 +1,5 @@
 -- The facts, from those that differ by the kind of the record that was kept.
-use Rattle.cx_inv_run.proofs.Common.{◌≡◌, ◌⊎◌, ℕ, false, List, [], ◌∷◌, Some, inl, inr, sym, subst, ⊎_elim, slice_get, Cluster, Value}
+use Rattle.cx_inv_run.proofs.Common.{◌≡◌, ℕ, false, List, [], ◌∷◌, Some, inl, inr, sym, subst, ⊎_elim, slice_get, Cluster, Value}
 use Rattle.cx_inv_run.proofs.Common.{RoleId, Round, Shape, role, same_role, Letter, KeptRecord, Record, acceptor_rules, acceptor_after}
 use Rattle.cx_inv_run.proofs.Common.{HasVoted, IsProposed, IsRetiring, LeaderWasTold, LeaderDurable, leader_rules, leader_after, round_of}
 use Rattle.cx_inv_run.proofs.Common.{matchmaker_rules, matchmaker_after, HasKept, IsConfig, ReplacerDurable, replacer_rules, values_in}
@@ -18,7 +18,8 @@ use Rattle.cx_inv_match.proofs.Grow.{Grows, grown_config, grown_known, grown_nex
 use Rattle.cx_inv_match.proofs.Grow.{grown_mode, grown_work, grown_pending}
 use Rattle.cx_inv_match.proofs.SetLaws.{grown_sets}
 use Rattle.cx_inv_match.proofs.Keep.{IsRoundRecord, IsMatchRecord, IsGarbageRecord, IsPromiseRecord, IsVoteRecord, IsWaterRecord}
-use Rattle.cx_inv_match.proofs.Keep.{IsStopRecord, IsNextRecord, IsBootRecord, IsBallotRecord, old_rounds, old_matches, old_garbages}
+use Rattle.cx_inv_match.proofs.Keep.{IsStopRecord, IsNextRecord, IsBootRecord, IsBallotRecord, IsKnownRecord, old_known, old_rounds}
+use Rattle.cx_inv_match.proofs.Keep.{old_matches, old_garbages}
 use Rattle.cx_inv_match.proofs.Keep.{old_votes, old_marks, old_promises, old_boots, old_nexts, old_ballots, old_begun, old_had, old_used}
 use Rattle.cx_inv_match.proofs.Keep.{other_had, other_ballots, other_votes, other_marks, other_promises, same_acceptor, same_last, same_log}
 
@@ -64,14 +65,16 @@ module _ (c : Cluster) (history : List KeptRecord) (sent : List Letter) (states 
       → ((m : RoleId) (b : Round) (t : List ℕ) → HasNext (entry_by me r ∷ history) m b t → IsAsked sent m b t)
       → ((a : RoleId) (b : Round) → HasKept (entry_by me r ∷ history) a (kept.Ballot b) → a ≡ role kind.Replacer b.id)
       → ((a : RoleId) → IsLastBallot (entry_by me r ∷ history) a (durable_of replacer_rules a (entry_by me r ∷ history)))
+      → ((a : RoleId) (t : List ℕ) → HasKept (entry_by me r ∷ history) a (kept.Known t) → IsKnown c (entry_by me r ∷ history) t)
       → Facts c (entry_by me r ∷ history) sent (set_state me Down states)
-  kept_facts owner one_grid last asked garbaged logs acceptors voted logged sets accepted balloter last_ballot = record {
+  kept_facts owner one_grid last asked garbaged logs acceptors voted logged sets accepted balloter last_ballot known_sets = record {
     sets = sets;
     accepted = accepted;
     one_asked = facts.one_asked;
     asks = λ from to b t m. let x = facts.asks from to b t m in (grown_next c history sent longer sent grows to b t x.0, grows.more _ x.1);
     balloter = balloter;
     last_ballot = last_ballot;
+    known_sets = known_sets;
     owner = owner;
     one_grid = one_grid;
     last = last;
@@ -190,6 +193,10 @@ module _ (c : Cluster) (history : List KeptRecord) (sent : List Letter) (states 
       new_last_ballot (subst (λ x. IsLastBallot (entry_by me r ∷ history) me x) (sym e)
       (λ b x. (facts.last_ballot me).0 b (old_begun me r history d me b x), ⊎_elim inl (λ x. inr (inr x)) (facts.last_ballot me).1))
 
+  pub old_known_sets : (IsKnownRecord r → ⊥) → (a : RoleId) (t : List ℕ) → HasKept (entry_by me r ∷ history) a (kept.Known t)
+      → IsKnown c (entry_by me r ∷ history) t
+  old_known_sets d a t x = grown_known c history sent longer sent grows t (facts.known_sets a t (old_known me r history d a t x))
+
   pub old_acceptors : (IsPromiseRecord r → ⊥) → (IsVoteRecord r → ⊥) → (IsWaterRecord r → ⊥)
       → acceptor_after (durable_of acceptor_rules me history) r ≡ durable_of acceptor_rules me history
       → (a : RoleId) → IsAcceptor (entry_by me r ∷ history) a (durable_of acceptor_rules a (entry_by me r ∷ history))
@@ -295,6 +302,7 @@ module _ (c : Cluster) (history longer : List KeptRecord) (sent : List Letter) (
     balloter = λ a b x. facts.balloter a b (same.back a (kept.Ballot b) x);
     last_ballot = λ a. subst (λ d. IsLastBallot longer a d) (sym (same.replacers a))
         (λ b x. (facts.last_ballot a).0 b (same.back a (kept.Ballot b) x), ⊎_elim inl (λ x. inr (same.more _ x)) (facts.last_ballot a).1);
+    known_sets = λ a t x. grown_known c history sent longer sent grows_same t (facts.known_sets a t (same.back a (kept.Known t) x));
     voted = λ a i s v h. facts.voted a i s v (back_vote a i s v h);
     one_value = facts.one_value;
     logged = λ p s v x. grown_chosen_somewhere c history sent longer sent grows_same s v

@@ -2,7 +2,7 @@
 -- that worked then: what a reader and a leader count after that moment tells what was so then.
 use Rattle.cx_inv_run.proofs.Common.{◌≡◌, ◌≤◌, ◌<◌, ℕ, zero, suc, Bool, true, false, ◌⊎◌, List, sym, subst, refl, inl, inr, ⊎_elim, arith}
 use Rattle.cx_inv_run.proofs.Common.{cases_Bool, cases_lt, Cluster, RoleId, Round, Shape, role, is_before, Entry, Letter, KeptRecord}
-use Rattle.cx_inv_run.proofs.Common.{first_set, entry, Member, some_passes, before-to_at_least, at_most-trans, HasRound}
+use Rattle.cx_inv_run.proofs.Common.{first_set, Member, some_passes, before-to_at_least, at_most-trans, HasRound}
 use Rattle.cx_base.specs.declared.role.Kind.TheVariants as kind
 use Rattle.cx_inv_run.proofs.Quorums.{most_meet}
 use Rattle.cx_inv_match.specs.Words.{how_many, HasGarbage, HasBoot, HasTaken, HasStopped, IsNth, IsMatched, IsMember, IsJoin, SetFacts}

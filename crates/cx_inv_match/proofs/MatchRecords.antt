@@ -1,5 +1,5 @@
 -- The facts hold once a matchmaker kept a round, or that it forgot the earlier ones.
-use Rattle.cx_inv_run.proofs.Common.{◌≡◌, ◌+◌, true, false, ◌⊎◌, List, [], ◌∷◌, ◌++◌, inl, inr, ap, sym, subst, ◌∙◌, ⊎_elim, refl}
+use Rattle.cx_inv_run.proofs.Common.{◌≡◌, true, false, ◌⊎◌, List, [], ◌∷◌, ◌++◌, inl, inr, ap, sym, subst, ◌∙◌, ⊎_elim, refl}
 use Rattle.cx_inv_run.proofs.Common.{true≢false, Cluster, RoleId, Round, Shape, is_before, Entry, Letter, KeptRecord, IsRetiring}
 use Rattle.cx_inv_run.proofs.Common.{matchmaker_rules, matchmaker_after, entry, entries_since, IsConfig, State, Down, set_state, entry_by}
 use Rattle.cx_inv_run.proofs.Common.{durable_of, kept_cases, Member-cases, Member-first, Member-second, before-trans, before-itself}
@@ -15,7 +15,8 @@ use Rattle.cx_inv_match.proofs.SetLaws.{grown_sets}
 use Rattle.cx_inv_match.proofs.Parts.{entries-member, entries-there, with-member, with-older, with-itself, beside-member, beside-water}
 use Rattle.cx_inv_match.proofs.Parts.{covers_itself, covers_beside}
 use Rattle.cx_inv_match.proofs.Keep.{old_boots, old_nexts, old_ballots, old_had, more_own, old_matches, old_garbages}
-use Rattle.cx_inv_match.proofs.KeepFacts.{old_accepted, old_balloter, old_last_ballot, kept_facts, new_logs, old_owner, old_one_grid}
+use Rattle.cx_inv_match.proofs.KeepFacts.{old_known_sets, old_accepted, old_balloter, old_last_ballot, kept_facts, new_logs, old_owner}
+use Rattle.cx_inv_match.proofs.KeepFacts.{old_one_grid}
 use Rattle.cx_inv_match.proofs.KeepFacts.{old_last, old_asked, old_garbaged, old_acceptors, old_voted, old_logged}
 use Rattle.cx_inv_match.proofs.Records.{no, grows_with}
 
@@ -155,6 +156,7 @@ module _ (c : Cluster) (history : List KeptRecord) (sent : List Letter) (states 
         (old_accepted c history sent states facts me (kept.Match i g) grows_match no)
         (old_balloter c history sent states facts me (kept.Match i g) grows_match no)
         (old_last_ballot c history sent states facts me (kept.Match i g) grows_match no refl)
+        (old_known_sets c history sent states facts me (kept.Match i g) grows_match no)
 
   -- it forgets
 
@@ -269,3 +271,4 @@ module _ (c : Cluster) (history : List KeptRecord) (sent : List Letter) (states 
         (old_accepted c history sent states facts me (kept.Garbage i g) grows_garbage no)
         (old_balloter c history sent states facts me (kept.Garbage i g) grows_garbage no)
         (old_last_ballot c history sent states facts me (kept.Garbage i g) grows_garbage no refl)
+        (old_known_sets c history sent states facts me (kept.Garbage i g) grows_garbage no)

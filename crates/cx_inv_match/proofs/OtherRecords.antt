@@ -9,7 +9,8 @@ use Rattle.cx_base.specs.declared.role.Kind.TheVariants as kind
 use Rattle.cx_letter.specs.declared.kept.Record.TheVariants as kept
 use Rattle.cx_inv_match.proofs.Grow.{Grows, grown_chosen_somewhere}
 use Rattle.cx_inv_match.proofs.Parts.{get-cases}
-use Rattle.cx_inv_match.proofs.KeepFacts.{old_sets, old_accepted, old_balloter, old_last_ballot, kept_facts, new_last, old_owner}
+use Rattle.cx_inv_match.proofs.KeepFacts.{old_known_sets, old_sets, old_accepted, old_balloter, old_last_ballot, kept_facts, new_last}
+use Rattle.cx_inv_match.proofs.KeepFacts.{old_owner}
 use Rattle.cx_inv_match.proofs.KeepFacts.{old_one_grid, old_last, old_asked, old_garbaged, old_logs, old_acceptors, old_voted, old_logged}
 use Rattle.cx_inv_match.proofs.Records.{no, grows_else}
 
@@ -69,6 +70,7 @@ module _ (c : Cluster) (history : List KeptRecord) (sent : List Letter) (states 
       (old_accepted c history sent states facts me (kept.Log new) grows_log no)
       (old_balloter c history sent states facts me (kept.Log new) grows_log no)
       (old_last_ballot c history sent states facts me (kept.Log new) grows_log no refl)
+      (old_known_sets c history sent states facts me (kept.Log new) grows_log no)
 
 -- a reader's turn: it names nothing that a fact names
 
@@ -92,6 +94,7 @@ module _ (c : Cluster) (history : List KeptRecord) (sent : List Letter) (states 
       (old_accepted c history sent states facts me (kept.Turn n) grows_turn no)
       (old_balloter c history sent states facts me (kept.Turn n) grows_turn no)
       (old_last_ballot c history sent states facts me (kept.Turn n) grows_turn no refl)
+      (old_known_sets c history sent states facts me (kept.Turn n) grows_turn no)
 
 -- a round
 
@@ -156,3 +159,4 @@ module _ (c : Cluster) (history : List KeptRecord) (sent : List Letter) (states 
       (old_accepted c history sent states facts me (kept.Round i g) grows_round no)
       (old_balloter c history sent states facts me (kept.Round i g) grows_round no)
       (old_last_ballot c history sent states facts me (kept.Round i g) grows_round no refl)
+      (old_known_sets c history sent states facts me (kept.Round i g) grows_round no)

@@ -6,13 +6,14 @@ use Rattle.cx_inv_run.proofs.Common.{Down, set_state, entry_by, durable_of, kept
 use Rattle.cx_inv_run.proofs.Common.{at_most-trans, before-both, HasRound}
 use Rattle.cx_base.specs.declared.role.Kind.TheVariants as kind
 use Rattle.cx_letter.specs.declared.kept.Record.TheVariants as kept
-use Rattle.cx_inv_match.specs.Words.{HasMatch, HasBoot, HasStop, HasNext, HasBallot, IsUsed, IsMember, IsNextSet, IsBoot, SetFacts}
+use Rattle.cx_inv_match.specs.Words.{HasMatch, HasBoot, HasStop, HasNext, HasBallot, IsKnown, IsUsed, IsMember, IsNextSet, IsBoot, SetFacts}
 use Rattle.cx_inv_match.specs.Facts.{IsMatchmaker, IsNextAsked, IsAsked, Facts}
-use Rattle.cx_inv_match.proofs.Grow.{Grows, grown_round, grown_ballot, grown_watermark}
+use Rattle.cx_inv_match.proofs.Grow.{Grows, grown_known, grown_round, grown_ballot, grown_watermark}
 use Rattle.cx_inv_match.proofs.Parts.{covers_itself}
 use Rattle.cx_inv_match.proofs.SetLaws.{grown_sets}
-use Rattle.cx_inv_match.proofs.Keep.{old_boots, old_nexts, old_stops, old_ballots, old_had, more_own, old_matches, old_garbages}
-use Rattle.cx_inv_match.proofs.KeepFacts.{old_sets, old_accepted, old_balloter, new_last_ballot, old_last_ballot, kept_facts, new_logs}
+use Rattle.cx_inv_match.proofs.Keep.{old_begun, old_boots, old_nexts, old_stops, old_ballots, old_had, more_own, old_matches, old_garbages}
+use Rattle.cx_inv_match.proofs.KeepFacts.{old_known_sets, old_sets, old_accepted, old_balloter, new_last_ballot, old_last_ballot}
+use Rattle.cx_inv_match.proofs.KeepFacts.{kept_facts, new_logs}
 use Rattle.cx_inv_match.proofs.KeepFacts.{old_owner, old_one_grid, old_last, old_asked, old_garbaged, old_logs, old_acceptors, old_voted}
 use Rattle.cx_inv_match.proofs.KeepFacts.{old_logged}
 use Rattle.cx_inv_match.proofs.Records.{no, grows_with, grows_else}
@@ -102,6 +103,7 @@ module _ (c : Cluster) (history : List KeptRecord) (sent : List Letter) (states 
         (old_accepted c history sent states facts me (kept.Stop b) grows_stop no)
         (old_balloter c history sent states facts me (kept.Stop b) grows_stop no)
         (old_last_ballot c history sent states facts me (kept.Stop b) grows_stop no refl)
+        (old_known_sets c history sent states facts me (kept.Stop b) grows_stop no)
 
   -- it accepts the next set
 
@@ -206,6 +208,7 @@ module _ (c : Cluster) (history : List KeptRecord) (sent : List Letter) (states 
         (subst (λ y. IsAsked sent me b y) (sym q.2) asked))) (λ o. facts.accepted m a t o) (next_cases m a t x))
         (old_balloter c history sent states facts me (kept.Next b s) grows_next no)
         (old_last_ballot c history sent states facts me (kept.Next b s) grows_next no refl)
+        (old_known_sets c history sent states facts me (kept.Next b s) grows_next no)
 
 -- A MATCHMAKER BEGINS
 
@@ -299,6 +302,7 @@ module _ (c : Cluster) (history : List KeptRecord) (sent : List Letter) (states 
       (old_accepted c history sent states facts me (kept.Boot s w es) grows_boot no)
       (old_balloter c history sent states facts me (kept.Boot s w es) grows_boot no)
       (old_last_ballot c history sent states facts me (kept.Boot s w es) grows_boot no refl)
+      (old_known_sets c history sent states facts me (kept.Boot s w es) grows_boot no)
 
 -- A REPLACER BEGINS A BALLOT
 
@@ -343,3 +347,34 @@ module _ (c : Cluster) (history : List KeptRecord) (sent : List Letter) (states 
             (ballot_cases me d x),
         inr (inl refl),
       ))
+      (old_known_sets c history sent states facts me (kept.Ballot b) grows_ballot no)
+
+-- A REPLACER KEEPS A SET THAT IT KNOWS
+
+module _ (c : Cluster) (history : List KeptRecord) (sent : List Letter) (states : RoleId → State) (facts : Facts c history sent states)
+    (me : RoleId) (s : List ℕ) (known : IsKnown c history s) where
+  pub grows_set : Grows history sent (entry_by me (kept.Known s) ∷ history) sent
+  grows_set = grows_else history sent me (kept.Known s) no no no no no no
+
+  pub keep_known : Facts c (entry_by me (kept.Known s) ∷ history) sent (set_state me Down states)
+  keep_known = kept_facts c history sent states facts me (kept.Known s) grows_set
+      (old_owner c history sent states facts me (kept.Known s) grows_set no)
+      (old_one_grid c history sent states facts me (kept.Known s) grows_set no)
+      (old_last c history sent states facts me (kept.Known s) grows_set no refl)
+      (old_asked c history sent states facts me (kept.Known s) grows_set no)
+      (old_garbaged c history sent states facts me (kept.Known s) grows_set no)
+      (old_logs c history sent states facts me (kept.Known s) grows_set no no no no no refl)
+      (old_acceptors c history sent states facts me (kept.Known s) grows_set no no no refl)
+      (old_voted c history sent states facts me (kept.Known s) grows_set no)
+      (old_logged c history sent states facts me (kept.Known s) grows_set refl)
+      (old_sets c history sent states facts me (kept.Known s) grows_set no no no no no)
+      (old_accepted c history sent states facts me (kept.Known s) grows_set no)
+      (old_balloter c history sent states facts me (kept.Known s) grows_set no)
+      (new_last_ballot c history sent states facts me (kept.Known s) grows_set (
+        λ b x. (facts.last_ballot me).0 b (old_begun me (kept.Known s) history no me b x),
+        ⊎_elim inl (λ x. inr (inr x)) (facts.last_ballot me).1,
+      ))
+      (λ a t x. grown_known c history sent (entry_by me (kept.Known s) ∷ history) sent grows_set t (⊎_elim
+      (λ q. let e : kept.Known t ≡ kept.Known s = q.1 in let same : s ≡ t = cc in subst (λ u. IsKnown c history u) same known)
+      (λ o. facts.known_sets a t o)
+      (kept_cases me a (kept.Known s) (kept.Known t) history x)))

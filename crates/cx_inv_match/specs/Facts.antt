@@ -3,7 +3,7 @@ use Rattle.std.specs.Prelude.{◌≡◌, ◌⊎◌, ℕ, ◌+◌, ◌<◌, ◌�
 use Rattle.cx_model.specs.Prelude.{Cluster, Placed, Value, RoleId, Round, Shape, role, is_before, no_round, is_above, Entry, Vote, Letter}
 use Rattle.cx_model.specs.Prelude.{letter, KeptRecord, Msg, AcceptorDurable, acceptor_rules, Collection, HasVoted, IsProposed, IsRetiring}
 use Rattle.cx_model.specs.Prelude.{LeaderWasTold, BatcherWasTold, ReplicaWasTold, ReaderWasTold, LeaderVolatile, leader_rules, round_of}
-use Rattle.cx_model.specs.Prelude.{is_idle, is_changed, MatchmakerDurable, matchmaker_rules, entry, Member, HasKept, IsConfig, names_set}
+use Rattle.cx_model.specs.Prelude.{is_idle, is_changed, MatchmakerDurable, matchmaker_rules, Member, HasKept, IsConfig, names_set}
 use Rattle.cx_model.specs.Prelude.{Batch, ReaderVolatile, is_matched, ReplacerDurable, ReplacerVolatile, replacer_rules, State, Down, Plain}
 use Rattle.cx_model.specs.Prelude.{BatcherIn, LeaderIn, ProxyIn, ReplicaIn, ReaderIn, ReplacerIn, HasRound}
 use Rattle.cx_base.specs.declared.role.Kind.TheVariants as kind
@@ -257,6 +257,7 @@ pub record Facts (c : Cluster) (history : List KeptRecord) (sent : List Letter) 
       → IsNextSet c history to b t × HasKept history (role kind.Replacer b.id) (kept.Ballot b)
   pub balloter : (me : RoleId) (b : Round) → HasKept history me (kept.Ballot b) → me ≡ role kind.Replacer b.id
   pub last_ballot : (me : RoleId) → IsLastBallot history me (durable_of replacer_rules me history)
+  pub known_sets : (me : RoleId) (t : List ℕ) → HasKept history me (kept.Known t) → IsKnown c history t
   -- each vote was proposed, and one value for each round and slot
   pub voted : (a : RoleId) (i : Round) (s : ℕ) (v : Value) → HasVoted history a i s v → IsProposed sent i s v
   pub one_value : (i : Round) (s : ℕ) (u v : Value) → IsProposed sent i s u → IsProposed sent i s v → u ≡ v

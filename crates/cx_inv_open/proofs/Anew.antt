@@ -83,6 +83,7 @@ kept_named c me d (kept.Stop b) fit n = cc
 kept_named c me d (kept.Next b t) fit n = cc
 kept_named c me d (kept.Boot t w es) fit n = cc
 kept_named c me d (kept.Turn k) fit n = cc
+kept_named c me d (kept.Known t) fit n = cc
 
 written_named : (c : Cluster) (me : RoleId) (w : Written) (ks : List KeptRecord) → FitsAs c me w ks kind.Acceptor
     → IsNamed c (durable_of acceptor_rules me ks) → IsNamed c (written_after acceptor_rules (durable_of acceptor_rules me ks) w)

@@ -16,7 +16,7 @@ use Rattle.cx_inv_run.proofs.Common.{names_grid, names_round, Outcome, only_word
 use Rattle.cx_inv_run.proofs.Common.{votes_told, greatest_cw, end_told, voted_value, best_vote, placed_from, IsFit, Member-both}
 use Rattle.cx_inv_run.proofs.Common.{Member-filter, Member-one, same_round-itself, before-higher}
 use Rattle.cx_base.specs.declared.event.Order.{Order as OrderOf}
-use Rattle.cx_base.specs.declared.event.Order.TheVariants.{Change}
+use Rattle.cx_base.specs.declared.event.Order.TheVariants.{Change, Offer}
 use Rattle.cx_base.specs.declared.why.Why.TheVariants as why
 use Rattle.cx_letter.specs.declared.input.Input.TheVariants as input
 use Rattle.cx_letter.specs.declared.kept.Record.TheVariants as kept
@@ -266,6 +266,7 @@ module _ (c : Cluster) (me : RoleId) (d : LeaderDurable) (place : me.index < c.l
           (λ leads. begin_good v h g (change_after (round_of d.own)) (changes_good g (not-false _ named) (not-false _ leads) d.own refl)))
       orders_good Collect = either_way Good (is_leading v.mode) _ _ (collect_good v h d.own) (calm why.Idle v h)
       orders_good (Replace s) = calm why.Stranger v h
+      orders_good (Offer to s) = calm why.Stranger v h
 
       pub row_good : (i : Input) → ((x : Letter) → i ≡ input.Take x → Reports x.msg) → Good (leader_row c me d v i)
       row_good (input.Take x) reports =

@@ -1,5 +1,5 @@
 -- A matchmaker keeps what it may keep.
-use Rattle.cx_inv_run.proofs.Common.{◌≡◌, ℕ, ◌&&◌, bytes_eq, true, false, nat_le, nat_lt, List, length, Option, None, Some, refl, list_any}
+use Rattle.cx_inv_run.proofs.Common.{◌≡◌, ℕ, ◌&&◌, bytes_eq, true, false, List, Option, None, Some, refl, list_any}
 use Rattle.cx_inv_run.proofs.Common.{list_all, arith, and_parts, nat_tests, Cluster, RoleId, Round, Shape, is_in, role, same_role}
 use Rattle.cx_inv_run.proofs.Common.{is_before, same_round, Entry, Letter, Input, KeptRecord, Msg, MatchmakerDurable, matchmaker_rules}
 use Rattle.cx_inv_run.proofs.Common.{matchmaker_row, matchmaker_takes, at_work, boot_in, has_round, in_set, is_booted, is_stopped}

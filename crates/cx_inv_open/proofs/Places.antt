@@ -23,7 +23,7 @@ module _ {D V : Type 0} (rules : Rules D V) (make : V → State) (c : Cluster) (
   abbrev Left : Turn V → Type 0
   Left t = (state_of make t.role ≡ Down) ⊎ (names_role c me ≡ true)
 
-  woken : (b : Bool) → names_role c me ≡ b → Left (if b then still (Some (rules.fresh c)) why.Opened else still None why.Down)
+  woken : (b : Bool) → names_role c me ≡ b → Left (if b then still (Some (rules.fresh c d)) why.Opened else still None why.Down)
   woken true e = inr e
   woken false e = inl refl
 
@@ -84,6 +84,7 @@ module _ (w : World) (there : IsThere w.cluster w.roles) where
   changed (event.Tick r) = acts (Give input.Tick Whole) r r.kind
   changed (event.Order l order cut) = acts (Give (input.Order order) cut) (role kind.Leader l) kind.Leader
   changed (event.Replace x s cut) = acts (Give (input.Order (order.Replace s)) cut) (role kind.Replacer x) kind.Replacer
+  changed (event.Offer p to s) = acts (Give (input.Order (order.Offer to s)) Whole) (role kind.Replica p) kind.Replica
   changed (event.Snap r cut) = acts (Snap cut) r r.kind
   changed (event.Crash r) = acts Stop r r.kind
   changed (event.Restart r) = acts Wake r r.kind

@@ -1,21 +1,23 @@
--- A replacer keeps its own ballots, each above its last.
+-- A replacer keeps its own ballots, each above its last, and named sets, each above the one that it knew by its records.
+use Rattle.std.proofs.lemmas.Slice.Eq.{bytes_eq-Decides}
 use Rattle.cx_inv_run.proofs.Common.{◌≡◌, ℕ, ◌+◌, ◌<◌, ◌==◌, ◌&&◌, ◌||◌, Bool, true, false, max, not, bytes_eq, nat_lt, List, length}
-use Rattle.cx_inv_run.proofs.Common.{Option, None, Some, if◌then◌else◌, refl, subst, arith, and_from, nat_tests, same_Some, Cluster, Lead}
-use Rattle.cx_inv_run.proofs.Common.{Collect, Replace, RoleId, Round, is_in, role, same_role, is_before, lead_after, same_round, is_above}
-use Rattle.cx_inv_run.proofs.Common.{Entry, with_mark, Letter, Input, KeptRecord, Msg, Replacing, Stopping, Deciding, Booting}
-use Rattle.cx_inv_run.proofs.Common.{number_itself, enough, first_set, names, names_set, Outcome, either_way, ReplacerDurable}
-use Rattle.cx_inv_run.proofs.Common.{ReplacerVolatile, decide, halt_counted, has_halted, is_booting, is_deciding, is_resting, is_stopping}
-use Rattle.cx_inv_run.proofs.Common.{joined_entries, next_counted, replacer_orders, replacer_row, replacer_rules, replacer_takes, to_decide}
-use Rattle.cx_inv_run.proofs.Common.{IsFit, Lands, State, ReplacerIn, durable_of, before-higher, replacer_kinds}
+use Rattle.cx_inv_run.proofs.Common.{Option, None, Some, if◌then◌else◌, refl, subst, arith, and_from, and_parts, not-false, nat_tests}
+use Rattle.cx_inv_run.proofs.Common.{same_Some, Cluster, Lead, Collect, Replace, RoleId, Round, is_in, role, same_role, is_before}
+use Rattle.cx_inv_run.proofs.Common.{lead_after, same_round, is_above, Entry, with_mark, Letter, Input, KeptRecord, Msg, Replacing}
+use Rattle.cx_inv_run.proofs.Common.{Stopping, Deciding, Booting, number_itself, enough, first_set, names, names_body, names_role}
+use Rattle.cx_inv_run.proofs.Common.{names_set, Outcome, by_test, either_way, ReplacerDurable, ReplacerVolatile, decide, halt_counted}
+use Rattle.cx_inv_run.proofs.Common.{has_halted, is_booting, is_deciding, is_resting, is_stopping, joined_entries, next_counted}
+use Rattle.cx_inv_run.proofs.Common.{replacer_orders, replacer_row, replacer_rules, replacer_takes, to_decide, IsFit, Lands, State}
+use Rattle.cx_inv_run.proofs.Common.{ReplacerIn, durable_of, before-higher, replacer_kinds}
 use Rattle.cx_base.specs.declared.event.Order.{Order as OrderOf}
-use Rattle.cx_base.specs.declared.event.Order.TheVariants.{Change}
+use Rattle.cx_base.specs.declared.event.Order.TheVariants.{Change, Offer}
 use Rattle.cx_base.specs.declared.role.Kind.TheVariants as kind
 use Rattle.cx_letter.specs.declared.input.Input.TheVariants as input
 use Rattle.cx_letter.specs.declared.kept.Record.TheVariants as kept
 use Rattle.cx_letter.specs.declared.message.Msg.TheVariants as msg
 use Rattle.cx_model.specs.declared.states.Replacing.TheVariants.{Idle}
 use Rattle.cx_model.specs.Names.{names_ballot}
-use Rattle.cx_model.specs.Replacer.{begin_in, boot_counted, tick_in}
+use Rattle.cx_model.specs.Replacer.{begin_in, boot_counted, known_record, known_set, tick_in}
 use Rattle.cx_inv_open.specs.Fits.{Fitting}
 use Rattle.cx_inv_open.proofs.Keep.{calm_in, new_fits, lands}
 
@@ -54,6 +56,14 @@ module _ (c : Cluster) (me : RoleId) (place : me.index < c.replacers) where
     orders_fine v (Lead g) = tt
     orders_fine v (Change g) = tt
     orders_fine v Collect = tt
+    orders_fine v (Offer to s) = tt
+
+    -- a set that it comes to know, whose members are named
+    known_fine : (s : List ℕ) → names_set c s ≡ true → IsFit replacer_rules c me d (known_record c d s)
+    known_fine s named =
+        by_test (λ o. IsFit replacer_rules c me d o) (c.keep_sets && is_above s (known_set c d)) (Some (kept.Known s)) None
+        (λ t. let a = and_parts c.keep_sets (is_above s (known_set c d)) t in
+        (and_from _ _ (and_from _ _ a.0 named) a.1, refl)) (λ f. tt)
 
     -- it keeps nothing else
 
@@ -67,23 +77,25 @@ module _ (c : Cluster) (me : RoleId) (place : me.index < c.replacers) where
     next_fine : (v : ReplacerVolatile) (counted : List ℕ) → Fine (next_counted c me v counted)
     next_fine v counted = either_way Fine (nat_lt (length counted) (enough c)) _ _ tt tt
 
-    boot_fine : (v : ReplacerVolatile) (counted : List ℕ) → Fine (boot_counted c me v counted)
-    boot_fine v counted = either_way Fine (nat_lt (length counted) (enough c)) _ _ tt tt
+    boot_fine : (v : ReplacerVolatile) (counted : List ℕ) → names_set c v.next ≡ true → Fine (boot_counted c me d v counted)
+    boot_fine v counted named = either_way Fine (nat_lt (length counted) (enough c)) _ _ tt (known_fine v.next named)
 
-    takes_fine : (v : ReplacerVolatile) (from : RoleId) (m : Msg) → Fine (replacer_takes c me d v from m)
-    takes_fine v from (msg.StopB b w es a s) =
+    takes_fine : (v : ReplacerVolatile) (from : RoleId) (m : Msg) → names_body c m ≡ true → Fine (replacer_takes c me d v from m)
+    takes_fine v from (msg.StopB b w es a s) named =
         either_way Fine (not (is_stopping v.mode && same_round b d.own && is_in from.index v.set)) _ _ tt
         (either_way Fine (has_halted from.index v.halts) _ _ tt (halted_fine _))
-    takes_fine v from (msg.NextB b) =
+    takes_fine v from (msg.NextB b) named =
         either_way Fine (not (is_deciding v.mode && same_round b d.own)) _ _ tt
         (either_way Fine (is_in from.index v.counted) _ _ tt (next_fine v (with_mark from.index v.counted)))
-    takes_fine v from (msg.BootB s) =
-        either_way Fine (not (is_booting v.mode && bytes_eq s v.next)) _ _ tt
-        (either_way Fine (is_in from.index v.counted) _ _ tt (boot_fine v (with_mark from.index v.counted)))
-    takes_fine v from (msg.StopNack b other) =
+    takes_fine v from (msg.BootB s) named =
+        by_test Fine (not (is_booting v.mode && bytes_eq s v.next)) _ _ (λ t. tt)
+        (λ f. let same = (bytes_eq-Decides s v.next).0 (and_parts (is_booting v.mode) (bytes_eq s v.next) (not-false _ f)).1 in
+        either_way Fine (is_in from.index v.counted) _ _ tt
+        (boot_fine v (with_mark from.index v.counted) (subst (λ t. names_set c t ≡ true) same named)))
+    takes_fine v from (msg.StopNack b other) named =
         either_way Fine (not (same_round b d.own) || is_resting v.mode || is_booting v.mode) _ _ tt tt
-    takes_fine v from (msg.Sets s) = either_way Fine (is_above s v.set) _ _ tt tt
-    takes_fine v from other = tt
+    takes_fine v from (msg.Sets s) named = either_way Fine (is_above s v.set) _ _ (known_fine s named) tt
+    takes_fine v from other named = tt
 
     ticks_fine : (v : ReplacerVolatile) (mode : Replacing) → Fine (tick_in c me d v mode)
     ticks_fine v Idle = either_way Fine (is_above v.set (first_set c)) _ _ tt tt
@@ -92,7 +104,10 @@ module _ (c : Cluster) (me : RoleId) (place : me.index < c.replacers) where
     ticks_fine v Booting = tt
 
     row_fine : (v : ReplacerVolatile) (i : Input) → Fine (replacer_row c me d v i)
-    row_fine v (input.Take x) = either_way Fine (same_role x.to me && names c x) _ _ (takes_fine v x.from x.msg) tt
+    row_fine v (input.Take x) =
+        by_test Fine (same_role x.to me && names c x) _ _
+        (λ t. let named = (and_parts (same_role x.to me) (names c x) t).1 in
+        takes_fine v x.from x.msg (and_parts (names_role c x.from && names_role c x.to) (names_body c x.msg) named).1) (λ f. tt)
     row_fine v input.Tick = ticks_fine v v.mode
     row_fine v (input.Order order) = orders_fine v order
 

@@ -14,6 +14,7 @@ use Rattle.cx_letter.specs.declared.kept.Record.TheVariants as kept
 use Rattle.cx_letter.specs.declared.message.Msg.TheVariants as msg
 use Rattle.cx_model.specs.Replica.{is_renewal_whole, with_early}
 use Rattle.cx_model.specs.RenewedLaws.{renewed_fits}
+use Rattle.cx_inv_run.proofs.Opening.{by_order}
 use Rattle.cx_inv_run.proofs.Tying.{limit_held, snap_is}
 use Rattle.cx_inv_match.specs.Facts.{Facts}
 use Rattle.cx_inv_vote.proofs.Agree.{chosen_proposed}
@@ -152,7 +153,8 @@ module _ (c : Cluster) (history : List KeptRecord) (sent : List Letter) (states 
           takes_fine c me d v named whole x.from x.msg (has_slot x.from x.to x.msg given.1)
           (and_parts (names_role c x.from && names_role c x.to) (names_body c x.msg) a.1).1) (λ f. (tt, named))
       row_fine input.Tick given = (tt, named)
-      row_fine (input.Order order) given = (tt, named)
+      row_fine (input.Order order) given =
+          by_order (Fine c me d v named whole) c me d v (tt, named) (tt, named) (λ to s n. (tt, named)) order
 
   -- a replica forgets values: it opens from the renewed list
   pub snapped : (p : ℕ) (v : ReplicaVolatile) (first : ℕ)

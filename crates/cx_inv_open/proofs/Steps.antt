@@ -1,7 +1,8 @@
 -- Each step keeps the facts, so every role can be opened again from its records, in every run.
 use Rattle.cx_inv_run.proofs.Common.{◌≡◌, ◌⊎◌, ℕ, ◌<◌, List, sym, subst, refl, inl, inr, arith, Cluster, Event, Kind, role, LeaderVolatile}
 use Rattle.cx_inv_run.proofs.Common.{OfEveryRun, ReplacerVolatile, request, run, Laws, State, Down, BatcherIn, LeaderIn, ReplacerIn, plain}
-use Rattle.cx_inv_run.proofs.Common.{fresh_state, HoldsIn, batcher_kinds, unbatcher_kinds, Ties, always, ties_hold}
+use Rattle.cx_inv_run.proofs.Common.{KeptRecord, RoleId, fresh_state, opened_state, HoldsIn, batcher_kinds, unbatcher_kinds, Ties, always}
+use Rattle.cx_inv_run.proofs.Common.{ties_hold}
 use Rattle.cx_inv_match.specs.Prelude.{Property, Facts}
 use Rattle.cx_base.specs.declared.event.Event.TheVariants as event
 use Rattle.cx_base.specs.declared.role.Kind.TheVariants as kind
@@ -38,6 +39,10 @@ fresh_range c kind.Leader = (omega arith, omega arith)
 fresh_range c kind.Replica = λ p m. absurd m
 fresh_range c other = tt
 
+opened_range : (c : Cluster) (me : RoleId) (kept : List KeptRecord) (k : Kind) → InRange c (opened_state c me kept k)
+opened_range c me kept kind.Replacer = tt
+opened_range c me kept other = fresh_range c other
+
 start_range : (c : Cluster) (k : Kind) (s : State) → (s ≡ Down) ⊎ (s ≡ fresh_state c k) → InRange c s
 start_range c k s (inl e) = subst (λ (x : State). InRange c x) (sym e) tt
 start_range c k s (inr e) = subst (λ (x : State). InRange c x) (sym e) (fresh_range c k)
@@ -55,7 +60,8 @@ fitting_laws c = record {
   start = λ states starts. record { fit = tt; says = none_in; running = λ a. start_range c a.kind (states a) (starts a) };
   stop = λ kept sent states me h. record { fit = h.fit; says = h.says; running = with_state c kept sent states h me Down tt };
   wake = λ kept sent states me h down.
-      record { fit = h.fit; says = h.says; running = with_state c kept sent states h me (fresh_state c me.kind) (fresh_range c me.kind) };
+      let opened = with_state c kept sent states h me (opened_state c me kept me.kind) (opened_range c me kept me.kind) in
+      record { fit = h.fit; says = h.says; running = opened };
   ask = λ kept sent states n e allowed known h.
       record { fit = h.fit; says = both_in sent (request n e) h.says (request_in n e); running = h.running };
   batcher = λ kept sent states b v i known h is given.

@@ -3,7 +3,7 @@ use Rattle.cx_inv_run.proofs.Common.{◌≡◌, ℕ, false, ◌⊎◌, List, [],
 use Rattle.cx_inv_run.proofs.Common.{true≢false, Cluster, Event, Kind, RoleId, Round, role, Asking, Token, Letter, KeptRecord, Msg}
 use Rattle.cx_inv_run.proofs.Common.{was_asked, leader_rules, replacer_rules, replica_rules, request, World, change, run, run_from, Laws}
 use Rattle.cx_inv_run.proofs.Common.{AllAllowed, HoldsAlong, State, Down, BatcherIn, LeaderIn, ProxyIn, ReplicaIn, ReaderIn, ReplacerIn}
-use Rattle.cx_inv_run.proofs.Common.{plain, fresh_state, snap_by, durable_of, HoldsIn, set_running, kinds_hold, Member-first}
+use Rattle.cx_inv_run.proofs.Common.{plain, fresh_state, opened_state, snap_by, durable_of, HoldsIn, set_running, kinds_hold, Member-first}
 use Rattle.cx_inv_run.proofs.Common.{Member-reverse, Member-turned, batcher_kinds, proxy_kinds, replica_kinds, unbatcher_kinds}
 use Rattle.cx_inv_run.proofs.Common.{leader_kinds, replacer_kinds, batcher_sends, leader_sends, proxy_sends, replica_sends, unbatcher_sends}
 use Rattle.cx_inv_run.proofs.Common.{sends_only, run_keeps, run_from_keeps, run_append, run_cluster, along, all_allowed}
@@ -39,6 +39,11 @@ fresh_reader c asked t history a kind.Replica = tt
 fresh_reader c asked t history a kind.Unbatcher = tt
 fresh_reader c asked t history a kind.Reader = tt
 fresh_reader c asked t history a kind.Replacer = tt
+
+opened_reader : (c : Cluster) (asked : List KeptRecord) (t : Token) (history : List KeptRecord) (a : RoleId) (k : Kind)
+    → InReader c asked t history a (opened_state c a history k)
+opened_reader c asked t history a kind.Replacer = tt
+opened_reader c asked t history a other = fresh_reader c asked t history a other
 
 -- the same facts, with more changes of stores
 more_changes : (c : Cluster) (asked : List KeptRecord) (sent0 : List Letter) (t : Token) (history longer : List KeptRecord)
@@ -98,7 +103,7 @@ module _ (c : Cluster) (asked : List KeptRecord) (sent0 : List Letter) (states0 
     wake = λ history sent states me h down has has_sent.
         let reads = h has has_sent in
         with_states c asked sent0 t history sent states _ reads (set_running (λ a s. InReader c asked t history a s) me
-        (fresh_state c me.kind) states (fresh_reader c asked t history me me.kind) (λ a e. reads.readers a));
+        (opened_state c me history me.kind) states (opened_reader c asked t history me me.kind) (λ a e. reads.readers a));
     ask = λ history sent states n e allowed known h has has_sent. asks history sent states n e known.0 (h known.1 known.2);
     batcher = λ history sent states b v i known h up given.
         let kinds = batcher_kinds c (role kind.Batcher b) refl v i in

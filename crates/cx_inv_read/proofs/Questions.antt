@@ -14,7 +14,7 @@ use Rattle.cx_inv_match.specs.Facts.{InState}
 use Rattle.cx_inv_read.specs.Reads.{AnswerHasQuestion, AreAnswers}
 use Rattle.cx_inv_read.proofs.Fresh.{known_holds}
 use Rattle.cx_inv_read.proofs.Requests.{requested}
-use Rattle.cx_inv_read.proofs.Rows.{IsPlain, IsQuestion, Each, replica_tells, replica_ticks}
+use Rattle.cx_inv_read.proofs.Rows.{IsPlain, IsQuestion, Each, replica_offers, replica_tells, replica_ticks}
 use Rattle.cx_inv_read.proofs.Says.{Known}
 
 -- a client and a number make one token
@@ -87,7 +87,8 @@ replica_says c sent me d v waits (input.Take l) given =
     (λ n machine r m. answer_says sent me n machine r me (waits.deferred r m)) l.msg
     (λ r q. answer_says sent me (held d) d.machine r l.to (now_asked sent l r given.1 q))) (λ x m. absurd m)
 replica_says c sent me d v waits input.Tick given = replica_ticks (λ x. AnswerHasQuestion sent x.to x.msg) c me (plain sent) d v
-replica_says c sent me d v waits (input.Order order) given = λ x m. absurd m
+replica_says c sent me d v waits (input.Order order) given =
+    replica_offers (λ x. AnswerHasQuestion sent x.to x.msg) c me (plain sent) d v order
 
 answer_laws : (c : Cluster) → Laws c (λ n e. Unit {0}) (Known c) AreAnswers
 answer_laws c = record {

@@ -154,5 +154,6 @@ requested P submit read session n (event.Tick r) = λ d m. absurd m
 requested P submit read session n (event.Order l order cut) = λ d m. absurd m
 requested P submit read session n (event.Snap r cut) = λ d m. absurd m
 requested P submit read session n (event.Replace x set cut) = λ d m. absurd m
+requested P submit read session n (event.Offer p to s) = λ d m. absurd m
 requested P submit read session n (event.Crash r) = λ d m. absurd m
 requested P submit read session n (event.Restart r) = λ d m. absurd m

@@ -15,12 +15,15 @@ use Rattle.cx_inv_run.proofs.Common.{reader_row, reader_takes, reader_tick, requ
 use Rattle.cx_inv_run.proofs.Common.{ReplicaDurable, ReplicaVolatile, Machine, held, execute_value, machine_from, results_at, results_from}
 use Rattle.cx_inv_run.proofs.Common.{read_answer_to, read_answers, fetched_by, fetch_found, read_row, replica_takes, held_to, fetch_to}
 use Rattle.cx_inv_run.proofs.Common.{replica_tick, same_read, IsSender, Member-both, Member-one, Member-map, Member-filter}
+use Rattle.cx_base.specs.declared.event.Order.{Order as OrderOf}
 use Rattle.cx_base.specs.declared.role.Kind.TheVariants as kind
 use Rattle.cx_base.specs.declared.why.Why.TheVariants.{Stopped}
 use Rattle.cx_letter.specs.declared.input.Input.TheVariants as input
 use Rattle.cx_letter.specs.declared.message.Msg.TheVariants as msg
 use Rattle.cx_model.specs.Reader.{Batch, finish}
 use Rattle.cx_model.specs.Matchmaker.{has_place}
+use Rattle.cx_model.specs.Replica.{replica_orders}
+use Rattle.cx_inv_run.proofs.Opening.{by_order, offers_say}
 
 -- a message that is of no read
 abbrev pub IsPlain : Msg → Type 0
@@ -184,6 +187,9 @@ module _ (P : Letter → Type 0) (c : Cluster) (me : RoleId) (plain : (to : Role
       Member-both P (map (held_to me (held d)) (below c.leaders)) (fetch_to c me (held d))
       (each_mapped P (held_to me (held d)) (below c.leaders) (λ l m. plain _ _ tt))
       (either_way (Each P) (nat_lt 1 c.replicas) _ _ (replica_one _ _ tt) (none P))
+
+  pub replica_offers : (d : ReplicaDurable) (v : ReplicaVolatile) (o : OrderOf) → ReplicaTells (replica_orders c me d v o)
+  replica_offers d v o = by_order ReplicaTells c me d v (none P) (none P) (offers_say P me d (λ to s value e. plain _ _ tt)) o
 
 -- a reader
 

@@ -41,6 +41,7 @@ module _ (t : Token) (Marks : ℕ → Type 0) where
   asks n (event.Order l order cut) marked = λ d m. absurd m
   asks n (event.Snap r cut) marked = λ d m. absurd m
   asks n (event.Replace x set cut) marked = λ d m. absurd m
+  asks n (event.Offer p to s) marked = λ d m. absurd m
   asks n (event.Crash r) marked = λ d m. absurd m
   asks n (event.Restart r) marked = λ d m. absurd m
 

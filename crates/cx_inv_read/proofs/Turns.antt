@@ -11,9 +11,9 @@ use Rattle.cx_inv_run.proofs.Common.{is_of_batch, last_turn, match_ack_counted, 
 use Rattle.cx_inv_run.proofs.Common.{pre_read_counted, pre_read_to, read_to, reader_row, reader_rules, reader_takes, reader_tick}
 use Rattle.cx_inv_run.proofs.Common.{request_over, request_row, make_token, asking_of, replacer_rules, replica_rules, request, run, Lands}
 use Rattle.cx_inv_run.proofs.Common.{Laws, anything, State, Down, BatcherIn, LeaderIn, ProxyIn, ReplicaIn, ReaderIn, ReplacerIn, plain}
-use Rattle.cx_inv_run.proofs.Common.{Given, durable_of, entry_by, snap_by, fresh_state, with_record, HoldsIn, durable_else, durable_other}
-use Rattle.cx_inv_run.proofs.Common.{durable_own, kept_cases, kept_longer, kept_other, no_snap, same_role-true, set_running, Member-both}
-use Rattle.cx_inv_run.proofs.Common.{batcher_kinds, proxy_kinds, replica_kinds, unbatcher_kinds, leader_kinds, replacer_kinds}
+use Rattle.cx_inv_run.proofs.Common.{Given, durable_of, entry_by, snap_by, fresh_state, opened_state, with_record, HoldsIn, durable_else}
+use Rattle.cx_inv_run.proofs.Common.{durable_other, durable_own, kept_cases, kept_longer, kept_other, no_snap, same_role-true, set_running}
+use Rattle.cx_inv_run.proofs.Common.{Member-both, batcher_kinds, proxy_kinds, replica_kinds, unbatcher_kinds, leader_kinds, replacer_kinds}
 use Rattle.cx_inv_run.proofs.Common.{batcher_sends, leader_sends, proxy_sends, replica_sends, unbatcher_sends, sends_only, run_keeps}
 use Rattle.cx_inv_run.proofs.Common.{all_allowed, reader_same}
 use Rattle.cx_base.specs.declared.role.Kind.TheVariants as kind
@@ -238,6 +238,10 @@ fresh_kept c history a kind.Unbatcher = tt
 fresh_kept c history a kind.Reader = λ b e. absurd (none-some b e)
 fresh_kept c history a kind.Replacer = tt
 
+opened_kept : (c : Cluster) (history : List KeptRecord) (a : RoleId) (k : Kind) → BatchIsKept history a (opened_state c a history k)
+opened_kept c history a kind.Replacer = tt
+opened_kept c history a other = fresh_kept c history a other
+
 module _ (history : List KeptRecord) (sent : List Letter) (states : RoleId → State) (h : TurnsKept history sent states) where
   lands : {V : Type 0} (me : RoleId) (make : V → State) (o : Outcome V) → Each (λ d. TurnSays (with_record me o.kept history) d.msg) o.sends
       → BatchIsKept (with_record me o.kept history) me (make o.volatile) → Lands TurnsKept history sent states me make o
@@ -294,8 +298,8 @@ turns_laws c = record {
       record { says = h.says; running = set_running (λ a s. BatchIsKept history a s) me Down states tt (λ a e. h.running a) };
   wake = λ history sent states me h down. record {
     says = h.says;
-    running = set_running (λ a s. BatchIsKept history a s) me (fresh_state c me.kind) states (fresh_kept c history me me.kind)
-        (λ a e. h.running a);
+    running = set_running (λ a s. BatchIsKept history a s) me (opened_state c me history me.kind) states
+        (opened_kept c history me me.kind) (λ a e. h.running a);
   };
   ask = λ history sent states n e allowed known h. record {
     says = Member-both (λ (d : Letter). TurnSays history d.msg) sent (request n e) h.says

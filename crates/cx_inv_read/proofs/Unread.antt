@@ -42,6 +42,7 @@ module _ (t : Token) where
   asked_fresh n (event.Order l order cut) other = λ d m. absurd m
   asked_fresh n (event.Snap r cut) other = λ d m. absurd m
   asked_fresh n (event.Replace x set cut) other = λ d m. absurd m
+  asked_fresh n (event.Offer p to s) other = λ d m. absurd m
   asked_fresh n (event.Crash r) other = λ d m. absurd m
   asked_fresh n (event.Restart r) other = λ d m. absurd m
 

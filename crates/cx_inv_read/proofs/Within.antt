@@ -22,6 +22,7 @@ use Rattle.cx_letter.specs.declared.kept.Record.TheVariants as kept
 use Rattle.cx_letter.specs.declared.message.Msg.TheVariants as msg
 use Rattle.cx_model.specs.Replica.{acting}
 use Rattle.cx_model.specs.Unbatcher.{unbatcher_takes}
+use Rattle.cx_inv_run.proofs.Opening.{by_order, offers_say}
 use Rattle.cx_inv_run.proofs.Sends.{acceptor_sends, matchmaker_sends, reader_sends}
 use Rattle.cx_inv_read.specs.Reads.{IsWithin, TellsWithin, Within}
 use Rattle.cx_inv_read.proofs.Requests.{requested}
@@ -211,7 +212,9 @@ module _ (c : Cluster) (history : List KeptRecord) (p : ℕ)
   replica_good v (input.Take l) =
       either_way (Good history self) (same_role l.to self && names c l) _ _ (replica_took v l.from l.msg) (λ x k. absurd k)
   replica_good v input.Tick = ticked v
-  replica_good v (input.Order order) = λ x k. absurd k
+  replica_good v (input.Order order) =
+      by_order (λ o. Good history self o) c self d v (λ x k. absurd k) (λ x k. absurd k)
+      (λ to s n. offers_say (Says history) self d (λ to s value e. tt) to s n) order
 
 module _ (c : Cluster) (history : List KeptRecord) (me : RoleId) where
   unbatcher_took : (m : Msg) → TellsWithin history m → Good history me (unbatcher_takes me m)

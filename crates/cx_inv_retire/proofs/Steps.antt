@@ -3,9 +3,9 @@ use Rattle.cx_inv_run.proofs.Common.{◌⊎◌, List, [], ◌∷◌, ◌++◌, r
 use Rattle.cx_inv_run.proofs.Common.{role, Asking, Entry, Letter, letter, KeptRecord, Msg, acceptor_rules, acceptor_row, batcher_row, entry}
 use Rattle.cx_inv_run.proofs.Common.{Member, IsConfig, proxy_row, replacer_rules, replacer_row, replica_rules, replica_row, unbatcher_row}
 use Rattle.cx_inv_run.proofs.Common.{World, change, run, run_from, Laws, HoldsAlong, State, Down, BatcherIn, ProxyIn, ReplicaIn, ReplacerIn}
-use Rattle.cx_inv_run.proofs.Common.{plain, fresh_state, snap_by, durable_of, HoldsIn, kinds_hold, Member-first, Member-reverse}
-use Rattle.cx_inv_run.proofs.Common.{Member-turned, acceptor_kinds, batcher_kinds, unbatcher_kinds, proxy_kinds, replica_kinds}
-use Rattle.cx_inv_run.proofs.Common.{replacer_kinds, run_from_keeps, always, run_append, run_cluster, all_allowed, HasRound}
+use Rattle.cx_inv_run.proofs.Common.{plain, fresh_state, opened_state, snap_by, durable_of, HoldsIn, kinds_hold, Member-first}
+use Rattle.cx_inv_run.proofs.Common.{Member-reverse, Member-turned, acceptor_kinds, batcher_kinds, unbatcher_kinds, proxy_kinds}
+use Rattle.cx_inv_run.proofs.Common.{replica_kinds, replacer_kinds, run_from_keeps, always, run_append, run_cluster, all_allowed, HasRound}
 use Rattle.cx_inv_match.specs.Prelude.{Facts, HasLog, HasGarbage, SetFacts}
 use Rattle.cx_base.specs.declared.role.Kind.TheVariants as kind
 use Rattle.cx_letter.specs.declared.message.Msg.TheVariants as msg
@@ -32,6 +32,10 @@ fresh_counted c kind.Unbatcher = tt
 fresh_counted c kind.Reader = tt
 fresh_counted c kind.Replacer = tt
 
+opened_counted : (c : Cluster) (me : RoleId) (history : List KeptRecord) (k : Kind) → HasCounted c (opened_state c me history k)
+opened_counted c me history kind.Replacer = tt
+opened_counted c me history other = fresh_counted c other
+
 pub retire_laws : (c : Cluster) (past : List KeptRecord) (fresh : Asking → Type 0)
     → Laws c (λ n e. Unit {0}) (Known c past) (RetireFacts c past fresh)
 retire_laws c past fresh = record {
@@ -42,7 +46,8 @@ retire_laws c past fresh = record {
         a) [ inl e ↦ subst (λ s. HasCounted c s) (sym e) tt | inr e ↦ subst (λ s. HasCounted c s) (sym e) (fresh_counted c a.kind) ];
   };
   stop = λ history sent states me h. set c past fresh history sent states h me Down tt;
-  wake = λ history sent states me h down. set c past fresh history sent states h me (fresh_state c me.kind) (fresh_counted c me.kind);
+  wake = λ history sent states me h down.
+      set c past fresh history sent states h me (opened_state c me history me.kind) (opened_counted c me history me.kind);
   ask = λ history sent states n e allowed known h. asked c past fresh history sent states h n e;
   batcher = λ history sent states b v i known h is given.
       quiet_lands c past fresh history sent states h (role kind.Batcher b) BatcherIn kind.Batcher (λ e. cc) (λ e. cc) (λ e. cc) refl

@@ -11,6 +11,7 @@ pub use Rattle.cx_letter.specs.Prelude.{Floor, Pair, Sent, Unbatcher, before_fol
 pub use Rattle.cx_model.specs.Prelude.{AcceptorDurable, Act, Answered, Asked, Asking, BatcherIn, BatcherVolatile, Begins, Bool, Cluster}
 pub use Rattle.cx_model.specs.Prelude.{Collect, Collection, Command, Cut, DeliversOneOf, Down, Entry, Event, Give, Happened, HasKept}
 pub use Rattle.cx_model.specs.Prelude.{HasRound, HasTurn, HasVoted, Input, IsConfig, IsFinished, IsFit, IsGrid, IsInformed, IsProposed}
+pub use Rattle.cx_model.specs.Prelude.{Offer}
 pub use Rattle.cx_model.specs.Prelude.{IsRetiring, IsRight, IsTied, Kept, KeptRecord, Kind, Lead, LeaderDurable, LeaderIn, LeaderVolatile}
 pub use Rattle.cx_model.specs.Prelude.{LeaderWasTold, Letter, List, Machine, MatchmakerDurable, Member, Msg, NackReason, None, Noop}
 pub use Rattle.cx_model.specs.Prelude.{OfEveryRun, Option, Order, Outcome, Placed, Plain, ProxyIn, ProxyVolatile, ReaderDurable, ReaderIn}
@@ -68,8 +69,10 @@ pub use Rattle.cx_model.specs.Matchmaker.{next_a_row, stop_a_row}
 pub use Rattle.cx_model.specs.Promises.{WasRead, WasSession}
 pub use Rattle.cx_model.specs.Proxy.{propose_row, vote_counted, with_pending}
 pub use Rattle.cx_model.specs.Reader.{matched, request_row}
-pub use Rattle.cx_model.specs.Replacer.{decide, next_counted}
-pub use Rattle.cx_model.specs.Replica.{Executed, chosen_row, execute, execute_all, execute_noted, fetch_row}
+pub use Rattle.cx_model.specs.Replacer.{boot_b_row, boot_counted, decide, kept_or, known_record, known_set, next_counted, sets_row}
+pub use Rattle.cx_model.specs.Replica.{Executed, chosen_row, execute, execute_all, execute_noted, fetch_row, offer_of, offer_row}
+pub use Rattle.cx_model.specs.Replica.{offered, replica_orders, value_kept}
+unfoldable pub use Rattle.cx_model.specs.Replica.{offers}
 pub use Rattle.cx_model.specs.Turn.{cut_turn}
 pub use Rattle.cx_model.specs.World.{ask, changed, records_in, records_of, world_after}
 pub use Rattle.cx_model.specs.declared.states.Acked.{Acked}
@@ -87,7 +90,7 @@ pub use Rattle.cx_model.specs.declared.states.Stage.{Stage}
 pub use Rattle.cx_model.specs.declared.states.Stage.TheVariants.{Collecting, Informing, Off, Retired}
 pub use Rattle.cx_inv_run.specs.Kinds.{IsKeeper, IsKept, IsSender, Kinds, OfKind}
 pub use Rattle.cx_inv_run.specs.Laws.{AllAllowed, HoldsAlong, Lands, Laws, anything}
-pub use Rattle.cx_inv_run.specs.States.{Given, HoldsIn, entry_by, snap_by, with_record}
+pub use Rattle.cx_inv_run.specs.States.{Given, HoldsIn, entry_by, opened_state, snap_by, with_record}
 unfoldable pub use Rattle.cx_inv_run.specs.States.{durable_of, log_in}
 pub use Rattle.cx_inv_run.specs.Ties.{Ties}
 pub use Rattle.cx_inv_run.proofs.Histories.{durable_by_time, durable_else, durable_other, durable_own, kept_cases, kept_longer, kept_other}
@@ -98,6 +101,7 @@ pub use Rattle.cx_inv_run.proofs.Members.{Member-all, Member-any, Member-at, Mem
 pub use Rattle.cx_inv_run.proofs.Members.{Member-first, Member-is_in, Member-map, Member-numbers, Member-one, Member-reverse, Member-second}
 pub use Rattle.cx_inv_run.proofs.Members.{Member-turned, all-Member, any-Member, below-Member, filter-Member, filter-older, is_in-Member}
 pub use Rattle.cx_inv_run.proofs.Members.{map-Member, none-Member}
+pub use Rattle.cx_inv_run.proofs.Opening.{by_order, known_left, offers_say, opened_set}
 pub use Rattle.cx_inv_run.proofs.Quorums.{column-Member, length-below, once_count, some_passes, wider}
 pub use Rattle.cx_inv_run.proofs.Rounds.{at_most-trans, before-both, before-from_at_most, before-higher, before-itself, before-not}
 pub use Rattle.cx_inv_run.proofs.Rounds.{before-to_at_least, before-trans, before_cases, itself-not_before, least, same_round-itself}

@@ -29,6 +29,7 @@ requested n (event.Deliver number cut) d m = absurd m
 requested n (event.Tick r) d m = absurd m
 requested n (event.Order leader order cut) d m = absurd m
 requested n (event.Replace replacer set cut) d m = absurd m
+requested n (event.Offer replica to slot) d m = absurd m
 requested n (event.Snap r cut) d m = absurd m
 requested n (event.Crash r) d m = absurd m
 requested n (event.Restart r) d m = absurd m

@@ -1,5 +1,5 @@
 -- Which kinds of datagrams and records a leader and a replacer send and keep.
-use Rattle.cx_model.specs.Prelude.{◌≡◌, ℕ, List, [], ◌∷◌, ◌++◌, map, Option, None, Some, refl, ◌+◌, ◌-◌, not, ◌&&◌, ◌||◌, nat_lt, nat_le}
+use Rattle.cx_model.specs.Prelude.{◌≡◌, ℕ, List, [], ◌∷◌, ◌++◌, map, Option, None, Some, refl, not, ◌&&◌, ◌||◌, nat_lt, nat_le}
 use Rattle.cx_model.specs.Prelude.{length, bytes_eq, slice_index_or, is_above, Cluster, Command, Placed, Lead, Collect, Replace, RoleId}
 use Rattle.cx_model.specs.Prelude.{Round, Shape, is_in, below, same_role, role, same_round, lead_after, change_after, Entry, with_mark}
 use Rattle.cx_model.specs.Prelude.{letter, Input, Take, Tick, Order, Msg, Collection, with_informed, is_off, is_informing, is_collecting}
@@ -13,8 +13,9 @@ use Rattle.cx_model.specs.Prelude.{ReplacerVolatile, is_resting, is_stopping, is
 use Rattle.cx_model.specs.Prelude.{to_decide, stop_a_to, next_a_to, boot_a_to, sets_to, others, sets_to_all, halt_counted, replacer_takes}
 use Rattle.cx_model.specs.Prelude.{replacer_orders, replacer_row}
 use Rattle.cx_base.specs.declared.event.Order.{Order as OrderOf}
-use Rattle.cx_base.specs.declared.event.Order.TheVariants.{Change}
+use Rattle.cx_base.specs.declared.event.Order.TheVariants.{Change, Offer}
 use Rattle.cx_base.specs.declared.role.Kind.TheVariants as kind
+use Rattle.cx_letter.specs.declared.kept.Record.TheVariants as kept
 use Rattle.cx_letter.specs.declared.message.Msg.TheVariants as msg
 use Rattle.cx_model.specs.declared.states.Mode.{Mode}
 use Rattle.cx_model.specs.declared.states.Mode.TheVariants.{Idle, Matching, Phase1, Leading}
@@ -22,8 +23,8 @@ use Rattle.cx_model.specs.declared.states.Plan.{Plan}
 use Rattle.cx_model.specs.declared.states.Replacing.{Replacing}
 use Rattle.cx_model.specs.declared.states.Replacing.TheVariants as replacing
 use Rattle.cx_model.specs.Outcome.{either_way}
-use Rattle.cx_model.specs.Replacer.{begin_in as ballot_begun, tick_in as replacer_tick}
-use Rattle.cx_inv_run.specs.Kinds.{OfKind}
+use Rattle.cx_model.specs.Replacer.{begin_in as ballot_begun, known_record, known_set, tick_in as replacer_tick}
+use Rattle.cx_inv_run.specs.Kinds.{IsKept, OfKind}
 use Rattle.cx_inv_run.proofs.Senders.{AreOwn, none, one, both, mapped, quiet, replying, keeping, pick}
 
 -- the leader's rows
@@ -150,6 +151,7 @@ module _ (c : Cluster) (me : RoleId) (is : me.kind ≡ kind.Leader) (d : LeaderD
       (pick me (not (is_leading v.mode)) _ _ (quiet me _ v) (begun v g (change_after (round_of d.own))))
   ordered v Collect = pick me (is_leading v.mode) _ _ (collection_begun v d.own) (quiet me _ v)
   ordered v (Replace s) = quiet me _ v
+  ordered v (Offer to s) = quiet me _ v
 
   pub leader_kinds : (v : LeaderVolatile) (i : Input) → OfKind me (leader_row c me d v i)
   leader_kinds v (Take letter) =
@@ -181,6 +183,10 @@ module _ (c : Cluster) (me : RoleId) (is : me.kind ≡ kind.Replacer) (d : Repla
       pick me (nat_lt (length v.halts) (enough c)) _ _ (quiet me _ v) (pick me (nat_lt 254 (length (joined_entries v.halts)))
       _ _ (quiet me _ _) (replying me _ _ _ (deciding d.own (to_decide v.next v.halts) v.set)))
 
+  known_kept : (s : List ℕ) → IsKept me.kind (known_record c d s)
+  known_kept s =
+      either_way (IsKept me.kind) (c.keep_sets && is_above s (known_set c d)) (Some (kept.Known s)) None is tt
+
   replacer_took : (v : ReplacerVolatile) (from : RoleId) (m : Msg) → OfKind me (replacer_takes c me d v from m)
   replacer_took v from (msg.StopB b w es a s) =
       pick me (not (is_stopping v.mode && same_round b d.own && is_in from.index v.set)) _ _ (quiet me _ v)
@@ -192,10 +198,12 @@ module _ (c : Cluster) (me : RoleId) (is : me.kind ≡ kind.Replacer) (d : Repla
   replacer_took v from (msg.BootB s) =
       pick me (not (is_booting v.mode && bytes_eq s v.next)) _ _ (quiet me _ v)
       (pick me (is_in from.index v.counted) _ _ (quiet me _ v)
-      (pick me (nat_lt (length (with_mark from.index v.counted)) (enough c)) _ _ (quiet me _ _) (replying me _ _ _ (telling v.next))))
+      (pick me (nat_lt (length (with_mark from.index v.counted)) (enough c)) _ _ (quiet me _ _)
+      (record { sends = telling v.next; keeps = known_kept v.next })))
   replacer_took v from (msg.StopNack b other) =
       pick me (not (same_round b d.own) || is_resting v.mode || is_booting v.mode) _ _ (quiet me _ _) (quiet me _ _)
-  replacer_took v from (msg.Sets s) = pick me (is_above s v.set) _ _ (quiet me _ _) (quiet me _ v)
+  replacer_took v from (msg.Sets s) =
+      pick me (is_above s v.set) _ _ (record { sends = none me; keeps = known_kept s }) (quiet me _ v)
   replacer_took v from other = quiet me _ v
 
   replacer_ticked : (v : ReplacerVolatile) (mode : Replacing) → OfKind me (replacer_tick c me d v mode)
@@ -215,6 +223,7 @@ module _ (c : Cluster) (me : RoleId) (is : me.kind ≡ kind.Replacer) (d : Repla
   replacer_ordered v (Lead g) = quiet me _ v
   replacer_ordered v (Change g) = quiet me _ v
   replacer_ordered v Collect = quiet me _ v
+  replacer_ordered v (Offer to s) = quiet me _ v
 
   pub replacer_kinds : (v : ReplacerVolatile) (i : Input) → OfKind me (replacer_row c me d v i)
   replacer_kinds v (Take letter) =

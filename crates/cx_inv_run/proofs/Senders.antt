@@ -15,14 +15,18 @@ use Rattle.cx_model.specs.Prelude.{greatest_mark, has_acked, is_among, is_first,
 use Rattle.cx_model.specs.Prelude.{match_ack_row, match_read_to, pre_read_ack_row, pre_read_counted, pre_read_to, read_to, reader_row}
 use Rattle.cx_model.specs.Prelude.{reader_takes, reader_tick, request_over, make_token, ReplicaDurable, ReplicaVolatile, Machine, held}
 use Rattle.cx_model.specs.Prelude.{execute_value, machine_from, results_at, results_from, read_answer_to, read_answers, apply, read_row}
-use Rattle.cx_model.specs.Prelude.{fetched_by, fetch_found, held_to, fetch_to, replica_takes, replica_tick, replica_row, same_read}
+use Rattle.cx_model.specs.Prelude.{fetched_by, fetch_found, held_to, fetch_to, replica_takes, replica_tick, replica_row, same_read, ◌||◌}
+use Rattle.cx_model.specs.Prelude.{zero, suc}
 use Rattle.cx_model.specs.Prelude.{answer_to, unbatcher_takes, unbatcher_row}
+use Rattle.cx_base.specs.declared.event.Order.{Order as OrderOf}
+use Rattle.cx_base.specs.declared.event.Order.TheVariants as order
 use Rattle.cx_base.specs.declared.role.Kind.TheVariants as kind
 use Rattle.cx_letter.specs.declared.message.Msg.TheVariants as msg
 use Rattle.cx_model.specs.declared.states.Deferred.{Deferred}
 use Rattle.cx_model.specs.declared.states.Pending.{Pending}
 use Rattle.cx_model.specs.Outcome.{either_way}
 use Rattle.cx_model.specs.Reader.{matched as batch_matched}
+use Rattle.cx_model.specs.Replica.{offer_of, offered, offers, replica_orders, value_kept}
 use Rattle.cx_model.specs.Matchmaker.{has_place}
 use Rattle.cx_inv_run.specs.Kinds.{IsSender, IsKeeper, OfKind}
 use Rattle.cx_inv_run.proofs.Members.{Member-both, Member-map, Member-one}
@@ -246,11 +250,35 @@ module _ (c : Cluster) (me : RoleId) (is : me.kind ≡ kind.Replica) (d : Replic
       (mapped me (held_to me (held d)) (below c.leaders) (λ l. (refl, is)))
       (either_way (AreOwn me) (nat_lt 1 c.replicas) _ _ (one me _ _ is) (none me)))
 
+  offer_one : (to : RoleId) (s : ℕ) (o : Option Value) → AreOwn me (offer_of me to s o)
+  offer_one to s None = none me
+  offer_one to s (Some value) = one me to _ (inr is)
+
+  offer_all : (to : RoleId) (s n : ℕ) → AreOwn me (offers me to d s n)
+  unfolding offers
+  offer_all to s zero = none me
+  offer_all to s (suc n) =
+      both me (offer_of me to (s + n) (value_kept d (s + n))) (offers me to d s n) (offer_one to (s + n) (value_kept d (s + n)))
+      (offer_all to s n)
+
+  all_offered : (v : ReplicaVolatile) (ds : List Letter) → AreOwn me ds → OfKind me (offered v ds)
+  all_offered v [] own = quiet me _ v
+  all_offered v (first ∷ rest) own = replying me _ v _ own
+
+  replica_ordered : (v : ReplicaVolatile) (o : OrderOf) → OfKind me (replica_orders c me d v o)
+  replica_ordered v (order.Offer to s) =
+      pick me (not (nat_lt to c.replicas) || (to == me.index)) _ _ (quiet me _ v)
+      (all_offered v (offers me (role kind.Replica to) d s 32) (offer_all (role kind.Replica to) s 32))
+  replica_ordered v (order.Lead g) = quiet me _ v
+  replica_ordered v (order.Change g) = quiet me _ v
+  replica_ordered v order.Collect = quiet me _ v
+  replica_ordered v (order.Replace s) = quiet me _ v
+
   pub replica_kinds : (v : ReplicaVolatile) (i : Input) → OfKind me (replica_row c me d v i)
   replica_kinds v (Take letter) =
       pick me (same_role letter.to me && names c letter) _ _ (replica_took v letter.from letter.msg) (quiet me _ v)
   replica_kinds v Tick = replica_ticked v
-  replica_kinds v (Order order) = quiet me _ v
+  replica_kinds v (Order order) = replica_ordered v order
 
 -- the reader's rows
 module _ (c : Cluster) (me : RoleId) (is : me.kind ≡ kind.Reader) (d : ReaderDurable) where

@@ -119,9 +119,11 @@ matchmaker_keeps P matches garbage stop next boot (kept.Next b s) k = next b s
 matchmaker_keeps P matches garbage stop next boot (kept.Boot s w es) k = boot s w es
 matchmaker_keeps P matches garbage stop next boot other k = cc
 
-pub replacer_keeps : (P : Record → Type 0) → ((b : Round) → P (kept.Ballot b)) → (r : Record) → IsKeeper kind.Replacer r → P r
-replacer_keeps P ballot (kept.Ballot b) k = ballot b
-replacer_keeps P ballot other k = cc
+pub replacer_keeps : (P : Record → Type 0) → ((b : Round) → P (kept.Ballot b)) → ((s : List ℕ) → P (kept.Known s)) → (r : Record)
+    → IsKeeper kind.Replacer r → P r
+replacer_keeps P ballot known (kept.Ballot b) k = ballot b
+replacer_keeps P ballot known (kept.Known s) k = known s
+replacer_keeps P ballot known other k = cc
 
 pub leader_keeps : (P : Record → Type 0) → ((i : Round) (g : Shape) → P (kept.Round i g)) → (r : Record) → IsKeeper kind.Leader r → P r
 leader_keeps P round (kept.Round i g) k = round i g

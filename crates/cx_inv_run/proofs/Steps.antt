@@ -2,7 +2,8 @@
 use Rattle.std.proofs.Common.{ap, sym, ◌∙◌, subst, inl, inr, append-nil}
 use Rattle.std.proofs.lemmas.List.{reverse-append}
 use Rattle.cx_model.specs.Prelude.{◌≡◌, ℕ, Bool, true, false, ◌⊎◌, List, [], ◌∷◌, ◌++◌, reverse, Option, None, Some, refl, slice_get}
-use Rattle.cx_model.specs.Prelude.{if◌then◌else◌, Cluster, Cut, Whole, Torn, Kept, Event, Replace, Kind, RoleId, role, Letter, Act, Give}
+use Rattle.cx_model.specs.Prelude.{if◌then◌else◌, Cluster, Cut, Whole, Torn, Kept, Event, Offer, Replace, Kind, RoleId, role, Letter, Act}
+use Rattle.cx_model.specs.Prelude.{Give}
 use Rattle.cx_model.specs.Prelude.{Snap, Stop, Wake, Input, KeptRecord, Written, Record, Token, acceptor_rules, acceptor_row, batcher_rules}
 use Rattle.cx_model.specs.Prelude.{batcher_row, heard_by, leader_rules, leader_row, role_from_parts, matchmaker_rules, matchmaker_row}
 use Rattle.cx_model.specs.Prelude.{names_role, Outcome, proxy_rules, proxy_row, reader_rules, reader_row, replacer_rules, replacer_row}
@@ -17,7 +18,7 @@ use Rattle.cx_base.specs.declared.why.Why.TheVariants as why
 use Rattle.cx_letter.specs.declared.input.Input.TheVariants as input
 use Rattle.cx_model.specs.Outcome.{either_way}
 use Rattle.cx_model.specs.World.{Change, step}
-use Rattle.cx_inv_run.specs.States.{entry_by, snap_by, with_written, durable_of, Given, Property, HoldsIn}
+use Rattle.cx_inv_run.specs.States.{entry_by, snap_by, with_written, durable_of, opened_state, Given, Property, HoldsIn}
 use Rattle.cx_inv_run.specs.Laws.{Lands, Laws, anything, heard_of, AllAllowed, HoldsAlong, StepLaw, RunFromLaw, RunLaw}
 use Rattle.cx_inv_run.proofs.Members.{Member-at}
 use Rattle.cx_inv_run.proofs.Histories.{durable_by_time, record_written, set_same, set_twice, state_own}
@@ -155,13 +156,14 @@ module _ (c : Cluster) (Allowed : ℕ → Event → Type 0) (known holds : Prope
         subst (λ l. holds after l (set_state me Down states)) (sym (append-nil sent)) (laws.stop after sent states me (snaps first refl))
 
     -- a role that runs is in this state; where it doesn't run, its state may be any
-    opens : holds kept sent (set_state me (fresh_state c me.kind) states)
+    opens : holds kept sent (set_state me (opened_state c me kept me.kind) states)
     opens =
-        laws.same kept sent (set_state me (fresh_state c me.kind) (set_state me Down states)) (set_state me (fresh_state c me.kind) states)
-        (λ a. sym (set_twice me (fresh_state c me.kind) Down states a))
+        let s = opened_state c me kept me.kind in
+        laws.same kept sent (set_state me s (set_state me Down states)) (set_state me s states)
+        (λ a. sym (set_twice me s Down states a))
         (laws.wake kept sent (set_state me Down states) me (laws.stop kept sent states me h) (state_own me Down states))
 
-    acted : {D : Type 0} (rules : Rules D V) (d : D) → fresh_state c me.kind ≡ make (rules.fresh c)
+    acted : {D : Type 0} (rules : Rules D V) (d : D) → opened_state c me kept me.kind ≡ make (rules.fresh c d)
         → (running : Option V) → ((v : V) → running ≡ Some v → states me ≡ make v) → (act : Act) → ((v : V) (i : Input) (cut : Cut)
         → act ≡ Give i cut → states me ≡ make v → Lands holds kept sent states me make (rules.row c me d v i))
         → ((v : V) (first : ℕ) → states me ≡ make v → rules.snap c me d v ≡ Some first → holds (snap_by me first ∷ kept) sent states)
@@ -175,8 +177,8 @@ module _ (c : Cluster) (Allowed : ℕ → Event → Type 0) (known holds : Prope
     acted rules d fresh None is Stop row snaps = stopped
     acted rules d fresh (Some v) is Stop row snaps = stopped
     acted rules d fresh None is Wake row snaps =
-        either_way AfterTurn (names_role c me) (still (Some (rules.fresh c)) why.Opened) (still None why.Down)
-        (quiet (make (rules.fresh c)) (subst (λ s. holds kept sent (set_state me s states)) fresh opens)) stopped
+        either_way AfterTurn (names_role c me) (still (Some (rules.fresh c d)) why.Opened) (still None why.Down)
+        (quiet (make (rules.fresh c d)) (subst (λ s. holds kept sent (set_state me s states)) fresh opens)) stopped
     acted rules d fresh (Some v) is Wake row snaps = stays v (is v refl)
 
   -- a change of a world
@@ -188,7 +190,8 @@ module _ (c : Cluster) (Allowed : ℕ → Event → Type 0) (known holds : Prope
     no_change = subst (λ l. holds (reverse w.kept) l w.roles) (sym (append-nil w.sent)) h
 
     placed : {D V : Type 0} (k : Kind) (make : V → State) (get : State → Option V) → Only make get
-        → (rules : Rules D V) (me : RoleId) (act : Act) → me.kind ≡ k → fresh_state c k ≡ make (rules.fresh c)
+        → (rules : Rules D V) (me : RoleId) (act : Act) → me.kind ≡ k
+        → opened_state c me (reverse w.kept) k ≡ make (rules.fresh c (durable_of rules me (reverse w.kept)))
         → ((v : V) (i : Input) (cut : Cut) → act ≡ Give i cut → w.roles me ≡ make v
         → Lands holds (reverse w.kept) w.sent w.roles me make (rules.row c me (durable_of rules me (reverse w.kept)) v i))
         → ((v : V) (first : ℕ) → w.roles me ≡ make v → rules.snap c me (durable_of rules me (reverse w.kept)) v ≡ Some first
@@ -198,7 +201,9 @@ module _ (c : Cluster) (Allowed : ℕ → Event → Type 0) (known holds : Prope
         let kept = reverse w.kept in
         let t = turn rules c me (durable_part rules me w.kept) act (get (w.roles me)) in
         subst (λ l. holds l (w.sent ++ t.sends) (set_state me (state_of make t.role) w.roles)) (kept_turned me t.kept kept)
-        (acted kept w.sent w.roles h me make rules (durable_part rules me w.kept) (ap (λ j. fresh_state c j) is ∙ fresh)
+        (acted kept w.sent w.roles h me make rules (durable_part rules me w.kept)
+        (subst (λ x. opened_state c me kept me.kind ≡ make (rules.fresh c x)) (sym (durable_by_time rules me w.kept))
+        (ap (λ j. opened_state c me kept j) is ∙ fresh))
         (get (w.roles me)) (λ v e. only (w.roles me) v e) act
         (λ v i cut p s. subst (λ x. Lands holds kept w.sent w.roles me make (rules.row c me x v i)) (sym (durable_by_time rules me w.kept))
         (row v i cut p s))
@@ -306,6 +311,7 @@ module _ (c : Cluster) (Allowed : ℕ → Event → Type 0) (known holds : Prope
     changes (event.Tick r) allowed = acts (Give input.Tick Whole) r tt
     changes (event.Order l order cut) allowed = acts (Give (input.Order order) cut) (role kind.Leader l) tt
     changes (event.Replace x s cut) allowed = acts (Give (input.Order (Replace s)) cut) (role kind.Replacer x) tt
+    changes (event.Offer p to s) allowed = acts (Give (input.Order (Offer to s)) Whole) (role kind.Replica p) tt
     changes (event.Snap r cut) allowed = acts (Snap cut) r tt
     changes (event.Crash r) allowed = acts Stop r tt
     changes (event.Restart r) allowed = acts Wake r tt

@@ -61,6 +61,7 @@ IsKeeper k (kept.Stop b) = k ≡ kind.Matchmaker
 IsKeeper k (kept.Next b s) = k ≡ kind.Matchmaker
 IsKeeper k (kept.Boot s w entries) = k ≡ kind.Matchmaker
 IsKeeper k (kept.Turn n) = k ≡ kind.Reader
+IsKeeper k (kept.Known s) = k ≡ kind.Replacer
 IsKeeper k other = true ≡ false
 
 -- a role of this kind may make this change in its store: keep a record of its kind; some also put their lists anew

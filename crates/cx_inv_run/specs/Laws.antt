@@ -9,7 +9,7 @@ use Rattle.cx_model.specs.Prelude.{token_of, unbatcher_row, World, change, step,
 use Rattle.cx_model.specs.Prelude.{ProxyIn, ReplicaIn, ReaderIn, ReplacerIn, plain, fresh_state, set_state}
 use Rattle.cx_base.specs.declared.role.Kind.TheVariants as kind
 use Rattle.cx_base.specs.declared.why.Why.TheVariants as why
-use Rattle.cx_inv_run.specs.States.{entry_by, snap_by, with_record, durable_of, Given, Property, HoldsIn}
+use Rattle.cx_inv_run.specs.States.{entry_by, snap_by, with_record, durable_of, opened_state, Given, Property, HoldsIn}
 
 -- The outcome of a row keeps a property: the whole step, and the step that is cut after its record was kept. (A step that is cut before is
 -- a stop.)
@@ -31,7 +31,7 @@ pub record Laws (c : Cluster) (Allowed : ℕ → Event → Type 0) (known holds 
       → holds kept sent states → holds kept sent (set_state me Down states)
   -- a restart
   pub wake : (kept : List KeptRecord) (sent : List Letter) (states : RoleId → State) (me : RoleId)
-      → holds kept sent states → states me ≡ Down → holds kept sent (set_state me (fresh_state c me.kind) states)
+      → holds kept sent states → states me ≡ Down → holds kept sent (set_state me (opened_state c me kept me.kind) states)
   -- a request of a client that has heard of `n` values
   pub ask : (kept : List KeptRecord) (sent : List Letter) (states : RoleId → State) (n : ℕ) (e : Event)
       → Allowed n e → known kept sent states → holds kept sent states → holds kept (sent ++ request n e) states

@@ -1,7 +1,7 @@
 -- What an event's word `decided` says: a replacer lets a set begin in the place of the one that it knows, and by this word alone. So
 -- whoever is asked to begin in a set, and whoever begins in it, was so after an event that decided this set.
 use Rattle.cx_inv_run.proofs.Common.{◌≡◌, ℕ, not, ◌&&◌, ◌||◌, map, ◌⊎◌, List, [], ◌++◌, length, Option, Some, None, inl, inr, ap, sym, ◌∙◌}
-use Rattle.cx_inv_run.proofs.Common.{refl, nat_lt, nat_le, bytes_eq, if◌then◌else◌, list_any, same_Some, Cluster, Lead, Collect, Replace}
+use Rattle.cx_inv_run.proofs.Common.{refl, nat_lt, bytes_eq, if◌then◌else◌, list_any, same_Some, Cluster, Lead, Collect, Offer, Replace}
 use Rattle.cx_inv_run.proofs.Common.{RoleId, Round, Why, Shape, is_in, below, role, same_role, is_before, same_round, lead_after, is_above}
 use Rattle.cx_inv_run.proofs.Common.{Entry, with_mark, Letter, Input, Record, Msg, Replacing, Stopping, Deciding, Booting, enough}
 use Rattle.cx_inv_run.proofs.Common.{first_set, MatchmakerDurable, matchmaker_takes, match_a_row, garbage_a_row, match_read_row, stop_a_row}
@@ -19,7 +19,7 @@ use Rattle.cx_letter.specs.declared.message.Msg.TheVariants as msg
 use Rattle.cx_model.specs.declared.states.Replacing.TheVariants.{Idle}
 use Rattle.cx_model.specs.Matchmaker.{boot_a_row}
 use Rattle.cx_model.specs.Replacer.{stop_a_to, next_a_to, boot_a_to, sets_to, others, sets_to_all, begin_in, stop_b_row, next_b_row}
-use Rattle.cx_model.specs.Replacer.{boot_b_row, with_seen, stop_nack_row, sets_row, tick_in}
+use Rattle.cx_model.specs.Replacer.{boot_b_row, known_record, with_seen, stop_nack_row, sets_row, tick_in}
 use Rattle.cx_model.specs.Matchmaker.{has_place}
 use Rattle.cx_inv_vote.proofs.Leading.{each}
 
@@ -109,6 +109,7 @@ module _ (c : Cluster) (me : RoleId) (dur : ReplacerDurable) (v : ReplacerVolati
   order_says (Lead g) = same why.Stranger (λ e. cc)
   order_says (ChangeGrid g) = same why.Stranger (λ e. cc)
   order_says Collect = same why.Stranger (λ e. cc)
+  order_says (Offer to s) = same why.Stranger (λ e. cc)
 
   -- a tick
 
@@ -160,7 +161,7 @@ module _ (c : Cluster) (me : RoleId) (dur : ReplacerDurable) (v : ReplacerVolati
 
   -- a member of the next set has begun
 
-  boot_b_says : (from : RoleId) (s : List ℕ) → Says (boot_b_row c me v from s)
+  boot_b_says : (from : RoleId) (s : List ℕ) → Says (boot_b_row c me dur v from s)
   boot_b_says from s =
       by_test Says (not (is_booting v.mode && bytes_eq s v.next)) _ _
       (λ t. same why.Old (λ e. cc))
@@ -168,7 +169,8 @@ module _ (c : Cluster) (me : RoleId) (dur : ReplacerDurable) (v : ReplacerVolati
       (λ t. same why.Same (λ e. cc))
       (λ g. by_test Says (nat_lt (length (with_mark from.index v.counted)) (enough c)) _ _
       (λ t. says_nothing v (record v { counted = with_mark from.index v.counted }) why.Counted (λ e. cc) (λ e. (e, refl))) (λ k. says_else v
-      (record v { mode = Idle; set = v.next }) why.Replaced None (sets_to_all c me v.next) (λ e. cc) (λ e. cc) (tells_no_boot v.next))))
+      (record v { mode = Idle; set = v.next }) why.Replaced (known_record c dur v.next) (sets_to_all c me v.next) (λ e. cc) (λ e. cc)
+      (tells_no_boot v.next))))
 
   -- a greater ballot, another set
 
@@ -178,10 +180,10 @@ module _ (c : Cluster) (me : RoleId) (dur : ReplacerDurable) (v : ReplacerVolati
       (λ t. says_nothing v (with_seen other v) why.Old (λ e. cc) (λ e. (e, refl)))
       (λ f. says_nothing v (record (with_seen other v) { mode = Idle }) why.Nacked (λ e. cc) (λ e. cc))
 
-  sets_says : (s : List ℕ) → Says (sets_row v s)
+  sets_says : (s : List ℕ) → Says (sets_row c dur v s)
   sets_says s =
       by_test Says (is_above s v.set) _ _
-      (λ t. says_nothing v (record v { mode = Idle; set = s }) why.Learnt (λ e. cc) (λ e. cc))
+      (λ t. says_else v (record v { mode = Idle; set = s }) why.Learnt (known_record c dur s) [] (λ e. cc) (λ e. cc) (λ d m. absurd m))
       (λ f. same why.Old (λ e. cc))
 
   takes_says : (from : RoleId) (m : Msg) → Says (replacer_takes c me dur v from m)

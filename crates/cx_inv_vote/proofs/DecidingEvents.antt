@@ -1,6 +1,7 @@
 -- What an event does, by what its role's row says of sets.
 use Rattle.cx_inv_run.proofs.Common.{◌≡◌, ℕ, ◌&&◌, ◌⊎◌, List, [], Option, Some, None, inl, inr, ap, sym, subst, ◌∙◌, refl, ⊎_elim}
-use Rattle.cx_inv_run.proofs.Common.{slice_get, option_map, same_Some, Cut, Whole, Torn, Kept, Event, Replace, Kind, RoleId, Round, Why}
+use Rattle.cx_inv_run.proofs.Common.{slice_get, option_map, same_Some, Cut, Whole, Torn, Kept, Event, Offer, Replace, Kind, RoleId, Round}
+use Rattle.cx_inv_run.proofs.Common.{Why}
 use Rattle.cx_inv_run.proofs.Common.{role, same_role, Entry, Token, Letter, Act, Give, Snap, Stop, Wake, Input, KeptRecord, Written, Record}
 use Rattle.cx_inv_run.proofs.Common.{Booting, acceptor_rules, batcher_rules, heard_by, leader_rules, bool_cases, differ_role}
 use Rattle.cx_inv_run.proofs.Common.{same_role-true, MatchmakerDurable, matchmaker_rules, matchmaker_row, Member, names, names_role}
@@ -114,7 +115,7 @@ module _ (w : World) (Was : List ℕ → Type 0)
     turn_mild Stop is None = still_mild _ refl (λ s b es q. cc)
     turn_mild Stop is (Some v) = still_mild _ refl (λ s b es q. cc)
     turn_mild Wake is None =
-        either_way IsMild (names_role w.cluster me) (still_turn (Some (rules.fresh w.cluster)) why.Opened) (still_turn None why.Down)
+        either_way IsMild (names_role w.cluster me) (still_turn (Some (rules.fresh w.cluster d)) why.Opened) (still_turn None why.Down)
         (still_mild _ refl (λ s b es q. cc)) (still_mild _ refl (λ s b es q. cc))
     turn_mild Wake is (Some v) = still_mild _ refl (λ s b es q. cc)
 
@@ -218,9 +219,12 @@ module _ (w : World) (Was : List ℕ → Type 0)
       decided = λ q. cc;
     }
 
-    idle : (v : ReplacerVolatile) → ◌≡◌ {A = Option ReplacerVolatile} (Some (replacer_rules.fresh w.cluster)) (Some v)
+    idle : (v : ReplacerVolatile) → ◌≡◌ {A = Option ReplacerVolatile} (Some (replacer_rules.fresh w.cluster d)) (Some v)
         → v.mode ≡ Booting → ⊥
-    idle v e m = (let p : Idle ≡ Booting = ap (λ (x : ReplacerVolatile). x.mode) (same_Some (replacer_rules.fresh w.cluster) v e) ∙ m in cc)
+    idle v e m =
+        let same = same_Some (replacer_rules.fresh w.cluster d) v e in
+        let p : Idle ≡ Booting = ap (λ (x : ReplacerVolatile). x.mode) same ∙ m in
+        cc
 
     turn_says : (act : Act) (running : Option ReplacerVolatile) → TurnSays running (turn replacer_rules w.cluster me d act running)
     turn_says (Give i cut) None = still_says None None why.Down (λ q. cc) (λ u q m. q)
@@ -230,8 +234,8 @@ module _ (w : World) (Was : List ℕ → Type 0)
     turn_says Stop None = still_says None None why.Down (λ q. cc) (λ u q m. q)
     turn_says Stop (Some v) = still_says (Some v) None why.Crashed (λ q. cc) (λ u q m. cc)
     turn_says Wake None = either_way (TurnSays None) (names_role w.cluster me)
-        (still_turn (Some (replacer_rules.fresh w.cluster)) why.Opened) (still_turn None why.Down)
-        (still_says None (Some (replacer_rules.fresh w.cluster)) why.Opened (λ q. cc) (λ u q m. absurd (idle u q m)))
+        (still_turn (Some (replacer_rules.fresh w.cluster d)) why.Opened) (still_turn None why.Down)
+        (still_says None (Some (replacer_rules.fresh w.cluster d)) why.Opened (λ q. cc) (λ u q m. absurd (idle u q m)))
         (still_says None None why.Down (λ q. cc) (λ u q m. q))
     turn_says Wake (Some v) = still_says (Some v) (Some v) why.Up (λ q. cc) (λ u q m. q)
 
@@ -371,6 +375,7 @@ module _ (w : World) (Was : List ℕ → Type 0)
   request_asks n (event.Tick r) = λ d m. absurd m
   request_asks n (event.Order leader order cut) = λ d m. absurd m
   request_asks n (event.Replace replacer set cut) = λ d m. absurd m
+  request_asks n (event.Offer replica to slot) = λ d m. absurd m
   request_asks n (event.Snap r cut) = λ d m. absurd m
   request_asks n (event.Crash r) = λ d m. absurd m
   request_asks n (event.Restart r) = λ d m. absurd m
@@ -397,6 +402,9 @@ module _ (w : World) (Was : List ℕ → Type 0)
   follows (event.Replace x s cut) =
       acts (Give (input.Order (Replace s)) cut) (role kind.Replacer x)
       (λ i k e. let q : input.Order (Replace s) ≡ i = cc in subst (λ y. Given w.sent (role kind.Replacer x) y) q tt)
+  follows (event.Offer p to s) =
+      acts (Give (input.Order (Offer to s)) Whole) (role kind.Replica p)
+      (λ i k e. let q : input.Order (Offer to s) ≡ i = cc in subst (λ y. Given w.sent (role kind.Replica p) y) q tt)
   follows (event.Snap r cut) = acts (Snap cut) r (no_given r (Snap cut) (λ i k e. cc))
   follows (event.Crash r) = acts Stop r (no_given r Stop (λ i k e. cc))
   follows (event.Restart r) = acts Wake r (no_given r Wake (λ i k e. cc))

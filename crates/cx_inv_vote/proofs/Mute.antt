@@ -45,6 +45,7 @@ module _ (k : Kind) (no_leader : k ≡ kind.Leader → ⊥) (no_matchmaker : k �
   mute_keeps P turn (kept.Next b s) e = absurd (no_matchmaker e)
   mute_keeps P turn (kept.Boot s w es) e = absurd (no_matchmaker e)
   mute_keeps P turn (kept.Turn n) e = turn n
+  mute_keeps P turn (kept.Known s) e = absurd (no_replacer e)
   mute_keeps P turn other e = cc
 
   module _ (c : Cluster) (history : List KeptRecord) (sent : List Letter) (states : RoleId → State) (facts : Facts c history sent states)

@@ -96,18 +96,18 @@ one_next_set c es then more later e f is s t u first second =
     same = append_assoc then (e ∷ more) (f ∷ []) ∙ sym (append_assoc then (e ∷ []) (more ++ f ∷ []))
 
 -- what an event decided stays decided
-decided_more : (c : Cluster) (then more : List Event) (s t : List ℕ) → WasDecided c then s t → WasDecided c (then ++ more) s t
+pub decided_more : (c : Cluster) (then more : List Event) (s t : List ℕ) → WasDecided c then s t → WasDecided c (then ++ more) s t
 decided_more c then more s t d = (d.0, d.1 ++ more, d.2, ap (λ l. l ++ more) d.3 ∙ append_assoc d.0 (d.2 ∷ d.1) more, d.4)
 
 -- one of these events decided this set
-abbrev IsOfChain : Cluster → List Event → List ℕ → Type 0
+abbrev pub IsOfChain : Cluster → List Event → List ℕ → Type 0
 IsOfChain c es t = (s : List ℕ) × WasDecided c es s t
 
 -- Whoever is asked to begin in a set, whoever begins in it, and whatever set a replacer lets begin: one of the events decided it.
-record AreDecided (c : Cluster) (es : List Event) (w : World) : Type 0 where
-  asks : (d : Letter) → Member d w.sent → (t : List ℕ) (v : Round) (xs : List Entry) → msg.BootA t v xs ≡ d.msg → IsOfChain c es t
-  begins : (who : RoleId) (t : List ℕ) (v : Round) (xs : List Entry) → HasKept w.kept who (kept.Boot t v xs) → IsOfChain c es t
-  boots : (x : ℕ) (v : ReplacerVolatile) → w.roles (role kind.Replacer x) ≡ ReplacerIn v → v.mode ≡ Booting → IsOfChain c es v.next
+pub record AreDecided (c : Cluster) (es : List Event) (w : World) : Type 0 where
+  pub asks : (d : Letter) → Member d w.sent → (t : List ℕ) (v : Round) (xs : List Entry) → msg.BootA t v xs ≡ d.msg → IsOfChain c es t
+  pub begins : (who : RoleId) (t : List ℕ) (v : Round) (xs : List Entry) → HasKept w.kept who (kept.Boot t v xs) → IsOfChain c es t
+  pub boots : (x : ℕ) (v : ReplacerVolatile) → w.roles (role kind.Replacer x) ≡ ReplacerIn v → v.mode ≡ Booting → IsOfChain c es v.next
 
 fresh_rests : (v u : ReplacerVolatile) → ReplacerIn v ≡ ReplacerIn u → u ≡ v
 fresh_rests v u e = cc
@@ -115,16 +115,19 @@ fresh_rests v u e = cc
 never_up : {A : Type 0} (u : ReplacerVolatile) → Down ≡ ReplacerIn u → A
 never_up u e = absurd cc
 
-start_decided : (c : Cluster) → AreDecided c [] (run c [])
+pub start_decided : (c : Cluster) → AreDecided c [] (run c [])
 start_decided c = record {
   asks = λ d m. absurd m;
   begins = λ who t v xs m. absurd m;
   boots = λ x u e m. either_way (λ (s : State). s ≡ ReplacerIn u → IsOfChain c [] u.next) (names_role c (role kind.Replacer x))
-      (ReplacerIn (replacer_rules.fresh c)) Down
-      (λ e. rests (subst (λ (y : ReplacerVolatile). y.mode ≡ Booting) (fresh_rests (replacer_rules.fresh c) u e) m)) (λ e. never_up u e) e;
+      (ReplacerIn fresh) Down (λ e. rests (subst (λ (y : ReplacerVolatile). y.mode ≡ Booting) (fresh_rests fresh u e) m))
+      (λ e. never_up u e) e;
 }
   where
-    rests : {A : Type 0} → (replacer_rules.fresh c).mode ≡ Booting → A
+    fresh : ReplacerVolatile
+    fresh = replacer_rules.fresh c replacer_rules.empty
+
+    rests : {A : Type 0} → fresh.mode ≡ Booting → A
     rests q = cc
 
 module _ (c : Cluster) (then : List Event) (e : Event) (old : AreDecided c then (run c then)) where
@@ -165,7 +168,7 @@ module _ (c : Cluster) (then : List Event) (e : Event) (old : AreDecided c then 
     boots = λ x v q m. now v.next (done.boots x v q m);
   }
 
-all_decided : (c : Cluster) (then later : List Event) → AreDecided c then (run c then)
+pub all_decided : (c : Cluster) (then later : List Event) → AreDecided c then (run c then)
     → AreDecided c (then ++ later) (run c (then ++ later))
 all_decided c then [] h = subst (λ l. AreDecided c l (run c l)) (sym (append-nil then)) h
 all_decided c then (e ∷ later) h =

@@ -3,10 +3,12 @@ use Rattle.std.proofs.lemmas.Slice.Eq.{bytes_eq-Decides}
 use Rattle.cx_inv_run.proofs.Common.{◌≡◌, ℕ, suc, ◌+◌, ◌<◌, ◌≤◌, Bool, true, false, not, ◌&&◌, ◌||◌, map, ◌⊎◌, List, [], ◌∷◌, ◌++◌, length}
 use Rattle.cx_inv_run.proofs.Common.{Option, Some, None, inl, inr, ap, sym, subst, ◌∙◌, refl, arith, max, ◌==◌, nat_lt, bytes_eq}
 use Rattle.cx_inv_run.proofs.Common.{if◌then◌else◌, same_Some, true≢false, and_parts, not-false, ltb-false, cond_both, Cluster, Value, Lead}
-use Rattle.cx_inv_run.proofs.Common.{Collect, Replace, Kind, RoleId, Round, Why, is_in, below, role, same_role, is_before, same_round}
+use Rattle.cx_inv_run.proofs.Common.{Collect, Offer, Replace, Kind, RoleId, Round, Why, is_in, below, role, same_role, is_before}
+use Rattle.cx_inv_run.proofs.Common.{same_round}
 use Rattle.cx_inv_run.proofs.Common.{no_round, lead_after, is_above, Entry, with_mark, Letter, letter, Input, Take, Tick, Order, KeptRecord}
 use Rattle.cx_inv_run.proofs.Common.{Msg, Halt, Replacing, Stopping, Deciding, Booting, IsProposed, IsRetiring, number_itself, enough}
-use Rattle.cx_inv_run.proofs.Common.{greatest_watermark, first_set, Member, names, names_set, Outcome, only_word, replied, by_test, HasKept}
+use Rattle.cx_inv_run.proofs.Common.{greatest_watermark, first_set, Member, names, names_set, Outcome, only_word, replied, by_test}
+use Rattle.cx_inv_run.proofs.Common.{either_way, HasKept, Record}
 use Rattle.cx_inv_run.proofs.Common.{ReplacerDurable, ReplacerVolatile, replacer_rules, is_stopping, is_deciding, is_booting, is_resting}
 use Rattle.cx_inv_run.proofs.Common.{has_halted, joined_entries, to_decide, decide, halt_counted, next_counted, replacer_takes}
 use Rattle.cx_inv_run.proofs.Common.{replacer_orders, replacer_row, Kinds, Lands, State, ReplacerIn, entry_by, durable_of, Given}
@@ -20,14 +22,15 @@ use Rattle.cx_letter.specs.declared.kept.Record.TheVariants as kept
 use Rattle.cx_letter.specs.declared.message.Msg.TheVariants as msg
 use Rattle.cx_model.specs.declared.states.Replacing.TheVariants.{Idle}
 use Rattle.cx_model.specs.Replacer.{answers_of, latest, next_of, stop_a_to, next_a_to, boot_a_to, sets_to, others, sets_to_all, begin_in}
-use Rattle.cx_model.specs.Replacer.{replace_row, stop_b_row, next_b_row, boot_b_row, with_seen, stop_nack_row, sets_row, tick_in}
+use Rattle.cx_model.specs.Replacer.{known_record, known_set, replace_row, stop_b_row, next_b_row, boot_b_row, with_seen, stop_nack_row}
+use Rattle.cx_model.specs.Replacer.{sets_row, tick_in}
 use Rattle.cx_inv_match.specs.Words.{how_many, HasNext, IsKnown, IsNth, IsDecided, IsNextSet, IsBoot, IsHalt}
 use Rattle.cx_inv_match.specs.Facts.{Facts, Says, InState, InWork, IsStopping, IsDeciding, IsBooting, AreOnce, halted_by}
 use Rattle.cx_inv_match.proofs.Chains.{nth_meet}
-use Rattle.cx_inv_match.proofs.Grow.{grown_join, more_nth}
+use Rattle.cx_inv_match.proofs.Grow.{grown_join, grown_known, more_nth}
 use Rattle.cx_inv_match.proofs.Joins.{latest_member, halts_join, halts_closed}
 use Rattle.cx_inv_match.proofs.Keep.{stop}
-use Rattle.cx_inv_match.proofs.SetRecords.{keep_ballot, ballot_new}
+use Rattle.cx_inv_match.proofs.SetRecords.{keep_ballot, keep_known, ballot_new, grows_set}
 use Rattle.cx_inv_vote.specs.Laws.{IsPlainMsg}
 use Rattle.cx_inv_vote.proofs.Leading.{each, quiet_each}
 use Rattle.cx_inv_vote.proofs.Rows.{lands, keeps_silent, keeps_sending, keeps_record}
@@ -118,7 +121,7 @@ deciding-mode Stopping t = cc
 deciding-mode Deciding t = refl
 deciding-mode Booting t = cc
 
-booting-mode : (mode : Replacing) → is_booting mode ≡ true → mode ≡ Booting
+pub booting-mode : (mode : Replacing) → is_booting mode ≡ true → mode ≡ Booting
 booting-mode Idle t = cc
 booting-mode Stopping t = cc
 booting-mode Deciding t = cc
@@ -204,6 +207,34 @@ module _ (c : Cluster) (history : List KeptRecord) (sent : List Letter) (states 
       calm w v (sets_to_all c me s) h
       (told_all (λ (d : Letter). IsPlainMsg d.msg) s (λ to. (λ i g n cw u e. cc, λ i g e. cc, λ b t e. cc)))
       (λ longer more. told_all (λ (d : Letter). Says c history longer d.from d.msg) s (λ to. known))
+
+  -- it knows another set, and may keep it
+  rests_kept : (w : Why) (v : ReplacerVolatile) → v.mode ≡ Idle → (s : List ℕ) → IsKnown c history s → (ds : List Letter)
+      → IsKnown c history v.set → QuietSends ds
+      → ((longer : List KeptRecord) → IsKnown c longer s → (wider : List Letter) (d : Letter) → Member d ds
+      → Says c longer wider d.from d.msg)
+      → Fine (record { why = w; kept = known_record c dur s; volatile = v; sends = ds })
+  rests_kept w v is s known ds set quiet says =
+      either_way (λ (o : Option Record). Fine (record { why = w; kept = o; volatile = v; sends = ds }))
+      (c.keep_sets && is_above s (known_set c dur)) (Some (kept.Known s)) None
+      (lands c history sent states facts me ReplacerIn (record { why = w; kept = Some (kept.Known s); volatile = v; sends = ds }) quiet
+      (keeps_record c history sent states facts me ReplacerIn w (kept.Known s) v ds (keep_known c history sent states facts me s known)
+      (grown v.set set, subst (λ y. InWork c longer sent me (durable_of replacer_rules me longer).own v y) (sym is) tt)
+      (λ wider more. says longer (grown s known) wider)))
+      (calm w v ds (knows_in v Idle is set tt) quiet (λ wider more. says history known wider))
+    where
+      longer : List KeptRecord
+      longer = entry_by me (kept.Known s) ∷ history
+
+      grown : (t : List ℕ) → IsKnown c history t → IsKnown c longer t
+      grown t k = grown_known c history sent longer sent (grows_set c history sent states facts me s known) t k
+
+  tells_kept : (w : Why) (v : ReplacerVolatile) → v.mode ≡ Idle → (s : List ℕ) → IsKnown c history s → IsKnown c history v.set
+      → Fine (record { why = w; kept = known_record c dur s; volatile = v; sends = sets_to_all c me s })
+  tells_kept w v is s known set =
+      rests_kept w v is s known (sets_to_all c me s) set
+      (told_all (λ (d : Letter). IsPlainMsg d.msg) s (λ to. (λ i g n cw u e. cc, λ i g e. cc, λ b t e. cc)))
+      (λ longer k wider. told_all (λ (d : Letter). Says c longer wider d.from d.msg) s (λ to. k))
 
   -- asking to accept the next set
 
@@ -516,7 +547,7 @@ module _ (c : Cluster) (history : List KeptRecord) (sent : List Letter) (states 
   -- a member of the next set has begun
 
   boot_b_fine : (v : ReplacerVolatile) → Knows v → (from : RoleId) (s : List ℕ)
-      → Member (letter (role kind.Matchmaker from.index) me (msg.BootB s)) sent → Fine (boot_b_row c me v from s)
+      → Member (letter (role kind.Matchmaker from.index) me (msg.BootB s)) sent → Fine (boot_b_row c me dur v from s)
   boot_b_fine v h from s y =
       by_test Fine (not (is_booting v.mode && bytes_eq s v.next)) _ _
       (λ t. still why.Old v h)
@@ -531,7 +562,7 @@ module _ (c : Cluster) (history : List KeptRecord) (sent : List Letter) (states 
       (record { decided = k.decided; join = k.join; begun = begun k ((bytes_eq-Decides s v.next).0 p.1) })))
       (λ n. let next : IsKnown c history v.next =
       (h.0.0 + 1, subst (λ i. IsNth c history i v.next) (let e : suc h.0.0 ≡ h.0.0 + 1 = omega arith in e) (v.set, h.0.1, k.decided)) in
-      tells_set why.Replaced (record v { mode = Idle; set = v.next }) (next, tt) v.next next)))
+      tells_kept why.Replaced (record v { mode = Idle; set = v.next }) refl v.next next next)))
     where
       begun : IsBooting c history sent me v → s ≡ v.next → (n : ℕ) → Member n (with_mark from.index v.counted)
           → Member (letter (role kind.Matchmaker n) me (msg.BootB v.next)) sent
@@ -566,10 +597,10 @@ module _ (c : Cluster) (history : List KeptRecord) (sent : List Letter) (states 
       (λ t. still why.Old (with_seen other v) (h.0, seen_work v other v.mode h.1))
       (λ f. rests why.Nacked (record (with_seen other v) { mode = Idle }) refl h.0)
 
-  sets_fine : (v : ReplacerVolatile) → Knows v → (s : List ℕ) → IsKnown c history s → Fine (sets_row v s)
+  sets_fine : (v : ReplacerVolatile) → Knows v → (s : List ℕ) → IsKnown c history s → Fine (sets_row c dur v s)
   sets_fine v h s known =
       by_test Fine (is_above s v.set) _ _
-      (λ t. rests why.Learnt (record v { mode = Idle; set = s }) refl known)
+      (λ t. rests_kept why.Learnt (record v { mode = Idle; set = s }) refl s known [] known (λ d m. absurd m) (λ h k longer d m. absurd m))
       (λ f. still why.Old v h)
 
   -- by the input
@@ -588,6 +619,7 @@ module _ (c : Cluster) (history : List KeptRecord) (sent : List Letter) (states 
   order_fine v h (Lead g) = still why.Stranger v h
   order_fine v h (Change g) = still why.Stranger v h
   order_fine v h Collect = still why.Stranger v h
+  order_fine v h (Offer to s) = still why.Stranger v h
 
   by_kind : (from : RoleId) (m : Msg) (k : Kind) → from.kind ≡ k → Member (letter from me m) sent
       → Member (letter (role k from.index) me m) sent

@@ -281,6 +281,7 @@ module _ (c : Cluster) (history : List KeptRecord) (sent : List Letter) (states 
         elim (Member-cases _ sent ds m) [ inl k ↦ facts.asks from to b u k | inr k ↦ (let r = asks from to b u k in (r.0, r.1)) ];
     balloter = facts.balloter;
     last_ballot = facts.last_ballot;
+    known_sets = facts.known_sets;
     voted = λ a i t v h. still_proposed sent ds i t v (facts.voted a i t v h);
     one_value = λ i t v w x y. elim (proposed_cases sent ds i t v x) [
       | inl k ↦ (elim (proposed_cases sent ds i t w y) [ inl l ↦ facts.one_value i t v w k l | inr l ↦ sym (one_value i t w v l x) ])

@@ -2,15 +2,17 @@
 use Rattle.cx_inv_run.proofs.Common.{◌≡◌, ℕ, zero, suc, ◌⊎◌, List, [], ◌∷◌, ◌++◌, map, Some, inl, inr, sym, subst, refl, slice_get}
 use Rattle.cx_inv_run.proofs.Common.{none-some, same_Some, Cluster, Value, Event, Kind, RoleId, Round, below, role, no_round, Letter}
 use Rattle.cx_inv_run.proofs.Common.{letter, KeptRecord, acceptor_rules, leader_rules, matchmaker_rules, Member, replacer_rules, request}
-use Rattle.cx_inv_run.proofs.Common.{State, Down, fresh_state, set_state, set_running, Member-one, before-both, least}
+use Rattle.cx_inv_run.proofs.Common.{State, Down, HasKept, fresh_state, opened_set, opened_state, set_state, set_running, Member-one}
+use Rattle.cx_inv_run.proofs.Common.{before-both, least}
 use Rattle.cx_base.specs.declared.event.Event.TheVariants as event
 use Rattle.cx_base.specs.declared.role.Kind.TheVariants as kind
+use Rattle.cx_letter.specs.declared.kept.Record.TheVariants as kept
 use Rattle.cx_letter.specs.declared.message.Msg.TheVariants as msg
 use Rattle.cx_model.specs.Leader.{idle_leader}
 use Rattle.cx_inv_run.specs.States.{durable_of, log_in}
 use Rattle.cx_inv_run.proofs.Histories.{set_same}
 use Rattle.cx_inv_match.specs.Facts.{IsLastBallot, Says, InState, IsLastRound, IsMatchmaker, IsAcceptor, Facts}
-use Rattle.cx_inv_match.specs.Words.{HasMark, IsChosen, IsUsed, SetFacts}
+use Rattle.cx_inv_match.specs.Words.{HasMark, IsChosen, IsKnown, IsUsed, SetFacts}
 use Rattle.cx_inv_match.proofs.Keep.{stop, same_states}
 use Rattle.cx_inv_vote.specs.Laws.{IsPlainMsg}
 use Rattle.cx_inv_vote.proofs.Moves.{idle_mode}
@@ -48,9 +50,14 @@ fresh_holds c history sent me kind.Reader =
     (record { requests = λ r m. absurd m; batch = λ b e. absurd (none-some b e) }, λ b e f a k. absurd (none-some b e), (0, refl))
 fresh_holds c history sent me kind.Replacer = ((0, refl), tt)
 
+opened_holds : (c : Cluster) (history : List KeptRecord) (sent : List Letter) (me : RoleId) (k : Kind)
+    → ((t : List ℕ) → HasKept history me (kept.Known t) → IsKnown c history t) → InState c history sent me (opened_state c me history k)
+opened_holds c history sent me kind.Replacer known = (opened_set (λ s. IsKnown c history s) c me history (0, refl) known, tt)
+opened_holds c history sent me other known = fresh_holds c history sent me other
+
 -- it doesn't matter in which state it was before
 pub wake : (c : Cluster) (history : List KeptRecord) (sent : List Letter) (states : RoleId → State) (me : RoleId)
-    → Facts c history sent states → Facts c history sent (set_state me (fresh_state c me.kind) states)
+    → Facts c history sent states → Facts c history sent (set_state me (opened_state c me history me.kind) states)
 wake c history sent states me facts = record {
   owner = facts.owner;
   one_grid = facts.one_grid;
@@ -65,12 +72,13 @@ wake c history sent states me facts = record {
   asks = facts.asks;
   balloter = facts.balloter;
   last_ballot = facts.last_ballot;
+  known_sets = facts.known_sets;
   voted = facts.voted;
   one_value = facts.one_value;
   logged = facts.logged;
   says = facts.says;
-  running = set_running (λ a s. InState c history sent a s) me (fresh_state c me.kind) states (fresh_holds c history sent me me.kind)
-      (λ a e. facts.running a);
+  running = set_running (λ a s. InState c history sent a s) me (opened_state c me history me.kind) states
+      (opened_holds c history sent me me.kind (facts.known_sets me)) (λ a e. facts.running a);
 }
 
 -- nothing has happened
@@ -154,6 +162,7 @@ start_facts c states fresh = record {
   asks = λ from to b t m. absurd m;
   balloter = λ me b m. absurd m;
   last_ballot = start_ballot;
+  known_sets = λ me t x. absurd x;
   acceptors = start_acceptor;
   voted = λ a i s v x. absurd x.1;
   one_value = λ i s u v x y. absurd x.4;
@@ -181,6 +190,7 @@ request_says c history longer n (event.Deliver number cut) = λ d m. absurd m
 request_says c history longer n (event.Tick r) = λ d m. absurd m
 request_says c history longer n (event.Order leader order cut) = λ d m. absurd m
 request_says c history longer n (event.Replace replacer set cut) = λ d m. absurd m
+request_says c history longer n (event.Offer replica to slot) = λ d m. absurd m
 request_says c history longer n (event.Crash r) = λ d m. absurd m
 request_says c history longer n (event.Snap r cut) = λ d m. absurd m
 request_says c history longer n (event.Restart r) = λ d m. absurd m
@@ -198,6 +208,7 @@ request_quiet n (event.Deliver number cut) = λ d m. absurd m
 request_quiet n (event.Tick r) = λ d m. absurd m
 request_quiet n (event.Order leader order cut) = λ d m. absurd m
 request_quiet n (event.Replace replacer set cut) = λ d m. absurd m
+request_quiet n (event.Offer replica to slot) = λ d m. absurd m
 request_quiet n (event.Crash r) = λ d m. absurd m
 request_quiet n (event.Snap r cut) = λ d m. absurd m
 request_quiet n (event.Restart r) = λ d m. absurd m

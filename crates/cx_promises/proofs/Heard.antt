@@ -1,5 +1,5 @@
 -- A client is answered by no fewer values than it had heard of, whether it asked a reader or, in a session, a replica.
-use Rattle.cx_model.specs.Prelude.{◌≡◌, ℕ, ◌≤◌, false, List, ◌++◌, Option, Cluster, Event, RoleId, Token, role, Letter, letter, Msg}
+use Rattle.cx_model.specs.Prelude.{◌≡◌, ℕ, ◌≤◌, false, List, ◌++◌, Option, Cluster, Event, RoleId, Token, role, letter, Msg}
 use Rattle.cx_model.specs.Prelude.{Member, OfEveryRun, SessionsComeAfterHeard, run, chosen_prefix}
 use Rattle.cx_base.specs.declared.role.Kind.TheVariants as kind
 use Rattle.cx_letter.specs.declared.message.Msg.TheVariants as msg

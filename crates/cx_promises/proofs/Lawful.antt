@@ -1,6 +1,7 @@
 -- Every run is lawful: its promises, put together from the law crates.
 use Rattle.cx_model.specs.Prelude.{List, Cluster, Event, chosen_prefix, run}
 use Rattle.cx_inv_vote.proofs.Agree.{agreement}
+use Rattle.cx_inv_vote.proofs.KeptSets.{kept_sets_are_decided}
 use Rattle.cx_inv_vote.proofs.OneSet.{one_next_set, sets_are_a_chain, sets_are_decided}
 use Rattle.cx_inv_alive.proofs.Runs.{no_dead_ends}
 use Rattle.cx_inv_announce.proofs.Steps.{announced}
@@ -8,7 +9,7 @@ use Rattle.cx_inv_bypass.proofs.Steps.{bypassed_rounds}
 use Rattle.cx_inv_held.proofs.Steps.{kept_watermarks, safe_snapshots}
 use Rattle.cx_inv_open.proofs.Begins.{each_begins_once}
 use Rattle.cx_inv_open.proofs.Steps.{roles_reopen}
-use Rattle.cx_inv_list.proofs.Answers.{answers_are_of_a_log, one_list, reads_tell}
+use Rattle.cx_inv_list.proofs.Answers.{answers_are_of_a_log, one_list, reads_tell, sent_as_kept}
 use Rattle.cx_inv_list.proofs.Requests.{requests_are_once}
 use Rattle.cx_inv_list.proofs.Right.{machine_is_the_fold}
 use Rattle.cx_inv_read.proofs.Results.{after_answers, after_reads}
@@ -23,6 +24,7 @@ lawful c es = record {
   agreement = agreement c es;
   chosen = one_list.chosen c es;
   replicas_hold_it = one_list.replicas_hold_it c es;
+  they_send_what_they_kept = sent_as_kept c es;
   it_grows = one_list.it_grows c es;
   maps_are_folds = machine_is_the_fold.map c es;
   tables_are_folds = machine_is_the_fold.table c es;
@@ -46,6 +48,7 @@ lawful c es = record {
   sets_are_a_chain = sets_are_a_chain c es;
   sets_are_decided = sets_are_decided c es;
   each_begins_once = each_begins_once c es;
+  kept_sets_are_decided = kept_sets_are_decided c es;
   nothing_is_lost = safe_snapshots.nothing_is_lost c es;
   forgotten_is_kept = safe_snapshots.forgotten_is_kept c es;
   renewals_keep_all = safe_snapshots.renewals_keep_all c es;
