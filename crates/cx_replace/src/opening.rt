@@ -1,29 +1,36 @@
 //! What a replacer that is opened begins with.
 
-ghost use Rattle.std.specs.Prelude.{◌≡◌, ◌<◌, ◌==◌, ◌&&◌};
-ghost use Rattle.cx_role.specs.Prelude.{None, true, IfOk, IfErr, is_before, names_ballot, role, refused_from, folded_from};
+ghost use Rattle.std.specs.Prelude.{◌≡◌, ◌<◌};
+ghost use Rattle.cx_role.specs.Prelude.{None, true, IfOk, IfErr, role, refused_from, folded_from};
 ghost use Rattle.cx_role.specs.Prelude.kind;
 ghost use Rattle.cx_role.specs.Wake.{IsWakeFault};
-ghost use Rattle.cx_model.specs.Replacer.{replacer_rules};
+ghost use Rattle.cx_model.specs.Replacer.{kept_or, replacer_after, replacer_fits, replacer_rules};
+ghost use Rattle.cx_model.specs.Matched.{first_set};
 
 use crate::Replacer;
 use crate::counted::Counted;
 use cx_base::{Cluster, Few, RoleId, Round, Set};
 use cx_letter::Record;
 use cx_model::Replacing;
-use cx_role::{WakeFault, names_ballot};
+use cx_role::{WakeFault, names_ballot, names_set};
 use std::alloc::Global;
 
 impl Replacer {
-    /// A replacer that was just opened, whose records left this ballot.
-    pub(crate) fn with_ballot(alloc: Global, cluster: &Cluster, index: u16, own: Round) -> Self
+    /// A replacer that was just opened, whose records left this ballot and this set, or none.
+    pub(crate) fn with_kept(
+        alloc: Global,
+        cluster: &Cluster,
+        index: u16,
+        own: Round,
+        known: &Set,
+    ) -> Self
         requires { index < cluster.now.replacers }
         ensures { result ≡ record {
           cluster = cluster.now;
           me = role kind.Replacer index;
           live = true;
-          durable = record { own = own };
-          volatile = replacer_rules.fresh cluster.now;
+          durable = record { own = own; known = known.now };
+          volatile = replacer_rules.fresh cluster.now (record { own = own; known = known.now });
         } }
     {
         Replacer {
@@ -32,9 +39,10 @@ impl Replacer {
             index,
             live: true,
             own,
+            known: *known,
             mode: Replacing::Idle,
             seen: Round::ZERO,
-            set: Set::first(cluster),
+            set: known_set(cluster, known),
             next: Set::empty(),
             halts: Vec::new(alloc),
             counted: Counted::new(),
@@ -44,37 +52,73 @@ impl Replacer {
     }
 }
 
-// Whether a replacer with this last ballot may begin that one.
-fn may_begin(cluster: &Cluster, index: u16, own: Round, ballot: Round) -> bool
-    ensures { result ≡ (names_ballot cluster.now ballot && (ballot.id == index)
-        && is_before own ballot && (ballot.s == 0)) }
+/// The set that a replacer knows when it is opened: the one that it kept, or the first where it kept none.
+pub fn known_set(cluster: &Cluster, known: &Set) -> Set
+    ensures { result ≡ kept_or (first_set cluster.now) known.now }
 {
-    names_ballot(cluster, ballot) && ballot.id == index && own.is_before(&ballot) && ballot.s == 0
+    match known.ids() {
+        [] => Set::first(cluster),
+        [_, ..] => *known,
+    }
 }
 
-/// The ballot that these records leave after an earlier one.
-pub fn last_ballot(
-    before: Round,
+// Whether a replacer whose records left this ballot and this set could have appended that record.
+fn fits(cluster: &Cluster, me: RoleId, own: Round, known: &Set, what: &Record) -> bool
+    ensures { result
+        ≡ replacer_fits cluster.now me (record { own = own; known = known.now }) what.now }
+{
+    match what {
+        Record::Ballot { round } => {
+            names_ballot(cluster, *round)
+                && round.id == me.index
+                && own.is_before(round)
+                && round.s == 0
+        }
+        Record::Known { set } => {
+            cluster.keep_sets && names_set(cluster, set) && set.is_above(&known_set(cluster, known))
+        }
+        _ => false,
+    }
+}
+
+// The ballot and the set that this record leaves after earlier ones.
+fn kept_after(own: Round, known: &Set, what: &Record) -> (Round, Set)
+    ensures { record { own = result.0; known = result.1 }
+        ≡ replacer_after (record { own = own; known = known.now }) what.now }
+{
+    match what {
+        Record::Ballot { round } => (*round, *known),
+        Record::Known { set } => (own, *set),
+        _ => (own, *known),
+    }
+}
+
+/// The ballot and the set that these records leave after earlier ones.
+pub fn last_kept(
+    own: Round,
+    known: &Set,
     cluster: &Cluster,
     me: RoleId,
     records: &[Record],
-) -> Result<Round, WakeFault>
-    ensures own { IfOk result (λ own.
-        record { own = own } ≡ folded_from replacer_rules (record { own = before }) records.now) }
+) -> Result<(Round, Set), WakeFault>
+    ensures left { IfOk result (λ left.
+        record { own = left.0; known = left.1 }
+        ≡ folded_from replacer_rules (record { own = own; known = known.now }) records.now) }
     ensures whole { IfOk result (λ _.
-        refused_from replacer_rules cluster.now me (record { own = before }) 0 records.now ≡ None) }
+        refused_from replacer_rules cluster.now me (record { own = own; known = known.now }) 0
+        records.now ≡ None) }
     ensures fault { IfErr result (IsWakeFault
-        (refused_from replacer_rules cluster.now me (record { own = before }) 0 records.now)) }
+        (refused_from replacer_rules cluster.now me (record { own = own; known = known.now }) 0
+        records.now)) }
 {
-    let mut own = before;
+    let (mut ballot, mut set) = (own, *known);
     for (index, record) in records.iter().enumerate() {
-        let Record::Ballot { round } = record else {
-            return Err(WakeFault::Record { index });
-        };
-        if !may_begin(cluster, me.index, own, *round) {
+        if !fits(cluster, me, ballot, &set, record) {
             return Err(WakeFault::Record { index });
         }
-        own = *round;
+        let (later_ballot, later_set) = kept_after(ballot, &set, record);
+        ballot = later_ballot;
+        set = later_set;
     }
-    Ok(own)
+    Ok((ballot, set))
 }

@@ -1,11 +1,11 @@
 //! The replacer's state.
 
 ghost use Rattle.std.specs.Prelude.{◌≡◌};
-ghost use Rattle.cx_role.specs.Prelude.{[], IsTrue, names, IsReply};
+ghost use Rattle.cx_role.specs.Prelude.{[], true, IsTrue, names, IsStep};
 ghost use Rattle.cx_model.specs.Replacer.{ReplacerDurable, ReplacerVolatile, replacer_rules, replacer_takes};
 
 use crate::counted::Counted;
-use crate::opening::last_ballot;
+use crate::opening::last_kept;
 use cx_base::{Cluster, Kind, NoMemory, Order, RoleId, Round, Set, Why};
 use cx_field::Entries;
 use cx_keep::Keeper;
@@ -15,8 +15,9 @@ use cx_role::{Outbox, Role, StepFault, WakeFault, is_for};
 use std::alloc::Global;
 use std::marker::Model;
 
-/// A replacer of the cluster: its greatest ballot, and what it has taken since it was opened. The ballot alone is durable: one that
-/// lost a decision finds it again by a greater ballot among the same set.
+/// A replacer of the cluster: its greatest ballot, and what it has taken since it was opened. The ballot is durable, and where the
+/// header says so the last set that it came to know: one that lost a decision finds it again by a greater ballot among the same
+/// set.
 #[derive(Drop)]
 pub struct Replacer {
     pub(crate) alloc: Global,
@@ -24,6 +25,8 @@ pub struct Replacer {
     pub(crate) index: u16,
     pub(crate) live: bool,
     pub(crate) own: Round,
+    // The last set that it kept, or none.
+    pub(crate) known: Set,
     pub(crate) mode: Replacing,
     pub(crate) seen: Round,
     // The set that it knows, and the one that is to follow it: the ordered one, then the one to decide.
@@ -49,7 +52,7 @@ impl Model for Replacer {
       cluster = r.cluster;
       me = role kind.Replacer r.index;
       live = r.live;
-      durable = record { own = r.own };
+      durable = record { own = r.own; known = r.known };
       volatile = record {
         mode = r.mode;
         seen = r.seen;
@@ -68,12 +71,19 @@ impl Model for Replacer {
 
 impl Replacer {
     // One datagram, by its kind.
-    fn taken(&mut self, datagram: &Datagram, out: &mut Outbox) -> Result<Why, NoMemory>
+    fn taken<K: Keeper>(
+        &mut self,
+        keeper: &mut K,
+        datagram: &Datagram,
+        out: &mut Outbox,
+    ) -> Result<Why, StepFault>
+        requires live { self.old.live ≡ true }
         requires names { IsTrue (names self.old.cluster datagram.now) }
         requires empty { out.old.list ≡ [] }
         ensures { let s = self.old in
-            IsReply replacer_rules s (replacer_takes s.cluster s.me s.durable s.volatile
-            datagram.now.from datagram.now.msg) result self.new out.new.list }
+            IsStep K.append_gives K.tells replacer_rules s (replacer_takes s.cluster s.me s.durable
+            s.volatile datagram.now.from datagram.now.msg) result self.new keeper.old keeper.new
+            out.new.list }
     {
         let from = datagram.from();
         match datagram.msg() {
@@ -83,11 +93,11 @@ impl Replacer {
                 entries,
                 accepted,
                 set,
-            } => self.stop_b(from, *round, *watermark, entries, *accepted, set, out),
-            Msg::NextB { round } => self.next_b(from, *round, out),
-            Msg::BootB { set } => self.boot_b(from, set, out),
+            } => Ok(self.stop_b(from, *round, *watermark, entries, *accepted, set, out)?),
+            Msg::NextB { round } => Ok(self.next_b(from, *round, out)?),
+            Msg::BootB { set } => self.boot_b(keeper, from, set, out),
             Msg::StopNack { round, other } => Ok(self.stop_nack(*round, *other)),
-            Msg::Sets { set } => Ok(self.sets(set)),
+            Msg::Sets { set } => self.sets(keeper, set),
             _ => Ok(Why::Stranger),
         }
     }
@@ -104,20 +114,20 @@ impl Role for Replacer {
 
     #[tactic(auto, using(crate::proofs::Opened::openings))]
     fn new(alloc: Global, cluster: &Cluster, me: RoleId) -> Result<Self, NoMemory> {
-        Ok(Replacer::with_ballot(alloc, cluster, me.index, Round::ZERO))
+        Ok(Replacer::with_kept(alloc, cluster, me.index, Round::ZERO, &Set::empty()))
     }
 
     #[tactic(auto, using(crate::proofs::Opened::openings))]
     fn reopen(self, records: &[Record]) -> Result<Self, WakeFault> {
         let me = RoleId::new(Kind::Replacer, self.index);
-        let own = last_ballot(self.own, &self.cluster, me, records)?;
-        Ok(Replacer::with_ballot(self.alloc, &self.cluster, self.index, own))
+        let (own, known) = last_kept(self.own, &self.known, &self.cluster, me, records)?;
+        Ok(Replacer::with_kept(self.alloc, &self.cluster, self.index, own, &known))
     }
 
     #[tactic(auto, using(crate::proofs::FitLaws::take_fits))]
     fn take<K: Keeper>(
         &mut self,
-        _keeper: &mut K,
+        keeper: &mut K,
         datagram: &Datagram,
         out: &mut Outbox,
     ) -> Result<Why, StepFault> {
@@ -125,7 +135,7 @@ impl Role for Replacer {
         if !is_for(&self.cluster, me, datagram) {
             return Ok(Why::Stranger);
         }
-        Ok(self.taken(datagram, out)?)
+        self.taken(keeper, datagram, out)
     }
 
     fn order<K: Keeper>(
@@ -139,6 +149,7 @@ impl Role for Replacer {
             Order::Lead(_) => Ok(Why::Stranger),
             Order::Change(_) => Ok(Why::Stranger),
             Order::Collect => Ok(Why::Stranger),
+            Order::Offer { .. } => Ok(Why::Stranger),
         }
     }
 

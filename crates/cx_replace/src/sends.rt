@@ -124,7 +124,28 @@ fn tell_others(replacer: u16, set: &Set, count: u16, out: &mut Outbox)
     }
 }
 
-/// Tells a set to all leaders, readers and other replacers, or sends nothing when out of memory.
+/// Makes room to tell a set to all leaders, readers and other replacers, or nothing changes when out of memory.
+pub fn room_to_tell(cluster: &Cluster, out: &mut Outbox) -> Result<(), NoMemory>
+    requires empty { out.old.list ≡ [] }
+    ensures list { out.new.list ≡ [] }
+    ensures spare { OnOk result
+        (cluster.now.leaders + cluster.now.readers + cluster.now.replacers ≤ out.new.spare) }
+{
+    out.room(usize::from(cluster.leaders + cluster.readers + cluster.replacers))
+}
+
+/// Tells a set to all leaders, readers and other replacers. Room was taken beforehand.
+pub fn tell_each(cluster: &Cluster, replacer: u16, set: &Set, out: &mut Outbox)
+    requires empty { out.old.list ≡ [] }
+    requires spare { cluster.now.leaders + cluster.now.readers + cluster.now.replacers ≤ out.old.spare }
+    ensures { out.new.list ≡ sets_to_all cluster.now (role kind.Replacer replacer) set.now }
+{
+    tell_leaders(replacer, set, cluster.leaders, out);
+    tell_readers(replacer, set, cluster.readers, out);
+    tell_others(replacer, set, cluster.replacers, out);
+}
+
+/// The same, or it sends nothing when out of memory.
 pub fn tell_all(
     cluster: &Cluster,
     replacer: u16,
@@ -136,9 +157,7 @@ pub fn tell_all(
         (out.new.list ≡ sets_to_all cluster.now (role kind.Replacer replacer) set.now) }
     ensures none { OnErr result (out.new.list ≡ []) }
 {
-    out.room(usize::from(cluster.leaders + cluster.readers + cluster.replacers))?;
-    tell_leaders(replacer, set, cluster.leaders, out);
-    tell_readers(replacer, set, cluster.readers, out);
-    tell_others(replacer, set, cluster.replacers, out);
+    room_to_tell(cluster, out)?;
+    tell_each(cluster, replacer, set, out);
     Ok(())
 }

@@ -1,6 +1,7 @@
 pub mod Executing
 pub mod Letters
 pub mod Noted
+pub mod Offering
 pub mod Progress
 pub mod Reading
 pub mod Renewable

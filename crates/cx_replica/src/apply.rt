@@ -104,5 +104,6 @@ fn into_values(what: Record) -> LogValues
         Record::Boot { .. } => unreachable!(),
         Record::Turn { .. } => unreachable!(),
         Record::Voted { .. } => unreachable!(),
+        Record::Known { .. } => unreachable!(),
     }
 }

@@ -25,6 +25,7 @@
 mod apply;
 mod clients;
 mod machine;
+mod offer;
 mod opening;
 mod orders;
 mod reads;

@@ -79,7 +79,7 @@ impl Replica {
     /// What its records left, before it takes a step again.
     fn stopped(self) -> Self
         ensures { result
-            ≡ record self { live = false; volatile = replica_rules.fresh self.cluster } }
+            ≡ record self { live = false; volatile = replica_rules.fresh self.cluster self.durable } }
     {
         let mut replica = self;
         replica.live = false;
@@ -171,13 +171,20 @@ impl Role for Replica {
         }
     }
 
+    #[tactic(auto, using(crate::proofs::Offering::orders_fit))]
     fn order<K: Keeper>(
         &mut self,
         _keeper: &mut K,
-        _order: &Order,
-        _out: &mut Outbox,
+        order: &Order,
+        out: &mut Outbox,
     ) -> Result<Why, StepFault> {
-        Ok(Why::Stranger)
+        match order {
+            Order::Offer { to, slot } => Ok(self.offer(*to, *slot, out)?),
+            Order::Lead(_) => Ok(Why::Stranger),
+            Order::Change(_) => Ok(Why::Stranger),
+            Order::Collect => Ok(Why::Stranger),
+            Order::Replace(_) => Ok(Why::Stranger),
+        }
     }
 
     #[tactic(auto, using(crate::proofs::Values::mark_fits))]

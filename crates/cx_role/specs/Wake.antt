@@ -13,7 +13,13 @@ IsWakeFault refused NoMemory = Unit {0}
 -- a role that was opened again: what its records left, with these after them
 abbrev pub reopened : {D V : Type 0} → Rules D V → Running D V → List Kept → Running D V
 reopened rules s rs =
-    record { cluster = s.cluster; me = s.me; live = true; durable = folded_from rules s.durable rs; volatile = rules.fresh s.cluster }
+    record {
+      cluster = s.cluster;
+      me = s.me;
+      live = true;
+      durable = folded_from rules s.durable rs;
+      volatile = rules.fresh s.cluster (folded_from rules s.durable rs);
+    }
 
 -- the place of the first of these records that a role could not have appended
 abbrev pub refused_behind : {D V : Type 0} → Rules D V → Running D V → List Kept → Option ℕ

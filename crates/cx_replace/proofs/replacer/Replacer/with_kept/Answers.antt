@@ -1,5 +1,5 @@
 use Rattle.cx_replace.proofs.Opened.{idle_is}
-use Rattle.cx_replace.proofs.replacer.Replacer.with_ballot.Goals as goal
+use Rattle.cx_replace.proofs.replacer.Replacer.with_kept.Goals as goal
 
 pub invariant_of-result : goal.invariant_of-result
 invariant_of-result c =
