@@ -89,6 +89,7 @@ all_told values rounds votes casts s v are told =
       same_whole (written.Record (kept.Boot set watermark entries)) = refl
       same_whole (written.Record (kept.Turn turn)) = refl
       same_whole (written.Record (kept.Voted p top cw vs)) = refl
+      same_whole (written.Record (kept.Known ids)) = refl
       same_whole (written.Snap first) = refl
 
 -- so they are when all votes were looked at

@@ -49,6 +49,7 @@ elsewhere_is_no_vote j s v (written.Record (kept.Next ballot next)) e = refl
 elsewhere_is_no_vote j s v (written.Record (kept.Boot set watermark entries)) e = refl
 elsewhere_is_no_vote j s v (written.Record (kept.Turn turn)) e = refl
 elsewhere_is_no_vote j s v (written.Record (kept.Voted p top cw vs)) e = refl
+elsewhere_is_no_vote j s v (written.Record (kept.Known ids)) e = refl
 elsewhere_is_no_vote j s v (written.Snap first) e = refl
 
 same_votes : (history : List KeptRecord) (a : ℕ) (j : Round) (s : ℕ) (v : Value)
@@ -78,6 +79,7 @@ by_record history s v (written.Record (kept.Next ballot next)) = refl
 by_record history s v (written.Record (kept.Boot set watermark entries)) = refl
 by_record history s v (written.Record (kept.Turn turn)) = refl
 by_record history s v (written.Record (kept.Voted p top cw vs)) = refl
+by_record history s v (written.Record (kept.Known ids)) = refl
 by_record history s v (written.Snap first) = refl
 
 by_records : (history ks : List KeptRecord) (s : ℕ) (v : Value)
@@ -113,6 +115,7 @@ same_selects history rounds s (written.Record (kept.Next ballot next)) are = ref
 same_selects history rounds s (written.Record (kept.Boot set watermark entries)) are = refl
 same_selects history rounds s (written.Record (kept.Turn turn)) are = refl
 same_selects history rounds s (written.Record (kept.Voted p top cw vs)) are = refl
+same_selects history rounds s (written.Record (kept.Known ids)) are = refl
 same_selects history rounds s (written.Snap first) are = refl
 
 no_vote_elsewhere : (history : List KeptRecord) (s : ℕ) (r : Written) (later : Option Value) → is_vote_in s r ≡ false
@@ -134,6 +137,7 @@ no_vote_elsewhere history s (written.Record (kept.Next ballot next)) later e = r
 no_vote_elsewhere history s (written.Record (kept.Boot set watermark entries)) later e = refl
 no_vote_elsewhere history s (written.Record (kept.Turn turn)) later e = refl
 no_vote_elsewhere history s (written.Record (kept.Voted p top cw vs)) later e = refl
+no_vote_elsewhere history s (written.Record (kept.Known ids)) later e = refl
 no_vote_elsewhere history s (written.Snap first) later e = refl
 
 first_of_votes : (history : List KeptRecord) (s : ℕ) (ks : List KeptRecord)

@@ -59,6 +59,7 @@ of_another i j s v (written.Record (kept.Next ballot next)) same other = refl
 of_another i j s v (written.Record (kept.Boot set watermark entries)) same other = refl
 of_another i j s v (written.Record (kept.Turn turn)) same other = refl
 of_another i j s v (written.Record (kept.Voted p top cw vs)) same other = refl
+of_another i j s v (written.Record (kept.Known ids)) same other = refl
 of_another i j s v (written.Snap first) same other = refl
 
 and_none : (a b : Bool) → b ≡ false → (a && b) ≡ false

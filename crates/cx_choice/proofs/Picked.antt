@@ -30,6 +30,7 @@ choosing history s (written.Record (kept.Next ballot next)) later e = cc
 choosing history s (written.Record (kept.Boot set watermark entries)) later e = cc
 choosing history s (written.Record (kept.Turn turn)) later e = cc
 choosing history s (written.Record (kept.Voted p top cw vs)) later e = cc
+choosing history s (written.Record (kept.Known ids)) later e = cc
 choosing history s (written.Snap first) later e = cc
 
 passing : (history : List KeptRecord) (s : ℕ) (what : Written) (later : Option Value) → chooses history s what ≡ false
@@ -51,6 +52,7 @@ passing history s (written.Record (kept.Next ballot next)) later e = refl
 passing history s (written.Record (kept.Boot set watermark entries)) later e = refl
 passing history s (written.Record (kept.Turn turn)) later e = refl
 passing history s (written.Record (kept.Voted p top cw vs)) later e = refl
+passing history s (written.Record (kept.Known ids)) later e = refl
 passing history s (written.Snap first) later e = refl
 
 abbrev place_in : List KeptRecord → ℕ → List KeptRecord → ℕ

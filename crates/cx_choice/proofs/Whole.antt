@@ -75,6 +75,7 @@ vote_parts rounds votes i s v (written.Record (kept.Next ballot next)) e enough 
 vote_parts rounds votes i s v (written.Record (kept.Boot set watermark entries)) e enough = cc
 vote_parts rounds votes i s v (written.Record (kept.Turn turn)) e enough = cc
 vote_parts rounds votes i s v (written.Record (kept.Voted p top cw vs)) e enough = cc
+vote_parts rounds votes i s v (written.Record (kept.Known ids)) e enough = cc
 vote_parts rounds votes i s v (written.Snap first) e enough = cc
 
 -- a column that voted has a member that did
@@ -116,6 +117,7 @@ whole_parts rounds votes s v (written.Record (kept.Next ballot next)) e = cc
 whole_parts rounds votes s v (written.Record (kept.Boot set watermark entries)) e = cc
 whole_parts rounds votes s v (written.Record (kept.Turn turn)) e = cc
 whole_parts rounds votes s v (written.Record (kept.Voted p top cw vs)) e = cc
+whole_parts rounds votes s v (written.Record (kept.Known ids)) e = cc
 whole_parts rounds votes s v (written.Snap first) e = cc
 
 pub chosen_by_whole : ChosenByWholeVotes

@@ -65,6 +65,7 @@ tag_first (kept.Next b s) = refl
 tag_first (kept.Boot s w es) = refl
 tag_first (kept.Turn n) = refl
 tag_first (kept.Voted p top cw vs) = refl
+tag_first (kept.Known s) = refl
 
 slot_again : (first : ℕ) → first < 256 ^ 8 → slot_in (0 ∷ big_bytes 8 first) ≡ first
 slot_again first small = ap (λ l. big_number 8 l) (sym (append-nil (big_bytes 8 first))) ∙ big_number-reads_back 8 first [] small

@@ -2,12 +2,12 @@
 use Rattle.cx_base.proofs.Common.{◌∙◌, ap, sym, arith, append-nil, true≢false, and_parts, nat_tests}
 use Rattle.cx_letter.specs.Prelude.{◌≡◌, ◌≤◌, ◌<◌, ◌+◌, ◌-◌, ◌*◌, ◌^◌, ◌==◌, ◌&&◌, not, nat_lt, ℕ, zero, suc, Bool, true, false, List, []}
 use Rattle.cx_letter.specs.Prelude.{◌∷◌, length, map, None, Some, Ok, refl, codes, slice_index, All, join_with_byte, strip_carriage_return}
-use Rattle.cx_letter.specs.Prelude.{Cluster, Command, Op, Put, Del, App, Cut, Whole, Torn, Kept, Event, Lead, Change, Collect, Replace}
+use Rattle.cx_letter.specs.Prelude.{Cluster, Command, Op, Put, Del, App, Cut, Whole, Torn, Kept, Event, Lead, Change, Collect, Offer}
 use Rattle.cx_letter.specs.Prelude.{Client, Batcher, Leader, Replica, Reader, Replacer, RoleId, count_of, puts_anew, IsGrid, Shape}
-use Rattle.cx_letter.specs.Prelude.{role_text}
+use Rattle.cx_letter.specs.Prelude.{Replace, role_text, nat_le}
 use Rattle.cx_base.specs.declared.event.Event.TheVariants as event
 use Rattle.cx_script.specs.Grammar.{collect_event, deliver_event, event_in, event_of, line_event, op_at, read_event, replace_event}
-use Rattle.cx_script.specs.Grammar.{grid_order_of, server_of, session_event, snap_event, write_event}
+use Rattle.cx_script.specs.Grammar.{grid_order_of, offer_event, server_of, session_event, snap_event, write_event}
 use Rattle.cx_script.specs.Lines.{lines_of, schedule_of, spelled_from}
 use Rattle.cx_script.specs.Names.{is_client, names_event, names_members, names_server, names_set}
 use Rattle.cx_script.specs.Unended.{lines_text}
@@ -17,7 +17,7 @@ use Rattle.cx_record.specs.Readable.{AreRead, HasNames, IsRecordable}
 use Rattle.cx_record.proofs.Digits.{decimal_word}
 use Rattle.cx_record.proofs.Grids.{members_are_word, members_back, set_back, set_is_word, sides_are_word, sides_back}
 use Rattle.cx_record.proofs.Spelling.{cut_are_words, cut_back, index_back, key_back, name_word, number_word_back, plain_word, role_word}
-use Rattle.cx_record.proofs.Spelling.{seq_back, seq_is_word, server_back, snap_back, text_back}
+use Rattle.cx_record.proofs.Spelling.{other_back, seq_back, seq_is_word, server_back, slot_back, small_slot, snap_back, text_back}
 use Rattle.cx_record.proofs.Words.{AreWords, Avoids, is_break, joined_avoids, joined_short, words_avoid, words_back}
 
 -- ---- what a line of an event is: words, few of them, that say the event
@@ -168,6 +168,22 @@ replace_line c replacer s cut is =
       said = rw (index_back c Replacer replacer named.0, set_back c s named.1, cut_back cut) refl;
     }
 
+offer_line : (c : Cluster) (replica to slot : ℕ) → IsRecordable c (event.Offer replica to slot)
+    → IsLine c (line_words (event.Offer replica to slot)) (event.Offer replica to slot)
+unfolding event_of offer_event
+offer_line c replica to slot is =
+    let named = and_parts (nat_lt replica c.replicas && nat_lt to c.replicas && not (to == replica)) (nat_le slot 1099511627776) is.named in
+    let apart = and_parts (nat_lt replica c.replicas && nat_lt to c.replicas) (not (to == replica)) named.0 in
+    let both = and_parts (nat_lt replica c.replicas) (nat_lt to c.replicas) apart.0 in
+    record {
+      words = (
+        plain_word (codes "offer") refl refl refl,
+        (role_word c Replica replica both.0, (role_word c Replica to both.1, (decimal_word slot (small_slot slot named.1), tt))),
+      );
+      few = omega arith;
+      said = rw (index_back c Replica replica both.0, other_back c Replica replica to both.1 apart.1, slot_back slot named.1) refl;
+    }
+
 -- a role that is no client
 abbrev IsServer : Cluster → RoleId → Type 0
 IsServer c r = names_server c r ≡ true
@@ -267,7 +283,9 @@ is_line c (event.Order l Collect Whole) is = collect_line c l (and_parts (nat_lt
 is_line c (event.Order l Collect Torn) is = absurd (true≢false (sym is.complete))
 is_line c (event.Order l Collect Kept) is = absurd (true≢false (sym is.complete))
 is_line c (event.Order l (Replace s) cut) is = absurd (true≢false (sym (and_parts (nat_lt l c.leaders) false is.named).1))
+is_line c (event.Order l (Offer to s) cut) is = absurd (true≢false (sym (and_parts (nat_lt l c.leaders) false is.named).1))
 is_line c (event.Replace replacer s cut) is = replace_line c replacer s cut is
+is_line c (event.Offer replica to slot) is = offer_line c replica to slot is
 is_line c (event.Snap r cut) is = snap_line c r cut is.named
 is_line c (event.Crash r) is = crash_line c r is.named
 is_line c (event.Restart r) is = restart_line c r is.named

@@ -16,10 +16,10 @@ use Rattle.cx_script.specs.declared.fault.LineFault.{LineFault}
 use Rattle.cx_script.specs.declared.fault.LineFault.TheVariants.{Grid, Key, Long, Number, Word}
 use Rattle.cx_script.specs.Grammar.{◌>>=◌, collect_event, cut_at, deliver_event, event_in, event_of, grid_at, is_comment, line_event}
 use Rattle.cx_script.specs.Grammar.{next_word, op_at, key_text_at, read_event, replace_event, grid_order_of, server_of, session_event}
-use Rattle.cx_script.specs.Grammar.{snap_event, write_event}
+use Rattle.cx_script.specs.Grammar.{offer_event, snap_event, write_event}
 use Rattle.cx_script.specs.Lines.{ParsedLines, lines_of, with_line}
 use Rattle.cx_script.specs.Places.{fitting, grid_from_ids, ids_of, index_word, key_word, members_word, number_word, seq_and_floor, seq_word}
-use Rattle.cx_script.specs.Places.{renewing_word, set_word, sides_word, text_word}
+use Rattle.cx_script.specs.Places.{other_word, renewing_word, set_word, sides_word, slot_word, text_word}
 use Rattle.cx_script.specs.Requests.{asks, has_slash, request_behind, request_line, requests_from, requests_of, number_rises, script_of}
 use Rattle.cx_script.specs.Requests.{with_event, without_floor}
 use Rattle.cx_script.specs.Words.{is_number, word_number, words_of}
@@ -213,6 +213,14 @@ replace_ok c words = then_ok _ IsRanged (next_word (index_word c Replacer) words
     (λ (replacer, words) h. then_ok _ IsRanged (next_word (set_word c) words) _ (whatever (next_word (set_word c) words)) (λ (set, words) k.
     then_ok _ IsRanged (cut_at words) _ (whatever (cut_at words)) (λ cut l. record { ranges = tt; complete = refl })))
 
+offer_ok : (c : Cluster) (words : List (List ℕ)) → IfOk (offer_event c words) IsRanged
+unfolding offer_event
+offer_ok c words =
+    then_ok _ IsRanged (next_word (index_word c Replica) words) _ (whatever (next_word (index_word c Replica) words)) (λ (replica, words) h.
+    then_ok _ IsRanged (next_word (other_word c Replica replica) words) _ (whatever (next_word (other_word c Replica replica) words))
+    (λ (to, words) k. then_ok _ IsRanged (next_word slot_word words) _ (whatever (next_word slot_word words)) (λ (slot, words) l.
+    ended_ok IsRanged (event.Offer replica to slot) words (record { ranges = tt; complete = refl }))))
+
 event_ok : (c : Cluster) (verb : List ℕ) (words : List (List ℕ)) → IfOk (event_of c verb words) IsRanged
 unfolding event_of
 event_ok c verb words =
@@ -233,12 +241,13 @@ event_ok c verb words =
     or_else (bytes_eq verb (codes "collect")) _ _ (collect_ok c words) (
     or_else (bytes_eq verb (codes "snap")) _ _ (snap_ok c words) (
     or_else (bytes_eq verb (codes "replace")) _ _ (replace_ok c words) (
+    or_else (bytes_eq verb (codes "offer")) _ _ (offer_ok c words) (
     or_else (bytes_eq verb (codes "crash"))
     _ _ (then_ok _ IsRanged (server_of c words) _ server (λ role h. record { ranges = tt; complete = refl })) (
     or_else (bytes_eq verb (codes "restart")) _ _ (then_ok _ IsRanged (server_of c words) _ server (λ role h. record {
       ranges = tt;
       complete = refl;
-    })) tt)))))))))))
+    })) tt))))))))))))
 
 -- ---- lines
 

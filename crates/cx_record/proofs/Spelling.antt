@@ -7,7 +7,8 @@ use Rattle.cx_letter.specs.Prelude.{Reader, Replacer, IsName, puts_anew, role, r
 use Rattle.cx_base.specs.Name.{is_name}
 use Rattle.cx_script.specs.Grammar.{cut_at}
 use Rattle.cx_script.specs.Names.{is_client}
-use Rattle.cx_script.specs.Places.{index_word, key_word, number_word, seq_word, server_word, renewing_word, text_word}
+use Rattle.cx_script.specs.Places.{index_word, key_word, number_word, other_word, seq_word, server_word, slot_word, renewing_word}
+use Rattle.cx_script.specs.Places.{text_word}
 use Rattle.cx_script.specs.Words.{is_empty}
 use Rattle.cx_trace.specs.Trace.{seq_text}
 use Rattle.cx_record.specs.Lines.{cut_words}
@@ -68,6 +69,15 @@ pub index_back : (c : Cluster) (k : Kind) (i : ℕ) → IsIndex c k i → index_
 index_back c Client i is = rw (number_back i (small_index c Client i is), is) refl
 index_back c other i is = rw (number_back i (small_index c other i is), is) refl
 
+-- that isn't the first one
+pub other_back : (c : Cluster) (k : Kind) (first i : ℕ) → IsIndex c k i → not (i == first) ≡ true
+    → other_word c k first (role_text (role k i)) ≡ Ok i
+other_back c k first i is apart = rw (index_back c k i is, off (i == first) apart) refl
+  where
+    off : (b : Bool) → not b ≡ true → b ≡ false
+    off true e = cc
+    off false e = refl
+
 pub server_back : (c : Cluster) (k : Kind) (i : ℕ) → IsIndex c k i → not (is_client k) ≡ true
     → server_word c (role_text (role k i)) ≡ Ok (role k i)
 server_back c Client i is off = cc
@@ -85,6 +95,12 @@ snap_back c other i is anew = cc
 
 pub number_word_back : (n : ℕ) → n < 2 ^ 64 → number_word (decimal n) ≡ Ok n
 number_word_back n small = rw (number_back n small) refl
+
+pub small_slot : (s : ℕ) → nat_le s 1099511627776 ≡ true → s < 2 ^ 64
+small_slot s most = grind (arith, nat_tests)
+
+pub slot_back : (s : ℕ) → nat_le s 1099511627776 ≡ true → slot_word (decimal s) ≡ Ok s
+slot_back s most = rw (number_back s (small_slot s most), most) refl
 
 floor_small : (seq floor : ℕ) → floor_fits seq floor ≡ true → seq < 2 ^ 64 → floor < 2 ^ 64
 floor_small seq floor fits small =

@@ -15,5 +15,6 @@ pub record Worked : Type 0 where
   pub change : line_text (event.Order 0 (Change (make_grid 1 2 (4 ∷ 5 ∷ []))) Kept) ≡ codes "change leader:0 1x2 4,5 kept"
   pub collect : line_text (event.Order 0 Collect Whole) ≡ codes "collect leader:0"
   pub replace : line_text (event.Replace 1 (3 ∷ 4 ∷ 5 ∷ []) Torn) ≡ codes "replace replacer:1 3,4,5 torn"
+  pub offer : line_text (event.Offer 0 2 5) ≡ codes "offer replica:0 replica:2 5"
   pub snap : line_text (event.Snap (role Replica 1) Whole) ≡ codes "snap replica:1"
   pub snap_of_acceptor : line_text (event.Snap (role Acceptor 2) Kept) ≡ codes "snap acceptor:2 kept"

@@ -1,7 +1,7 @@
 -- Which events can be recorded, and that their lines are read as these events.
 use Rattle.std.specs.Prelude.{◌≡◌, ◌<◌, ◌^◌, Bool, true, false, List, None}
-use Rattle.cx_letter.specs.Prelude.{is_valid_event, Cluster, Op, Put, Del, App, Torn, Kept, Event, Lead, Change, Collect, Replace, IsGrid}
-use Rattle.cx_letter.specs.Prelude.{IsName}
+use Rattle.cx_letter.specs.Prelude.{is_valid_event, Cluster, Op, Put, Del, App, Torn, Kept, Event, Lead, Change, Collect, Offer, Replace}
+use Rattle.cx_letter.specs.Prelude.{IsGrid, IsName}
 use Rattle.cx_base.specs.declared.event.Event.TheVariants as event
 use Rattle.cx_base.specs.declared.event.Order.{Order}
 use Rattle.cx_script.specs.Lines.{schedule_of}
@@ -19,6 +19,7 @@ HasGrid (Lead grid) = IsGrid grid
 HasGrid (Change grid) = IsGrid grid
 HasGrid Collect = Unit {0}
 HasGrid (Replace set) = Unit {0}
+HasGrid (Offer to slot) = Unit {0}
 
 abbrev pub HasRanges : Event → Type 0
 HasRanges (event.Write command batcher) = (command.seq < 2 ^ 64) × HasNames command.op

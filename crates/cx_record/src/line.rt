@@ -4,7 +4,7 @@ ghost use Rattle.std.specs.Prelude.{◌≡◌, ◌++◌, ◌∷◌, [], length, 
 ghost use Rattle.cx_base.specs.declared.event.Event.TheVariants as event;
 ghost use Rattle.cx_base.specs.declared.role.Kind.TheVariants.{Replica};
 ghost use Rattle.cx_base.specs.Role.{role, role_text};
-ghost use Rattle.cx_record.specs.Lines.{cut_words, ids_text, line_text, line_words, op_words, order_words, round_words, sides_text};
+ghost use Rattle.cx_record.specs.Lines.{cut_words, ids_text, line_text, line_words, offer_words, op_words, order_words, round_words, sides_text};
 ghost use Rattle.cx_record.specs.Pieces.{behind_each, in_row};
 
 use cx_base::{Command, Cut, Event, Grid, Key, Kind, NoMemory, Op, Order, RoleId, Set};
@@ -158,6 +158,36 @@ fn put_replace(
     put_cut(text, cut)
 }
 
+fn put_slot(text: &mut Vec<u8>, slot: u64) -> Result<(), NoMemory>
+    ensures ok { OnOk result
+        (text.new.items ≡ text.old.items ++ behind_each 32 (decimal slot ∷ [])) }
+    ensures err { OnErr result (take (length text.old.items) text.new.items ≡ text.old.items) }
+{
+    put(text, b" ")?;
+    put_number(text, slot)
+}
+
+// To which replica, and from which slot on.
+fn put_offered(text: &mut Vec<u8>, to: u16, slot: u64) -> Result<(), NoMemory>
+    ensures ok { OnOk result
+        (text.new.items ≡ text.old.items ++ behind_each 32 (offer_words to slot)) }
+    ensures err { OnErr result (take (length text.old.items) text.new.items ≡ text.old.items) }
+{
+    put_role_word(text, Kind::Replica, to)?;
+    put_slot(text, slot)
+}
+
+// That a role is ordered to offer a replica the values from a slot on.
+fn put_offer(text: &mut Vec<u8>, kind: Kind, index: u16, to: u16, slot: u64) -> Result<(), NoMemory>
+    ensures ok { OnOk result (text.new.items ≡ text.old.items
+        ++ in_row 32 (codes "offer" ∷ role_text (role kind index) ∷ offer_words to slot)) }
+    ensures err { OnErr result (take (length text.old.items) text.new.items ≡ text.old.items) }
+{
+    put(text, b"offer")?;
+    put_role_word(text, kind, index)?;
+    put_offered(text, to, slot)
+}
+
 fn put_order(text: &mut Vec<u8>, leader: u16, order: &Order, cut: Cut) -> Result<(), NoMemory>
     ensures ok { OnOk result (text.new.items
         ≡ text.old.items ++ in_row 32 (order_words leader order.now cut)) }
@@ -177,6 +207,7 @@ fn put_order(text: &mut Vec<u8>, leader: u16, order: &Order, cut: Cut) -> Result
             put_role_word(text, Kind::Leader, leader)
         }
         Order::Replace(set) => put_replace(text, Kind::Leader, leader, set, cut),
+        Order::Offer { to, slot } => put_offer(text, Kind::Leader, leader, *to, *slot),
     }
 }
 
@@ -251,6 +282,9 @@ fn put_words(text: &mut Vec<u8>, event: &Event) -> Result<(), NoMemory>
         Event::Order { leader, order, cut } => put_order(text, *leader, order, *cut),
         Event::Replace { replacer, set, cut } => {
             put_replace(text, Kind::Replacer, *replacer, set, *cut)
+        }
+        Event::Offer { replica, to, slot } => {
+            put_offer(text, Kind::Replica, *replica, *to, *slot)
         }
         Event::Snap { role, cut } => {
             put(text, b"snap")?;

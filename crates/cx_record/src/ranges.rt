@@ -30,7 +30,7 @@ fn order_fits(order: &Order)
         Order::Lead(grid) | Order::Change(grid) => {
             let _members = grid.members();
         }
-        Order::Collect | Order::Replace(_) => {}
+        Order::Collect | Order::Replace(_) | Order::Offer { .. } => {}
     }
 }
 
@@ -51,6 +51,7 @@ pub fn event_fits(event: &Event)
         Event::Order { order, .. } => order_fits(order),
         Event::Tick(_)
         | Event::Replace { .. }
+        | Event::Offer { .. }
         | Event::Snap { .. }
         | Event::Crash(_)
         | Event::Restart(_) => {}

@@ -22,6 +22,7 @@ returns c =
       change = rw (zero, one, two, four, five) refl;
       collect = rw zero refl;
       replace = rw (one, three, four, five) refl;
+      offer = rw (zero, two, five) refl;
       snap = rw one refl;
       snap_of_acceptor = rw two refl;
     }
