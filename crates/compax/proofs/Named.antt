@@ -31,7 +31,8 @@ replayed_parts None = refl
 replayed_parts (Some parts) = replayed (header_cluster parts.0) parts.1
 
 hosted_parts : (parts : Option (List ℕ × List ℕ))
-    → of_header (λ header rest. bad_in true (header_cluster header) rest) parts (Some 0) ≡ bad_line_of_node (of_header node_says parts BadHeader)
+    → of_header (λ header rest. bad_in true (header_cluster header) rest) parts (Some 0)
+    ≡ bad_line_of_node (of_header node_says parts BadHeader)
 hosted_parts None = refl
 hosted_parts (Some parts) = hosted (header_cluster parts.0) parts.0 parts.1
 

@@ -23,7 +23,7 @@ nearest word known = if is_some (at_distance 0 word known) then None else or_nex
 abbrev pub events : List (List ℕ)
 events =
     codes "write" ∷ codes "read" ∷ codes "session" ∷ codes "deliver" ∷ codes "tick" ∷ codes "lead" ∷ codes "change" ∷ codes "collect"
-    ∷ codes "snap" ∷ codes "replace" ∷ codes "crash" ∷ codes "restart" ∷ []
+    ∷ codes "offer" ∷ codes "snap" ∷ codes "replace" ∷ codes "crash" ∷ codes "restart" ∷ []
 
 abbrev pub later_words : List (List ℕ)
 later_words = codes "put" ∷ codes "del" ∷ codes "app" ∷ codes "torn" ∷ codes "kept" ∷ []
@@ -38,7 +38,7 @@ abbrev pub keys : List (List ℕ)
 keys =
     codes "leaders" ∷ codes "proxies" ∷ codes "acceptors" ∷ codes "replicas" ∷ codes "batchers" ∷ codes "unbatchers"
     ∷ codes "readers" ∷ codes "clients" ∷ codes "batch" ∷ codes "base_port" ∷ codes "pool" ∷ codes "replacers"
-    ∷ codes "one_entry_a_grid" ∷ codes "own_proxies" ∷ []
+    ∷ codes "one_entry_a_grid" ∷ codes "own_proxies" ∷ codes "keep_sets" ∷ []
 
 -- what may be meant by a word that breaks a rule: an event, another word, a kind of role, a key
 abbrev pub meant : Rule → List ℕ → Option (List ℕ)

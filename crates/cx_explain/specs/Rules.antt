@@ -3,6 +3,7 @@ use Rattle.std.specs.Prelude.{ℕ, List, codes}
 use Rattle.cx_cluster.specs.declared.key.ClusterKey.{ClusterKey}
 use Rattle.cx_cluster.specs.declared.key.ClusterKey.TheVariants.{F, Leaders, Proxies, Acceptors, Replicas, Batchers, Unbatchers, Readers}
 use Rattle.cx_cluster.specs.declared.key.ClusterKey.TheVariants.{Clients, Batch, BasePort, Pool, Replacers, OneEntryAGrid, OwnProxies}
+use Rattle.cx_cluster.specs.declared.key.ClusterKey.TheVariants.{KeepSets}
 use Rattle.cx_explain.specs.declared.rule.Rule.{Rule}
 use Rattle.cx_explain.specs.declared.rule.Rule.TheVariants as rule
 
@@ -22,6 +23,7 @@ range_text Pool = codes "outside its range, 2f + 1 to 64"
 range_text Replacers = codes "outside its range, 0 to 4"
 range_text OneEntryAGrid = codes "outside its range, 0 to 1"
 range_text OwnProxies = codes "outside its range, 0 to 1, and 1 only where leaders divides proxies"
+range_text KeepSets = codes "outside its range, 0 to 1"
 
 abbrev pub rule_text : Rule → List ℕ
 rule_text rule.NoEnd = codes "no line --- ends the header in its first 16,384 bytes"

@@ -11,9 +11,9 @@ use cx_script::parted;
 use std::alloc::Global;
 use strsim::generic_levenshtein;
 
-const EVENTS: [&str; 12] = [
-    "write", "read", "session", "deliver", "tick", "lead", "change", "collect", "snap", "replace",
-    "crash", "restart",
+const EVENTS: [&str; 13] = [
+    "write", "read", "session", "deliver", "tick", "lead", "change", "collect", "offer", "snap",
+    "replace", "crash", "restart",
 ];
 
 const LATER_WORDS: [&str; 5] = ["put", "del", "app", "torn", "kept"];
@@ -32,7 +32,7 @@ const KINDS: [&str; 10] = [
 ];
 
 // Not `f`, which each other letter would be taken for.
-const KEYS: [&str; 14] = [
+const KEYS: [&str; 15] = [
     "leaders",
     "proxies",
     "acceptors",
@@ -47,6 +47,7 @@ const KEYS: [&str; 14] = [
     "replacers",
     "one_entry_a_grid",
     "own_proxies",
+    "keep_sets",
 ];
 
 fn edits(alloc: Global, word: &[u8], other: &str) -> Result<usize, NoMemory>

@@ -56,6 +56,7 @@ fn range_text(key: ClusterKey) -> &'static str
         ClusterKey::OneEntryAGrid => "outside its range, 0 to 1",
         ClusterKey::OwnProxies =>
             "outside its range, 0 to 1, and 1 only where leaders divides proxies",
+        ClusterKey::KeepSets => "outside its range, 0 to 1",
     }
 }
 

@@ -12,7 +12,7 @@ ghost use Rattle.cx_field.specs.Fields as field;
 
 use crate::asked::Asked;
 use crate::matched;
-use crate::reads::Reads;
+use crate::reads::AskedReads;
 use crate::sends::asking;
 use cx_base::{Cluster, Duplicate, NoMemory, Round, Set};
 use cx_field::{Asking, Token};
@@ -29,7 +29,7 @@ use std::marker::Model;
 #[derive(Drop)]
 pub struct Batch {
     turn: u64,
-    reads: Reads,
+    reads: AskedReads,
     told: Vec<MatchAnswer>,
     acks: Vec<Acked>,
     // The acceptors that were counted, as a set.
@@ -55,7 +55,7 @@ impl Model for Batch {
 
 impl Batch {
     /// A batch that no answer was counted for. It takes no memory.
-    pub fn new(alloc: Global, turn: u64, reads: Reads) -> Self
+    pub fn new(alloc: Global, turn: u64, reads: AskedReads) -> Self
         requires turn { IsTrue (field.seq.fits turn) }
         requires few { length reads ≤ 64 }
         ensures { result ≡ new_batch turn reads }
@@ -100,14 +100,19 @@ impl Batch {
     }
 
     /// Its reads, copied.
-    pub fn reads(&self, alloc: Global) -> Result<Reads, NoMemory>
+    pub fn reads(&self, alloc: Global) -> Result<AskedReads, NoMemory>
         ensures { IfOk result (λ reads. reads ≡ self.now.reads) }
     {
         self.reads.copy(alloc)
     }
 
     /// Its reads with one in the place of the earlier one of its client and number, the first, and then those that wait.
-    pub fn again(&self, alloc: Global, one: Asked, waiting: &Reads) -> Result<Reads, NoMemory>
+    pub fn again(
+        &self,
+        alloc: Global,
+        one: Asked,
+        waiting: &AskedReads,
+    ) -> Result<AskedReads, NoMemory>
         requires first { is_first one.read self.now.reads ≡ true }
         requires apart { IsTrue (are_apart self.now.reads waiting.now) }
         ensures { IfOk result (λ reads. reads ≡ with_asked one self.now.reads ++ waiting.now) }

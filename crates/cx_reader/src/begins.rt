@@ -8,7 +8,7 @@ ghost use Rattle.cx_field.specs.Fields as field;
 
 use crate::Reader;
 use crate::batch::Batch;
-use crate::reads::Reads;
+use crate::reads::AskedReads;
 use crate::records::LAST_TURN;
 use crate::sends::ask_matchmakers;
 use cx_base::Why;
@@ -23,7 +23,7 @@ impl Reader {
         &mut self,
         keeper: &mut K,
         why: Why,
-        reads: Reads,
+        reads: AskedReads,
         out: &mut Outbox,
     ) -> Result<Why, StepFault>
         requires next { self.old.durable.turn < last_turn }
@@ -77,7 +77,7 @@ impl Reader {
         let next = self.turn + 1;
         keep(keeper, &mut self.live, &Record::Turn { turn: next })?;
         self.turn = next;
-        let waiting = std::mem::replace(&mut self.waiting, Reads::new(self.alloc));
+        let waiting = std::mem::replace(&mut self.waiting, AskedReads::new(self.alloc));
         self.running = Some(Batch::new(self.alloc, next, waiting));
         batch.ask_replicas(self.index, mark, out);
         ask_matchmakers(self.index, next, self.set.ids(), out);

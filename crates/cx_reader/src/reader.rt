@@ -7,7 +7,7 @@ ghost use Rattle.cx_field.specs.Fields as field;
 
 use crate::asked::Asked;
 use crate::batch::Batch;
-use crate::reads::Reads;
+use crate::reads::AskedReads;
 use cx_base::{Cluster, Kind, NoMemory, Order, RoleId, Set, Why};
 use cx_field::Token;
 use cx_keep::Keeper;
@@ -26,7 +26,7 @@ pub struct Reader {
     pub(crate) index: u16,
     pub(crate) live: bool,
     pub(crate) turn: u64,
-    pub(crate) waiting: Reads,
+    pub(crate) waiting: AskedReads,
     pub(crate) running: Option<Batch>,
     // The matchmakers that are asked, and whose answers count.
     pub(crate) set: Set,
@@ -77,7 +77,7 @@ impl Role for Reader {
             index: me.index,
             live: true,
             turn: 0,
-            waiting: Reads::new(alloc),
+            waiting: AskedReads::new(alloc),
             running: None,
             set: Set::first(cluster),
         })

@@ -6,7 +6,7 @@ ghost use Rattle.cx_role.specs.Prelude.kind;
 ghost use Rattle.cx_field.specs.Fields as field;
 ghost use Rattle.cx_model.specs.Reader.{is_among, is_first, read_to, with_asked};
 ghost use Rattle.cx_model.specs.Request.{same_read};
-ghost use Rattle.cx_reader.specs.Reads.{asked_by, read_number, question_of, token_by};
+ghost use Rattle.cx_reader.specs.Reads.{asked_entry, asked_number, asked_question, token_by};
 ghost use Rattle.cx_reader.specs.Running.{are_apart, are_once};
 
 use crate::asked::Asked;
@@ -33,24 +33,24 @@ struct Question {
 
 /// Reads in the order in which they came. No two have one client and number.
 #[derive(Drop)]
-pub struct Reads {
+pub struct AskedReads {
     map: IndexMap<Number, Question>,
 }
 
-impl Model for Reads {
+impl Model for AskedReads {
     ghost use Rattle.cx_role.specs.Prelude.{IsTrue, List};
     ghost use Rattle.cx_model.specs.Reader.{Asked as AskedFor};
-    ghost use Rattle.cx_reader.specs.Reads.{are_in_range, reads_in};
+    ghost use Rattle.cx_reader.specs.Reads.{are_in_range, asked_in};
 
     ghost Value = { List AskedFor };
 
-    ghost view = { λ r. reads_in r.map.entries };
+    ghost view = { λ r. asked_in r.map.entries };
 
-    ghost invariant = { λ r. IsTrue (are_in_range (reads_in r.map.entries)) };
+    ghost invariant = { λ r. IsTrue (are_in_range (asked_in r.map.entries)) };
 }
 
-fn read_number(token: Token) -> Number
-    ensures { result ≡ read_number token }
+fn asked_number(token: Token) -> Number
+    ensures { result ≡ asked_number token }
 {
     Number {
         client: token.client,
@@ -58,8 +58,8 @@ fn read_number(token: Token) -> Number
     }
 }
 
-fn question_of(one: &Asked) -> Question
-    ensures { result ≡ question_of one.now }
+fn asked_question(one: &Asked) -> Question
+    ensures { result ≡ asked_question one.now }
 {
     Question {
         replica: one.replica(),
@@ -67,9 +67,9 @@ fn question_of(one: &Asked) -> Question
     }
 }
 
-fn asked_by(number: &Number, question: &Question) -> Asked
+fn asked_entry(number: &Number, question: &Question) -> Asked
     requires { IsTrue (field.token.fits (token_by number.now)) }
-    ensures { result ≡ asked_by (number.now, question.now) }
+    ensures { result ≡ asked_entry (number.now, question.now) }
 {
     let token = Token {
         client: number.client,
@@ -84,12 +84,12 @@ fn is_of(number: &Number, token: Token) -> bool
     token.client == number.client && token.seq == number.seq
 }
 
-impl Reads {
+impl AskedReads {
     /// None. It takes no memory.
     pub fn new(alloc: Global) -> Self
         ensures { result ≡ [] }
     {
-        Reads {
+        AskedReads {
             map: IndexMap::new(alloc),
         }
     }
@@ -105,7 +105,7 @@ impl Reads {
     pub fn has(&self, token: Token) -> bool
         ensures { result ≡ is_among token self.now }
     {
-        self.map.contains_key(&read_number(token))
+        self.map.contains_key(&asked_number(token))
     }
 
     /// Whether the first has.
@@ -124,7 +124,7 @@ impl Reads {
         ensures { slice_get self.now place ≡ Some result }
     {
         match self.map.get_index(place) {
-            Some((number, question)) => asked_by(number, question),
+            Some((number, question)) => asked_entry(number, question),
             None => unreachable!(),
         }
     }
@@ -135,7 +135,8 @@ impl Reads {
         ensures ok { OnOk result (self.new ≡ self.old ++ one ∷ []) }
         ensures err { OnErr result (self.new ≡ self.old) }
     {
-        self.map.insert(read_number(one.token()), question_of(&one))?;
+        self.map
+            .insert(asked_number(one.token()), asked_question(&one))?;
         Ok(())
     }
 
@@ -144,7 +145,10 @@ impl Reads {
         requires { is_among one.read self.old ≡ true }
         ensures { self.new ≡ with_asked one self.old }
     {
-        match self.map.insert(read_number(one.token()), question_of(&one)) {
+        match self
+            .map
+            .insert(asked_number(one.token()), asked_question(&one))
+        {
             Ok(_) => (),
             // An earlier one is there, whose room it takes.
             Err(_) => unreachable!(),
@@ -152,7 +156,7 @@ impl Reads {
     }
 
     /// Adds reads, which have other clients and numbers, at the end.
-    pub fn add_all(&mut self, more: &Reads) -> Result<(), NoMemory>
+    pub fn add_all(&mut self, more: &AskedReads) -> Result<(), NoMemory>
         requires { are_apart self.old more.now ≡ true }
         ensures { OnOk result (self.new ≡ self.old ++ more.now) }
     {
@@ -184,9 +188,9 @@ impl Reads {
     }
 }
 
-impl Duplicate for Reads {
+impl Duplicate for AskedReads {
     fn copy(&self, alloc: Global) -> Result<Self, NoMemory> {
-        let mut copied = Reads::new(alloc);
+        let mut copied = AskedReads::new(alloc);
         copied.add_all(self)?;
         Ok(copied)
     }

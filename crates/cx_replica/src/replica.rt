@@ -78,8 +78,10 @@ impl Replica {
 
     /// What its records left, before it takes a step again.
     fn stopped(self) -> Self
-        ensures { result
-            ≡ record self { live = false; volatile = replica_rules.fresh self.cluster self.durable } }
+        ensures { result ≡ record self {
+          live = false;
+          volatile = replica_rules.fresh self.cluster self.durable;
+        } }
     {
         let mut replica = self;
         replica.live = false;

@@ -1,7 +1,7 @@
 use Rattle.cx_role.proofs.Common.{◌≡◌, ◌+◌, ◌++◌, ◌∷◌, [], ◌∙◌, rules, refl, append_assoc, drop, map, role, Reader}
 use Rattle.cx_model.specs.Reader.{read_to}
 use Rattle.cx_reader.proofs.Entries.{drop_next}
-use Rattle.cx_reader.proofs.reads.Reads.ask_all.Goals as goal
+use Rattle.cx_reader.proofs.reads.AskedReads.ask_all.Goals as goal
 
 pub loop-place-preserved : goal.loop-place-preserved
 loop-place-preserved c =

@@ -1,6 +1,6 @@
 use Rattle.std.proofs.Common.{◌≡◌, ◌++◌, true, drop}
 use Rattle.cx_reader.specs.Running.{are_apart, are_once}
-use Rattle.cx_reader.proofs.reads.Reads.add_all.Given as goal
+use Rattle.cx_reader.proofs.reads.AskedReads.add_all.Given as goal
 
 abbrev pub invariant-loop-place : goal.invariant-loop-place
 invariant-loop-place l = record {

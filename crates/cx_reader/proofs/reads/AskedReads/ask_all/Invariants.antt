@@ -1,6 +1,6 @@
 use Rattle.cx_letter.specs.Prelude.{◌≡◌, ◌≤◌, ◌+◌, ◌++◌, drop, map, role, Reader}
 use Rattle.cx_model.specs.Reader.{read_to}
-use Rattle.cx_reader.proofs.reads.Reads.ask_all.Given as goal
+use Rattle.cx_reader.proofs.reads.AskedReads.ask_all.Given as goal
 
 abbrev pub invariant-loop-place : goal.invariant-loop-place
 invariant-loop-place l = record {

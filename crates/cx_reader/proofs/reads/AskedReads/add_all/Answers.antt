@@ -2,7 +2,7 @@ use Rattle.cx_role.proofs.Common.{◌≡◌, ◌+◌, ◌∷◌, [], ◌∙◌, 
 use Rattle.cx_model.specs.Reader.{is_among}
 use Rattle.cx_reader.specs.Running.{are_apart, are_once}
 use Rattle.cx_reader.proofs.Entries.{drop_next, next_apart, next_new}
-use Rattle.cx_reader.proofs.reads.Reads.add_all.Goals as goal
+use Rattle.cx_reader.proofs.reads.AskedReads.add_all.Goals as goal
 
 pub push-requires : goal.push-requires
 push-requires c =

@@ -1,6 +1,6 @@
 use Rattle.std.proofs.Common.{rules, ◌∙◌}
 use Rattle.cx_reader.proofs.Entries.{first_is}
-use Rattle.cx_reader.proofs.reads.Reads.is_first.Goals as goal
+use Rattle.cx_reader.proofs.reads.AskedReads.is_first.Goals as goal
 
 pub returns-in-Some : goal.returns-in-Some
 returns-in-Some c =
