@@ -14,7 +14,7 @@ use Rattle.indexmap.specs.IndexMap.{insert_entry}
 use Rattle.cx_field.specs.Fields.{token}
 use Rattle.cx_model.specs.Reader.{is_among, is_first, with_asked}
 use Rattle.cx_model.specs.Request.{same_read}
-use Rattle.cx_reader.specs.Reads.{are_in_range, asked_entry, asked_number, asked_question, asked_in, token_by}
+use Rattle.cx_reader.specs.Reads.{are_in_range, entry_read, read_number, read_question, entry_reads, token_by}
 use Rattle.cx_reader.specs.Running.{are_apart, are_once, running_reads}
 use Rattle.cx_reader.specs.declared.reads.Number.{Number}
 use Rattle.cx_reader.specs.declared.reads.Question.{Question}
@@ -46,62 +46,62 @@ drop_next xs k x is = let more : k + 1 ≡ suc k = omega arith in rw more (drop_
 
 -- an entry's read stands in the entry's place
 pub read_at : (es : Entries) (k : ℕ) (e : Number × Question) → slice_get es k ≡ Some e
-    → slice_get (asked_in es) k ≡ Some (asked_entry e)
-read_at es k e is = rw (slice_get-map asked_entry es k, is) refl
+    → slice_get (entry_reads es) k ≡ Some (entry_read e)
+read_at es k e is = rw (slice_get-map entry_read es k, is) refl
 
-pub fits_at : (es : Entries) (k : ℕ) (e : Number × Question) → are_in_range (asked_in es) ≡ true → slice_get es k ≡ Some e
+pub fits_at : (es : Entries) (k : ℕ) (e : Number × Question) → are_in_range (entry_reads es) ≡ true → slice_get es k ≡ Some e
     → token.fits (token_by e.0) ≡ true
 fits_at [] k e fit is = cc
 fits_at (x ∷ es) zero e fit is =
-    let both = and_parts (token.fits (token_by x.0)) (are_in_range (asked_in es)) fit in cc
+    let both = and_parts (token.fits (token_by x.0)) (are_in_range (entry_reads es)) fit in cc
 fits_at (x ∷ es) (suc k) e fit is =
-    fits_at es k e (and_parts (token.fits (token_by x.0)) (are_in_range (asked_in es)) fit).1 is
+    fits_at es k e (and_parts (token.fits (token_by x.0)) (are_in_range (entry_reads es)) fit).1 is
 
 -- a key finds what some read has
-pub found : (t : Token) (es : Entries) → is_some (lookup (is_equal_number (asked_number t)) es) ≡ is_among t (asked_in es)
+pub found : (t : Token) (es : Entries) → is_some (lookup (is_equal_number (read_number t)) es) ≡ is_among t (entry_reads es)
 found t [] = refl
 found t (e ∷ es) =
-    by_test (λ (o : Option Question). is_some o ≡ is_among t (asked_in (e ∷ es)))
-    (is_equal_number (asked_number t) e.0) _ _ (λ same. rw same refl) (λ other. rw other (found t es))
+    by_test (λ (o : Option Question). is_some o ≡ is_among t (entry_reads (e ∷ es)))
+    (is_equal_number (read_number t) e.0) _ _ (λ same. rw same refl) (λ other. rw other (found t es))
 
 -- and so it is there
-pub is_there : (t : Token) (es : Entries) → is_among t (asked_in es) ≡ true → lookup (is_equal_number (asked_number t)) es ≡ None → ⊥
+pub is_there : (t : Token) (es : Entries) → is_among t (entry_reads es) ≡ true → lookup (is_equal_number (read_number t)) es ≡ None → ⊥
 is_there t es among none = true≢false (sym among ∙ sym (rw none at (found t es)))
 
 pub first_is : (t : Token) (es : Entries) (e : Number × Question) → slice_get es 0 ≡ Some e
-    → same_read t (token_by e.0) ≡ is_first t (asked_in es)
+    → same_read t (token_by e.0) ≡ is_first t (entry_reads es)
 first_is t [] e is = cc
 first_is t (x ∷ es) e is = cc
 
-pub first_none : (t : Token) (es : Entries) → slice_get es 0 ≡ None → is_first t (asked_in es) ≡ false
+pub first_none : (t : Token) (es : Entries) → slice_get es 0 ≡ None → is_first t (entry_reads es) ≡ false
 first_none t [] is = refl
 first_none t (x ∷ es) is = cc
 
 module _ (r : Asked) where
   abbrev put : Entries → Entries
-  put es = insert_entry is_equal_number es (asked_number r.read) (asked_question r)
+  put es = insert_entry is_equal_number es (read_number r.read) (read_question r)
 
   -- a new read goes last
-  pub pushed : (es : Entries) → is_among r.read (asked_in es) ≡ false → asked_in (put es) ≡ asked_in es ++ r ∷ []
+  pub pushed : (es : Entries) → is_among r.read (entry_reads es) ≡ false → entry_reads (put es) ≡ entry_reads es ++ r ∷ []
   pushed [] new = refl
   pushed (e ∷ es) new =
       let here : same_read r.read (token_by e.0) ≡ false = grind arith in
-      let later : is_among r.read (asked_in es) ≡ false = grind arith in
-      rw here (ap (λ (rs : List Asked). asked_entry e ∷ rs) (pushed es later))
+      let later : is_among r.read (entry_reads es) ≡ false = grind arith in
+      rw here (ap (λ (rs : List Asked). entry_read e ∷ rs) (pushed es later))
 
-  pub pushed_fits : (es : Entries) → is_among r.read (asked_in es) ≡ false → token.fits r.read ≡ true
-      → are_in_range (asked_in es) ≡ true → are_in_range (asked_in (put es)) ≡ true
+  pub pushed_fits : (es : Entries) → is_among r.read (entry_reads es) ≡ false → token.fits r.read ≡ true
+      → are_in_range (entry_reads es) ≡ true → are_in_range (entry_reads (put es)) ≡ true
   pushed_fits es new fit all =
-      rw (pushed es new, list_all-append (λ (x : Asked). token.fits x.read) (asked_in es) (r ∷ []), all, fit) refl
+      rw (pushed es new, list_all-append (λ (x : Asked). token.fits x.read) (entry_reads es) (r ∷ []), all, fit) refl
 
   -- one that is there takes its place
-  pub replaced : (es : Entries) → is_among r.read (asked_in es) ≡ true → asked_in (put es) ≡ with_asked r (asked_in es)
+  pub replaced : (es : Entries) → is_among r.read (entry_reads es) ≡ true → entry_reads (put es) ≡ with_asked r (entry_reads es)
   replaced [] there = cc
   replaced (e ∷ es) there =
-      by_test (λ (more : Entries). asked_in more ≡ with_asked r (asked_in (e ∷ es))) (same_read r.read (token_by e.0)) _ _
-      (λ same. rw same (ap (λ (t : Token). record { read = t; replica = r.replica; key = r.key } ∷ asked_in es)
+      by_test (λ (more : Entries). entry_reads more ≡ with_asked r (entry_reads (e ∷ es))) (same_read r.read (token_by e.0)) _ _
+      (λ same. rw same (ap (λ (t : Token). record { read = t; replica = r.replica; key = r.key } ∷ entry_reads es)
       (sym (same_tokens r.read (token_by e.0) same))))
-      (λ other. rw other (ap (λ (rs : List Asked). asked_entry e ∷ rs) (replaced es (rw other at there))))
+      (λ other. rw other (ap (λ (rs : List Asked). entry_read e ∷ rs) (replaced es (rw other at there))))
 
   with_fits : (rs : List Asked) → token.fits r.read ≡ true → are_in_range rs ≡ true → are_in_range (with_asked r rs) ≡ true
   with_fits [] fit all = refl
@@ -110,17 +110,17 @@ module _ (r : Asked) where
       by_test (λ (more : List Asked). are_in_range more ≡ true) (same_read r.read x.read) _ _
       (λ same. rw (fit, both.1) refl) (λ other. rw (both.0, with_fits rs fit both.1) refl)
 
-  pub replaced_fits : (es : Entries) → is_among r.read (asked_in es) ≡ true → token.fits r.read ≡ true
-      → are_in_range (asked_in es) ≡ true → are_in_range (asked_in (put es)) ≡ true
-  replaced_fits es there fit all = rw (replaced es there) (with_fits (asked_in es) fit all)
+  pub replaced_fits : (es : Entries) → is_among r.read (entry_reads es) ≡ true → token.fits r.read ≡ true
+      → are_in_range (entry_reads es) ≡ true → are_in_range (entry_reads (put es)) ≡ true
+  replaced_fits es there fit all = rw (replaced es there) (with_fits (entry_reads es) fit all)
 
 -- keys that are distinct are those of reads that are
 not_later : (t : Number) (es : Entries) → AllByRecursion (λ (n : Number). is_equal_number t n ≡ false) (keys_of es)
-    → is_among (token_by t) (asked_in es) ≡ false
+    → is_among (token_by t) (entry_reads es) ≡ false
 not_later t [] none = refl
 not_later t (e ∷ es) none = rw (none.0, not_later t es none.1) refl
 
-pub once : (es : Entries) → IsDistinct is_equal_number (keys_of es) → are_once (asked_in es) ≡ true
+pub once : (es : Entries) → IsDistinct is_equal_number (keys_of es) → are_once (entry_reads es) ≡ true
 once [] distinct = refl
 once (e ∷ es) distinct =
     rw (

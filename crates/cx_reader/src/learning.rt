@@ -32,7 +32,7 @@ impl Reader {
         Ok(Why::Learnt)
     }
 
-    /// Another set of matchmakers took over, which then is the known one, unless it is not above that. Reads wait on.
+    /// Another set of matchmakers took over, which then is the known one, unless it is not above that. AskedReads wait on.
     pub(crate) fn learn(&mut self, set: Set, out: &mut Outbox) -> Result<Why, NoMemory>
         requires empty { out.old.list ≡ [] }
         ensures { IsReply reader_rules self.old (sets_row self.old.cluster self.old.me

@@ -6,7 +6,7 @@ ghost use Rattle.cx_role.specs.Prelude.kind;
 ghost use Rattle.cx_field.specs.Fields as field;
 ghost use Rattle.cx_model.specs.Reader.{is_among, is_first, read_to, with_asked};
 ghost use Rattle.cx_model.specs.Request.{same_read};
-ghost use Rattle.cx_reader.specs.Reads.{asked_entry, asked_number, asked_question, token_by};
+ghost use Rattle.cx_reader.specs.Reads.{entry_read, read_number, read_question, token_by};
 ghost use Rattle.cx_reader.specs.Running.{are_apart, are_once};
 
 use crate::asked::Asked;
@@ -40,17 +40,17 @@ pub struct AskedReads {
 impl Model for AskedReads {
     ghost use Rattle.cx_role.specs.Prelude.{IsTrue, List};
     ghost use Rattle.cx_model.specs.Reader.{Asked as AskedFor};
-    ghost use Rattle.cx_reader.specs.Reads.{are_in_range, asked_in};
+    ghost use Rattle.cx_reader.specs.Reads.{are_in_range, entry_reads};
 
     ghost Value = { List AskedFor };
 
-    ghost view = { λ r. asked_in r.map.entries };
+    ghost view = { λ r. entry_reads r.map.entries };
 
-    ghost invariant = { λ r. IsTrue (are_in_range (asked_in r.map.entries)) };
+    ghost invariant = { λ r. IsTrue (are_in_range (entry_reads r.map.entries)) };
 }
 
-fn asked_number(token: Token) -> Number
-    ensures { result ≡ asked_number token }
+fn read_number(token: Token) -> Number
+    ensures { result ≡ read_number token }
 {
     Number {
         client: token.client,
@@ -58,8 +58,8 @@ fn asked_number(token: Token) -> Number
     }
 }
 
-fn asked_question(one: &Asked) -> Question
-    ensures { result ≡ asked_question one.now }
+fn read_question(one: &Asked) -> Question
+    ensures { result ≡ read_question one.now }
 {
     Question {
         replica: one.replica(),
@@ -67,9 +67,9 @@ fn asked_question(one: &Asked) -> Question
     }
 }
 
-fn asked_entry(number: &Number, question: &Question) -> Asked
+fn entry_read(number: &Number, question: &Question) -> Asked
     requires { IsTrue (field.token.fits (token_by number.now)) }
-    ensures { result ≡ asked_entry (number.now, question.now) }
+    ensures { result ≡ entry_read (number.now, question.now) }
 {
     let token = Token {
         client: number.client,
@@ -105,7 +105,7 @@ impl AskedReads {
     pub fn has(&self, token: Token) -> bool
         ensures { result ≡ is_among token self.now }
     {
-        self.map.contains_key(&asked_number(token))
+        self.map.contains_key(&read_number(token))
     }
 
     /// Whether the first has.
@@ -124,7 +124,7 @@ impl AskedReads {
         ensures { slice_get self.now place ≡ Some result }
     {
         match self.map.get_index(place) {
-            Some((number, question)) => asked_entry(number, question),
+            Some((number, question)) => entry_read(number, question),
             None => unreachable!(),
         }
     }
@@ -136,7 +136,7 @@ impl AskedReads {
         ensures err { OnErr result (self.new ≡ self.old) }
     {
         self.map
-            .insert(asked_number(one.token()), asked_question(&one))?;
+            .insert(read_number(one.token()), read_question(&one))?;
         Ok(())
     }
 
@@ -147,7 +147,7 @@ impl AskedReads {
     {
         match self
             .map
-            .insert(asked_number(one.token()), asked_question(&one))
+            .insert(read_number(one.token()), read_question(&one))
         {
             Ok(_) => (),
             // An earlier one is there, whose room it takes.

@@ -8,7 +8,7 @@ use Rattle.std.proofs.lemmas.Option.{slice_get-map}
 use Rattle.indexmap.specs.IndexMap.{insert_entry}
 use Rattle.cx_model.specs.Request.{same_read}
 use Rattle.cx_replica.specs.Answering.{answer_at, answers_at}
-use Rattle.cx_replica.specs.Waiting.{deferred_by, read_number, question_of, reads_in}
+use Rattle.cx_replica.specs.Waiting.{deferred_by, deferred_number, deferred_question, deferred_in}
 use Rattle.cx_replica.specs.declared.deferred.Number.{Number}
 use Rattle.cx_replica.specs.declared.deferred.Question.{Question}
 
@@ -30,32 +30,32 @@ drop_next xs k x is = let more : k + 1 ≡ suc k = omega arith in rw more (drop_
 
 -- an entry's read stands in the entry's place
 pub read_at : (es : Waiting) (k : ℕ) (e : Number × Question) → slice_get es k ≡ Some e
-    → slice_get (reads_in es) k ≡ Some (deferred_by e)
+    → slice_get (deferred_in es) k ≡ Some (deferred_by e)
 read_at es k e is = rw (slice_get-map deferred_by es k, is) refl
 
 -- a key finds what some read has
 pub found : (t : Token) (es : Waiting)
-    → is_some (lookup (is_equal_number (read_number t)) es) ≡ list_any (λ (r : Deferred). same_read t r.token) (reads_in es)
+    → is_some (lookup (is_equal_number (deferred_number t)) es) ≡ list_any (λ (r : Deferred). same_read t r.token) (deferred_in es)
 found t [] = refl
 found t (e ∷ es) =
-    by_test (λ (o : Option Question). is_some o ≡ list_any (λ (r : Deferred). same_read t r.token) (reads_in (e ∷ es)))
-    (is_equal_number (read_number t) e.0) _ _ (λ same. rw same refl) (λ other. rw other (found t es))
+    by_test (λ (o : Option Question). is_some o ≡ list_any (λ (r : Deferred). same_read t r.token) (deferred_in (e ∷ es)))
+    (is_equal_number (deferred_number t) e.0) _ _ (λ same. rw same refl) (λ other. rw other (found t es))
 
 -- a new read goes last
-pub pushed : (r : Deferred) (es : Waiting) → list_any (λ (other : Deferred). same_read r.token other.token) (reads_in es) ≡ false
-    → reads_in (insert_entry is_equal_number es (read_number r.token) (question_of r)) ≡ reads_in es ++ r ∷ []
+pub pushed : (r : Deferred) (es : Waiting) → list_any (λ (other : Deferred). same_read r.token other.token) (deferred_in es) ≡ false
+    → deferred_in (insert_entry is_equal_number es (deferred_number r.token) (deferred_question r)) ≡ deferred_in es ++ r ∷ []
 pushed r [] new = refl
 pushed r (e ∷ es) new =
     let here : same_read r.token (deferred_by e).token ≡ false = grind arith in
-    let later : list_any (λ (other : Deferred). same_read r.token other.token) (reads_in es) ≡ false = grind arith in
+    let later : list_any (λ (other : Deferred). same_read r.token other.token) (deferred_in es) ≡ false = grind arith in
     rw here (ap (λ (rs : List Deferred). deferred_by e ∷ rs) (pushed r es later))
 
 -- those that wait for more slots than are held
 pub left_waiting : (held : ℕ) (es : Waiting)
-    → reads_in (filter (λ (e : Number × Question). nat_lt held e.1.mark) es) ≡ still_deferred held (reads_in es)
+    → deferred_in (filter (λ (e : Number × Question). nat_lt held e.1.mark) es) ≡ still_deferred held (deferred_in es)
 left_waiting held [] = refl
 left_waiting held (e ∷ es) =
-    by_test (λ (left : Waiting). reads_in left ≡ still_deferred held (reads_in (e ∷ es))) (nat_lt held e.1.mark) _ _
+    by_test (λ (left : Waiting). deferred_in left ≡ still_deferred held (deferred_in (e ∷ es))) (nat_lt held e.1.mark) _ _
     (λ later. rw later (ap (λ (rs : List Deferred). deferred_by e ∷ rs) (left_waiting held es)))
     (λ now. rw now (left_waiting held es))
 

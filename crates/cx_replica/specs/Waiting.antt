@@ -5,11 +5,11 @@ use Rattle.cx_role.specs.Prelude.{Deferred}
 use Rattle.cx_replica.specs.declared.deferred.Number.{Number}
 use Rattle.cx_replica.specs.declared.deferred.Question.{Question}
 
-abbrev pub read_number : Token → Number
-read_number t = record { client = t.client; seq = t.seq }
+abbrev pub deferred_number : Token → Number
+deferred_number t = record { client = t.client; seq = t.seq }
 
-abbrev pub question_of : Deferred → Question
-question_of r = record { mark = r.mark; key = r.key }
+abbrev pub deferred_question : Deferred → Question
+deferred_question r = record { mark = r.mark; key = r.key }
 
 -- an entry's read
 abbrev pub deferred_by : Number × Question → Deferred
@@ -19,5 +19,5 @@ deferred_by e = record {
   key = e.1.key;
 }
 
-abbrev pub reads_in : List (Number × Question) → List Deferred
-reads_in entries = map deferred_by entries
+abbrev pub deferred_in : List (Number × Question) → List Deferred
+deferred_in entries = map deferred_by entries

@@ -5,7 +5,7 @@ ghost use Rattle.std.specs.List.{list_any};
 ghost use Rattle.cx_model.specs.declared.states.Deferred.{Deferred as DeferredOf};
 ghost use Rattle.cx_model.specs.Replica.{still_deferred};
 ghost use Rattle.cx_model.specs.Request.{same_read};
-ghost use Rattle.cx_replica.specs.Waiting.{deferred_by, reads_in, read_number, question_of};
+ghost use Rattle.cx_replica.specs.Waiting.{deferred_by, deferred_in, deferred_number, deferred_question};
 
 use cx_base::{Key, NoMemory};
 use cx_field::Token;
@@ -37,15 +37,15 @@ pub struct DeferredReads {
 impl Model for DeferredReads {
     ghost use Rattle.std.specs.Prelude.{List};
     ghost use Rattle.cx_model.specs.declared.states.Deferred.{Deferred as DeferredOf};
-    ghost use Rattle.cx_replica.specs.Waiting.{reads_in};
+    ghost use Rattle.cx_replica.specs.Waiting.{deferred_in};
 
     ghost Value = { List DeferredOf };
 
-    ghost view = { λ r. reads_in r.map.entries };
+    ghost view = { λ r. deferred_in r.map.entries };
 }
 
-fn read_number(token: Token) -> Number
-    ensures { result ≡ read_number token }
+fn deferred_number(token: Token) -> Number
+    ensures { result ≡ deferred_number token }
 {
     Number {
         client: token.client,
@@ -53,8 +53,8 @@ fn read_number(token: Token) -> Number
     }
 }
 
-fn question_of(one: &Deferred) -> Question
-    ensures { result ≡ question_of one.now }
+fn deferred_question(one: &Deferred) -> Question
+    ensures { result ≡ deferred_question one.now }
 {
     Question {
         mark: one.mark,
@@ -77,7 +77,7 @@ fn deferred_by(number: &Number, question: &Question) -> Deferred
 
 // Drops those that waited for no more slots than are held.
 fn drop_answered(map: &mut IndexMap<Number, Question>, held: u64)
-    ensures { reads_in map.new.entries ≡ still_deferred held (reads_in map.old.entries) }
+    ensures { deferred_in map.new.entries ≡ still_deferred held (deferred_in map.old.entries) }
 {
     map.retain(
         |_number: &Number, question: &mut Question| -> bool
@@ -106,7 +106,7 @@ impl DeferredReads {
     pub fn has(&self, token: Token) -> bool
         ensures { result ≡ list_any (λ (other : DeferredOf). same_read token other.token) self.now }
     {
-        self.map.contains_key(&read_number(token))
+        self.map.contains_key(&deferred_number(token))
     }
 
     /// One of them, by its place.
@@ -127,7 +127,8 @@ impl DeferredReads {
         ensures ok { OnOk result (self.new ≡ self.old ++ one ∷ []) }
         ensures err { OnErr result (self.new ≡ self.old) }
     {
-        self.map.insert(read_number(one.token), question_of(&one))?;
+        self.map
+            .insert(deferred_number(one.token), deferred_question(&one))?;
         Ok(())
     }
 

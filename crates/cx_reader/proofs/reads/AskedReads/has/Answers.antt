@@ -4,4 +4,4 @@ use Rattle.cx_reader.proofs.reads.AskedReads.has.Goals as goal
 
 pub returns : goal.returns
 returns c =
-    rw (← c.self.view_is) (c.contains_key.ensures ∙ rw c.asked_number.ensures (found c.args.token c.self.inside.map.entries))
+    rw (← c.self.view_is) (c.contains_key.ensures ∙ rw c.read_number.ensures (found c.args.token c.self.inside.map.entries))
