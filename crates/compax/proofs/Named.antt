@@ -21,12 +21,14 @@ hosted_at : (port : Option ℕ) (c : Cluster) (header rest : List ℕ)
 hosted_at None c header rest = refl
 hosted_at (Some port) c header rest = refl
 
-hosted : (said : Result Cluster ClusterFault) (header rest : List ℕ) → bad_in true said rest ≡ bad_line_of_node (node_behind said header rest)
+hosted : (said : Result Cluster ClusterFault) (header rest : List ℕ)
+    → bad_in true said rest ≡ bad_line_of_node (node_behind said header rest)
 hosted (Err fault) header rest = refl
 hosted (Ok c) header rest = hosted_at c.base_port c header rest
 
 replayed_parts : (parts : Option (List ℕ × List ℕ))
-    → of_header (λ header rest. bad_in false (header_cluster header) rest) parts (Some 0) ≡ bad_line (of_header replay_says parts BadReplay)
+    → of_header (λ header rest. bad_in false (header_cluster header) rest) parts (Some 0)
+    ≡ bad_line (of_header replay_says parts BadReplay)
 replayed_parts None = refl
 replayed_parts (Some parts) = replayed (header_cluster parts.0) parts.1
 
