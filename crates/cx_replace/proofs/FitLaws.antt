@@ -1,7 +1,8 @@
 -- A replacer keeps what it may keep.
 use Rattle.std.proofs.lemmas.Slice.Eq.{bytes_eq-Decides}
 use Rattle.cx_model.specs.Prelude.{◌≡◌, ◌&&◌, ◌||◌, not, true, false, nat_lt, Bool, List, ℕ, length, Option, refl, Cluster, RoleId, Round}
-use Rattle.cx_model.specs.Prelude.{same_role, same_round, is_in, Letter, Record, Entry, Msg, names, names_body, Outcome, IsFit, None, bytes_eq}
+use Rattle.cx_model.specs.Prelude.{same_role, same_round, is_in, Letter, Record, Entry, Msg, names, names_body, Outcome, IsFit, None}
+use Rattle.cx_model.specs.Prelude.{bytes_eq}
 use Rattle.cx_model.specs.Prelude.{is_above, with_mark, enough, ReplacerDurable, ReplacerVolatile, halt_counted, has_halted, is_booting}
 use Rattle.cx_model.specs.Prelude.{is_deciding, is_resting, is_stopping, joined_entries, replacer_row, replacer_rules, replacer_takes}
 use Rattle.cx_model.specs.Prelude.{to_decide}
@@ -72,7 +73,8 @@ module _ (c : Cluster) (me : RoleId) (d : ReplacerDurable) where
     takes_fits (msg.NextB b) named = none_fits (next_b_row c me d v from b) (next_b_none b)
     takes_fits (msg.BootB s) named = boot_b_fits s named
     takes_fits (msg.StopNack b other) named =
-        none_fits (stop_nack_row d v b other) (either_way KeepsNone (not (same_round b d.own) || is_resting v.mode || is_booting v.mode) _ _ refl refl)
+        none_fits (stop_nack_row d v b other)
+        (either_way KeepsNone (not (same_round b d.own) || is_resting v.mode || is_booting v.mode) _ _ refl refl)
     takes_fits (msg.Sets s) named = sets_fits s named
     takes_fits other named = tt
 
