@@ -25,6 +25,7 @@ is_taken (order.Lead g) w = begins w
 is_taken (order.Change g) w = begins w
 is_taken order.Collect w = retires w
 is_taken (order.Replace s) w = false
+is_taken (order.Offer to slot) w = false
 
 -- The leader takes it. Only an idle leader is to lead, and only one that has retired the earlier rounds to change.
 pub record IsApt (l : Running LeaderDurable LeaderVolatile) (o : Order) : Type 0 where

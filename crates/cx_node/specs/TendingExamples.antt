@@ -40,7 +40,7 @@ replica_with n = ReplicaAt (record {
   me = role Replica 0;
   live = true;
   durable = record (replica_rules.empty) { log = replicate n Noop };
-  volatile = replica_rules.fresh one_of_each;
+  volatile = replica_rules.fresh one_of_each replica_rules.empty;
 })
 
 -- it alone, in a node that doesn't record
@@ -69,7 +69,7 @@ lagging_replica =
       me = role Replica 0;
       live = true;
       durable = record (replica_rules.empty) { log = replicate 3 Noop };
-      volatile = replica_rules.fresh three_replicas;
+      volatile = replica_rules.fresh three_replicas replica_rules.empty;
     })
     ∷ [])
 

@@ -105,6 +105,7 @@ cut_change w (event.Order l order cut) me what may h =
 cut_change w (event.Replace x set cut) me what may h =
     cut_act w.cluster w.roles w.kept (input.Order (order.Replace set)) (role kind.Replacer x) me what kind.Replacer h
 cut_change w (event.Snap who cut) me what may h = cut_anew w.cluster w.roles w.kept who me what who.kind h
+cut_change w (event.Offer replica to slot) me what may h = absurd may
 cut_change w (event.Write command batcher) me what may h = absurd may
 cut_change w (event.Read client seq floor reader replica key) me what may h = absurd may
 cut_change w (event.Session client seq floor replica key) me what may h = absurd may
@@ -181,6 +182,7 @@ replica_anew w (event.Replace x set cut) me first may h =
     absurd (no_act w.cluster w.roles w.kept (input.Order (order.Replace set)) (role kind.Replacer x) me first kind.Replacer h)
 replica_anew w (event.Snap who cut) me first may h =
     subst (λ (r : RoleId). r.kind ≡ kind.Replica) (own_snap w.cluster w.roles w.kept who me (written.Snap first) who.kind h) may
+replica_anew w (event.Offer replica to slot) me first may h = absurd may
 replica_anew w (event.Write command batcher) me first may h = absurd may
 replica_anew w (event.Read client seq floor reader replica key) me first may h = absurd may
 replica_anew w (event.Session client seq floor replica key) me first may h = absurd may

@@ -15,6 +15,7 @@ abbrev pub with_cut : Cut → Event → Event
 with_cut cut (event.Deliver n other) = event.Deliver n cut
 with_cut cut (event.Order l order other) = event.Order l order cut
 with_cut cut (event.Replace x set other) = event.Replace x set cut
+with_cut cut (event.Offer replica to slot) = event.Offer replica to slot
 with_cut cut (event.Snap who other) = event.Snap who cut
 with_cut cut (event.Write command batcher) = event.Write command batcher
 with_cut cut (event.Read client seq floor reader replica key) = event.Read client seq floor reader replica key
@@ -28,6 +29,7 @@ abbrev pub MayChange : Event → Type 0
 MayChange (event.Deliver n cut) = Unit {0}
 MayChange (event.Order l order cut) = Unit {0}
 MayChange (event.Replace x set cut) = Unit {0}
+MayChange (event.Offer replica to slot) = ⊥
 MayChange (event.Snap who cut) = who.kind ≡ kind.Replica
 MayChange (event.Write command batcher) = ⊥
 MayChange (event.Read client seq floor reader replica key) = ⊥

@@ -82,6 +82,7 @@ fn cluster() -> Cluster
         replacers: 0,
         one_entry_a_grid: false,
         own_proxies: false,
+        keep_sets: false,
     }
 }
 

@@ -24,6 +24,7 @@ const CLUSTER: Cluster = Cluster {
     replacers: 0,
     one_entry_a_grid: false,
     own_proxies: false,
+    keep_sets: false,
 };
 
 // Client 0's command number 1, put a 1, is chosen for slot 0; told to replica 1.

@@ -26,7 +26,7 @@ one_more P xs x i are size is j y e = elim (get_last xs x y j e) [
 ]
 
 module _ {D V : Type 0} (rules : Rules D V) (make : V → State) (c : Cluster) (k : Kind) (seats : List (Seat (Running D V)))
-    (fresh : fresh_state c k ≡ make (rules.fresh c))
+    (fresh : fresh_state c k ≡ make (rules.fresh c rules.empty))
     (count : length seats ≡ count_of c k) (opened : AreJustOpened rules (λ s. s) c seats) (lists : AreSeats rules c k [] seats) where
   state : (i : ℕ) → (start c).roles (role k i) ≡ state_at make seats i
   state i = elim ((slice_get_cases seats i).1) [

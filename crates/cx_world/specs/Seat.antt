@@ -111,7 +111,7 @@ abbrev pub AreSeats : {S D V : Type 0} → Rules D V → Cluster → Kind → Li
 AreSeats {S} rules c k kept seats =
     (i : ℕ) (seat : Seat S) → slice_get seats i ≡ Some seat → IsSeat rules c (record { kind = k; index = i }) kept seat
 
--- each of them runs and was just opened
+-- each of them runs and was just opened, over an empty store
 abbrev pub AreJustOpened : {S D V : Type 0} → Rules D V → (S → Running D V) → Cluster → List (Seat S) → Type 0
 AreJustOpened {S} rules state c seats =
-    (i : ℕ) (seat : Seat S) → slice_get seats i ≡ Some seat → volatile_of state seat.role ≡ Some (rules.fresh c)
+    (i : ℕ) (seat : Seat S) → slice_get seats i ≡ Some seat → volatile_of state seat.role ≡ Some (rules.fresh c rules.empty)

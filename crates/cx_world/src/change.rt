@@ -279,6 +279,15 @@ pub fn change(
             let order = give(Input::Order { order }, *cut);
             act(seats, who, &order, out)
         }
+        Event::Offer { replica, to, slot } => {
+            let who = RoleId::new(Kind::Replica, *replica);
+            let order = Order::Offer {
+                to: *to,
+                slot: *slot,
+            };
+            let order = give(Input::Order { order }, Cut::Whole);
+            act(seats, who, &order, out)
+        }
         Event::Snap { role, cut } => snap(seats, *role, *cut, out),
         Event::Crash(role) => act(seats, *role, &Act::Stop, out),
         Event::Restart(role) => act(seats, *role, &Act::Wake, out),

@@ -156,7 +156,8 @@ impl<R: Role + Drop> Seat<R> {
         ensures me { IfOk result (λ seat. seat.me ≡ me) }
         ensures records { IfOk result (λ seat. seat.records ≡ []) }
         ensures role { IfOk result
-            (λ seat. volatile_of R.state seat.role ≡ Some (R.rules.fresh cluster.now)) }
+            (λ seat. volatile_of R.state seat.role
+            ≡ Some (R.rules.fresh cluster.now R.rules.empty)) }
     {
         let role = anew(alloc, cluster, me, &[])?;
         Ok(Seat {

@@ -1,5 +1,5 @@
 use Rattle.std.proofs.Common.{◌∙◌}
-use Rattle.cx_model.specs.Prelude.{◌≡◌, ℕ, List, get_or, refl, Happened, role, heard_by, World, change, Give, Letter}
+use Rattle.cx_model.specs.Prelude.{◌≡◌, ℕ, List, get_or, refl, Happened, role, heard_by, World, change, Give, Letter, Whole}
 use Rattle.cx_base.specs.declared.event.Order.TheVariants as order
 use Rattle.cx_base.specs.declared.role.Kind.TheVariants as kind
 use Rattle.cx_letter.specs.declared.input.Input.TheVariants as input
@@ -40,6 +40,14 @@ returns-in-Order c = ok_then _ (λ (x : Changed). ChangesAfter (λ w. change w c
     (λ x h w same known has. rw c.in-Order.is (act_from w (λ ch. IsChange w ch x.who x.why x.kept (lists_of c.act-in-Order.new.seats)
     c.act-in-Order.new.out.list) c.give-order.result (Give (input.Order c.in-Order.order) c.in-Order.cut) c.new-who.result
     (role kind.Leader c.in-Order.leader) c.give-order.ensures c.new-who.ensures (h w has))) c.act-in-Order.ensures
+
+pub returns-in-Offer : goal.returns-in-Offer
+returns-in-Offer c = ok_then _ (λ (x : Changed). ChangesAfter (λ w. change w c.args.event.now) c.args.sent.now c.args.events.now
+    c.args.seats.now x c.act-in-Offer.new.seats c.act-in-Offer.new.out.list) c.act-in-Offer.result
+    (λ x h w same known has. rw c.in-Offer.is (act_from w (λ ch. IsChange w ch x.who x.why x.kept (lists_of c.act-in-Offer.new.seats)
+    c.act-in-Offer.new.out.list) c.give-order-in-Offer.result (Give (input.Order (order.Offer c.in-Offer.to c.in-Offer.slot)) Whole)
+    c.new-who-in-Offer.result (role kind.Replica c.in-Offer.replica)
+    c.give-order-in-Offer.ensures c.new-who-in-Offer.ensures (h w has))) c.act-in-Offer.ensures
 
 pub returns-in-Replace : goal.returns-in-Replace
 returns-in-Replace c = ok_then _ (λ (x : Changed). ChangesAfter (λ w. change w c.args.event.now) c.args.sent.now c.args.events.now
