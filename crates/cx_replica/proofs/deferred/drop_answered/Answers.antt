@@ -6,5 +6,6 @@ use Rattle.cx_replica.proofs.deferred.drop_answered.Goals as goal
 
 pub returns : goal.returns
 returns c =
-    ap deferred_in (filter-RetainsPairs _ (λ e. nat_lt c.args.held e.1.mark) _ (λ k v b w g call. search rules) _ _ c.retain.ensures.filtered)
+    ap deferred_in
+    (filter-RetainsPairs _ (λ e. nat_lt c.args.held e.1.mark) _ (λ k v b w g call. search rules) _ _ c.retain.ensures.filtered)
     ∙ left_waiting c.args.held c.args.map.now.entries
