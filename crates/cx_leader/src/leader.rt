@@ -119,7 +119,7 @@ fn new_leader(
       me = role kind.Leader index;
       live = true;
       durable = record { own = own };
-      volatile = leader_rules.fresh cluster.now;
+      volatile = leader_rules.fresh cluster.now (record { own = own });
     }) }
 {
     Ok(Leader {
@@ -185,8 +185,9 @@ impl Role for Leader {
             Order::Lead(grid) => self.lead(keeper, grid, out),
             Order::Change(grid) => self.change(keeper, grid, out),
             Order::Collect => Ok(self.collect(out)?),
-            // A leader doesn't replace the matchmakers.
+            // A leader doesn't replace the matchmakers, and keeps no values to offer.
             Order::Replace(_) => Ok(Why::Stranger),
+            Order::Offer { .. } => Ok(Why::Stranger),
         }
     }
 
