@@ -4,7 +4,7 @@ use Rattle.cx_role.proofs.Common.{refl, inl, inr, append-nil, nat_lt, slice_get,
 use Rattle.cx_role.proofs.Common.{slice_get_within, Cluster, Cut, Whole, Event, Order, Kind, RoleId, count_of, code_of, role, same_role}
 use Rattle.cx_role.proofs.Common.{State, same_role-itself, Member, names_role, replica_rules, World, act_at, come, run_from, Letter, Input}
 use Rattle.cx_base.specs.declared.event.Event.TheVariants as event
-use Rattle.cx_base.specs.declared.event.Order.TheVariants.{Lead, Change, Collect, Replace}
+use Rattle.cx_base.specs.declared.event.Order.TheVariants.{Lead, Change, Collect, Offer, Replace}
 use Rattle.cx_base.specs.declared.role.Kind.TheVariants as kind
 use Rattle.cx_base.specs.Role.{puts_anew}
 use Rattle.cx_client.specs.Client.{ClientState}
@@ -204,6 +204,7 @@ module _ (w : World) (traced : IsTraced w) where
   told_whole l (Change grid) = refl
   told_whole l Collect = refl
   told_whole l (Replace set) = refl
+  told_whole l (Offer to slot) = refl
 
   in_cluster : (k : Kind) (me : RoleId) → me.kind ≡ k → names_role w.cluster me ≡ true → nat_lt me.index (count_of w.cluster k) ≡ true
   in_cluster k me is named = ap (λ j. nat_lt me.index (count_of w.cluster j)) (sym is) ∙ named

@@ -13,9 +13,9 @@ use Rattle.cx_course.proofs.Past.{past_of}
 
 -- each role of the cluster runs at the start
 fresh_role : {D V : Type 0} {rules : Rules D V} {make : V → State} {c : Cluster} {s : Running D V} → IsFreshRole rules c s
-    → fresh_state c rules.kind ≡ make (rules.fresh c) → IsRole rules make (start c) s
+    → fresh_state c rules.kind ≡ make (rules.fresh c rules.empty) → IsRole rules make (start c) s
 fresh_role {rules} {make} {c} {s} fresh state =
-    let runs : (start c).roles s.me ≡ make (rules.fresh c) = rw fresh.named (ap (fresh_state c) fresh.kind_is ∙ state) in
+    let runs : (start c).roles s.me ≡ make (rules.fresh c rules.empty) = rw fresh.named (ap (fresh_state c) fresh.kind_is ∙ state) in
     record {
       cluster = ap (λ (r : Running _ _). r.cluster) fresh.opened;
       kind_is = fresh.kind_is;
