@@ -86,6 +86,8 @@ PROGRAM = Command(
         Word("gen", "COUNT events (0 to 65,535) are made from SEED (0 to 2^64 - 1) and run on a fixed cluster of 18 roles and four clients; a "
                     "summary is printed", "SEED COUNT"),
         Word("node", "the roles are hosted until all hosted clients are answered, or all turns were made", "ROLE..", OF_A_NODE),
+        Word("check", "nothing is run; standard error gets the first bad line of a schedule, or of a node's input, and the rule that it breaks",
+             "FILE", (Option("--node", "FILE is a node's input, not a schedule"),)),
     ),
     statuses=STATUSES,
 )

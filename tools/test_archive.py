@@ -179,7 +179,7 @@ class CompletionTest(unittest.TestCase):
 
     def test_what_is_offered(self) -> None:
         for line, offered in (
-                ("compax ", "replay gen node"), ("compax n", "node"), ("compax node --t", "--turns --tend"), ("compax replay -", ""),
+                ("compax ", "replay gen node check"), ("compax n", "node"), ("compax node --t", "--turns --tend"), ("compax replay -", ""),
                 ("compax node --turns --t", ""), ("compax-cluster ", "new up status down kill"),
                 ("compax-cluster up c.toml --", "--upgrade --foreground"), ("compax-cluster up ", ""), ("compax-cluster down -", ""),
                 ("compax-kv --c", "--cluster --client"), ("compax-kv --cluster ", ""), ("compax-kv --cluster get ", "put app del get"),

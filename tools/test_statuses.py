@@ -8,6 +8,7 @@ from statuses import line_of, lines_by_status
 
 RUNS = TOP / "crates/compax/runs"
 LINES = TOP / "crates/compax/src/line.rt"
+FINDING = r"^[^:\n]+:[1-9][0-9]*:[1-9][0-9]*: [^\n]+\n$"       # a file, a line, a column, and what is wrong
 
 
 class StatusesTest(unittest.TestCase):
@@ -19,15 +20,22 @@ class StatusesTest(unittest.TestCase):
         self.assertGreater(len(table), 10)
 
     def test_the_stored_runs(self) -> None:
-        """Each ends as the table says; of 9 and 12 none is stored that says so."""
+        """Each ends as the table says, but a check of a bad input, which says what is wrong; of 9 and 12 none is stored that says so."""
         seen = set()
+        found = 0
         for run in sorted(RUNS.iterdir()):
-            stored = {name: (run / name).read_text() if (run / name).exists() else "" for name in ("status", "stderr", "outside")}
+            stored = {name: (run / name).read_text() if (run / name).exists() else "" for name in ("args", "status", "stderr", "outside")}
             status = int(stored["status"] or 0)
-            if "stderr full" not in stored["outside"]:
-                self.assertRegex(stored["stderr"].removesuffix("\n"), f"^{lines_by_status()[status].pattern}$", run.name)
+            if stored["args"].startswith("check\n") and status == 3:
+                self.assertRegex(stored["stderr"], FINDING, run.name)
+                found += 1
+            elif "stderr full" not in stored["outside"]:
+                # a file that can't be opened has one line more, the system's
+                said = re.sub(r"\n[^\n]+ \(os error \d+\)$", "", stored["stderr"].removesuffix("\n"))
+                self.assertRegex(said, f"^{lines_by_status()[status].pattern}$", run.name)
                 seen.add(status)
         self.assertLessEqual({0, 2, 3, 4, 5, 6, 7, 8, 10, 11}, seen)
+        self.assertGreater(found, 20)
 
     def test_the_line_among_others(self) -> None:
         for status, said, line in ((6, "link failed\nport 21003: Address already in use\n", "link failed"),
