@@ -24,7 +24,7 @@ class StatusesTest(unittest.TestCase):
         seen = set()
         found = 0
         for run in sorted(RUNS.iterdir()):
-            stored = {name: (run / name).read_text() if (run / name).exists() else "" for name in ("args", "status", "stderr", "outside")}
+            stored = {name: (run / name).read_text(errors="replace") if (run / name).exists() else "" for name in ("args", "status", "stderr", "outside")}
             status = int(stored["status"] or 0)
             if stored["args"].startswith("check\n") and status == 3:
                 self.assertRegex(stored["stderr"], FINDING, run.name)
