@@ -1,4 +1,5 @@
-use Rattle.cx_role.proofs.Common.{◌≡◌, ◌+◌, ◌∙◌, ℕ, ap, is_some, length, Some, arith, rules, replica_rules, refused}
+use Rattle.cx_role.proofs.Common.{◌≡◌, ◌+◌, ◌∙◌, ℕ, List, ap, is_some, length, Some, arith, rules, replica_rules, refused}
+use Rattle.cx_model.specs.Prelude.{Record, opened}
 use Rattle.cx_base.specs.declared.role.Kind.TheVariants as kind
 use Rattle.cx_journal.specs.Twin.{seen_pair_records}
 use Rattle.cx_seat.proofs.RefusedPlace.{refused_within}
@@ -29,3 +30,14 @@ returns-in-Err-Record-clause-bad g c = λ a b at first second e.
     (opened.kept (ap is_some first, ap is_some second)) (opened.front a b first second)
     (same_place _ _ e ∙ c.place-at.ensures.place opened.whole
     (opened.first_tells ∙ ap is_some first, opened.second_tells ∙ ap is_some second))
+
+pub returns-in-Ok-open-clause-role : goal.returns-in-Ok-open-clause-role
+returns-in-Ok-open-clause-role g c = record {
+  records = c.in-Ok.records.items;
+  state = c.in-Ok-open.ensures.role ∙ ap (λ (rs : List Record). opened replica_rules c.args.cluster.now c.args.me rs) c.deref.ensures.value;
+  accepted = search rules;
+  read = search rules;
+  kept = search rules;
+  seen_same = search rules;
+  each = search rules;
+}
