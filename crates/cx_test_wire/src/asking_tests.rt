@@ -119,7 +119,7 @@ const RECORDS: [(&str, Option<WireFault>); 10] = [
     ("10000000000000000100", Some(WireFault::Trailing { at: 9 })),
     // Tags that are none.
     ("000000000000000001", Some(WireFault::Kind(0))),
-    ("120000000000000001", Some(WireFault::Kind(18))),
+    ("130000000000000001", Some(WireFault::Kind(19))),
     ("200000000000000001", Some(WireFault::Kind(32))),
     ("900000000000000001", Some(WireFault::Kind(144))),
 ];

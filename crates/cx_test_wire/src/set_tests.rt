@@ -220,7 +220,7 @@ const REFUSED: [(WireFault, &str); 29] = [
 ];
 
 // Records, and what refuses them.
-const RECORDS: [(&str, Option<WireFault>); 24] = [
+const RECORDS: [(&str, Option<WireFault>); 30] = [
     // A ballot; a stop; a set that was accepted, and none; and what a matchmaker begins with.
     ("0c00000001000000000000", None),
     ("0d00000001000000000000", None),
@@ -299,6 +299,13 @@ const RECORDS: [(&str, Option<WireFault>); 24] = [
         "0f0000000000000000000000",
         Some(WireFault::Field { kind: 15, at: 12 }),
     ),
+    // A set that is known, and none; one of eight, ids that don't rise, no set, and a byte behind one.
+    ("12010001", None),
+    ("1200", None),
+    ("1208", Some(WireFault::Field { kind: 18, at: 1 })),
+    ("120200010001", Some(WireFault::Field { kind: 18, at: 4 })),
+    ("12", Some(WireFault::Field { kind: 18, at: 1 })),
+    ("1201000100", Some(WireFault::Trailing { at: 4 })),
 ];
 
 #[test]
